@@ -1,0 +1,3 @@
+pub mod Field
+pub mod Sum
+pub mod Coefficients

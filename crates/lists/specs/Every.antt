@@ -1,0 +1,48 @@
+-- A test that the checker computes once for all numbers below a bound, and the fact that it gives at each.
+--
+--   every n f     the test f passes at every number below n
+--   every-at      so it passes at each of them
+--   every₂, every₃   the same for pairs and triples
+use mathlib.Core.Bool.{Bool, true, false}
+use mathlib.Core.Path.{_≡_, refl, sym, subst}
+use mathlib.Core.Logic.{⊎-elim}
+use Prim.Native.Nat.{ℕ, zero, suc, _<_}
+use native.Mathlib.Nat.{eq-or-lt-of-le, le-of-suc-le-suc, not-suc-le-zero}
+use lib.Dec.{T}
+
+abbrev pub both : Bool → Bool → Bool
+both true b = b
+both false b = false
+
+pub both-left : (a b : Bool) → T (both a b) → T a
+both-left true b t = tt
+both-left false b t = t
+
+pub both-right : (a b : Bool) → T (both a b) → T b
+both-right true b t = t
+both-right false b t = absurd t
+
+unfoldable pub every : ℕ → (ℕ → Bool) → Bool
+every zero f = true
+every (suc n) f = both (f n) (every n f)
+
+pub every-at : (n : ℕ) (f : ℕ → Bool) → T (every n f) → (k : ℕ) → k < n → T (f k)
+unfolding every
+every-at zero f t k h = absurd (not-suc-le-zero h)
+every-at (suc n) f t k h =
+    ⊎-elim (λ (e : k ≡ n). subst (λ j. T (f j)) (sym e) (both-left (f n) (every n f) t))
+    (λ l. every-at n f (both-right (f n) (every n f) t) k l) (eq-or-lt-of-le (le-of-suc-le-suc h))
+
+unfoldable pub every₂ : ℕ → (ℕ → ℕ → Bool) → Bool
+every₂ n f = every n (λ a. every n (λ b. f a b))
+
+pub every₂-at : (n : ℕ) (f : ℕ → ℕ → Bool) → T (every₂ n f) → (a b : ℕ) → a < n → b < n → T (f a b)
+unfolding every₂
+every₂-at n f t a b ha hb = every-at n (f a) (every-at n (λ a. every n (λ b. f a b)) t a ha) b hb
+
+unfoldable pub every₃ : ℕ → (ℕ → ℕ → ℕ → Bool) → Bool
+every₃ n f = every n (λ a. every₂ n (λ b c. f a b c))
+
+pub every₃-at : (n : ℕ) (f : ℕ → ℕ → ℕ → Bool) → T (every₃ n f) → (a b c : ℕ) → a < n → b < n → c < n → T (f a b c)
+unfolding every₃
+every₃-at n f t a b c ha hb hc = every₂-at n (f a) (every-at n (λ a. every₂ n (λ b c. f a b c)) t a ha) b c hb hc

@@ -1,0 +1,79 @@
+-- The list of n entries that a rule gives, and the three steps of a loop that stores it.
+--
+--   listed n f       f 0, f 1, …, f (n − 1)
+--   listed-start, listed-turn, listed-end   a loop that stores f i at i: before it, at each turn, after it
+--   listed-length, listed-at, listed-ext    its length, its entries, equal rules
+--   listed-getD      every list is listed by its entries
+use mathlib.Core.Path.{_≡_, refl, sym, ap, ap₂, _∙_}
+use mathlib.Core.List.{List, [], _∷_, _++_, append-assoc, append-nil}
+use mathlib.Core.Logic.{⊎-elim}
+use Prim.Native.Nat.{ℕ, zero, suc, _+_, _<_, _≤_}
+use native.Mathlib.Nat.{le-step, lt-suc-self, eq-or-lt-of-le, le-of-suc-le-suc}
+use native.Mathlib.Numerals.{add-one}
+use native.Mathlib.Omega.{arith}
+use lib.ListN.{length, getD, set, take, drop, length-append, length-drop, List·getD-append, drop-of-length-le}
+use lib.Seq.{drop-cons, set-at, getD-at, take-suc, take-length}
+
+module _ {ℓ} {A : Type ℓ} where
+  unfoldable pub listed : ℕ → (ℕ → A) → List A
+  listed zero f = []
+  listed (suc n) f = listed n f ++ (f n ∷ [])
+
+  pub listed-nil : (f : ℕ → A) → listed 0 f ≡ []
+  unfolding listed
+  listed-nil f = refl
+
+  pub listed-suc : (n : ℕ) (f : ℕ → A) → listed (suc n) f ≡ listed n f ++ (f n ∷ [])
+  unfolding listed
+  listed-suc n f = refl
+
+  pub listed-length : (n : ℕ) (f : ℕ → A) → length (listed n f) ≡ n
+  unfolding listed
+  listed-length zero f = refl
+  listed-length (suc n) f =
+      let h : length (listed n f) ≡ n = listed-length n f in
+      length-append (listed n f) (f n ∷ []) ∙ ap (λ k. k + 1) h ∙ add-one n
+
+  pub listed-at : (n k : ℕ) (f : ℕ → A) (d : A) → k < n → getD (listed n f) k d ≡ f k
+  unfolding listed
+  listed-at zero k f d h = absurd (omega arith)
+  listed-at (suc n) k f d h = ⊎-elim last (λ l. earlier l (listed-at n k f d l)) (eq-or-lt-of-le (le-of-suc-le-suc h))
+    where
+      last : k ≡ n → getD (listed n f ++ (f n ∷ [])) k d ≡ f k
+      last e =
+          ap (λ j. getD (listed n f ++ (f n ∷ [])) j d) e ∙ getD-at (listed n f) (f n) [] d n (listed-length n f) ∙ ap f (sym e)
+
+      earlier : k < n → getD (listed n f) k d ≡ f k → getD (listed n f ++ (f n ∷ [])) k d ≡ f k
+      earlier l ih = List·getD-append (listed n f) (f n ∷ []) d k (rw listed-length l) ∙ ih
+
+  pub listed-ext : (n : ℕ) (f g : ℕ → A) → ((k : ℕ) → k < n → f k ≡ g k) → listed n f ≡ listed n g
+  unfolding listed
+  listed-ext zero f g h = refl
+  listed-ext (suc n) f g h =
+      ap₂ (λ (l : List A) x. l ++ (x ∷ [])) (listed-ext n f g (λ k l. h k (le-step l))) (h n (lt-suc-self n))
+
+  listed-take : (n : ℕ) (l : List A) (d : A) → n ≤ length l → listed n (λ k. getD l k d) ≡ take n l
+  unfolding listed
+  listed-take zero l d h = refl
+  listed-take (suc n) l d h = ap (λ (r : List A). r ++ (getD l n d ∷ [])) (listed-take n l d (omega arith)) ∙ sym (take-suc l n d h)
+
+  pub listed-getD : (l : List A) (d : A) → listed (length l) (λ k. getD l k d) ≡ l
+  listed-getD l d = listed-take (length l) l d (omega arith) ∙ take-length l
+
+  -- a loop that stores f i at i: what the array holds before it,
+  pub listed-start : (l : List A) (f : ℕ → A) → l ≡ listed 0 f ++ drop 0 l
+  unfolding listed
+  listed-start l f = refl
+
+  -- at each turn,
+  pub listed-turn : (d : A) (out l : List A) (f : ℕ → A) (i : ℕ) → i < length l → out ≡ listed i f ++ drop i l
+      → set out i (f i) ≡ listed (i + 1) f ++ drop (i + 1) l
+  listed-turn d out l f i h e =
+      ap (λ r. set r i (f i)) (e ∙ ap (λ r. listed i f ++ r) (drop-cons l i d h))
+      ∙ set-at (listed i f) (getD l i d) (drop (suc i) l) (f i) i (listed-length i f)
+      ∙ sym (append-assoc (listed i f) (f i ∷ []) (drop (suc i) l))
+      ∙ rw (add-one, listed-suc)
+
+  -- and after it
+  pub listed-end : (out l : List A) (f : ℕ → A) (i : ℕ) → length l ≤ i → out ≡ listed i f ++ drop i l → out ≡ listed i f
+  listed-end out l f i h e = e ∙ ap (λ r. listed i f ++ r) (drop-of-length-le l h) ∙ append-nil (listed i f)
