@@ -40,6 +40,9 @@ module _ {F : Type 0} (K : Field F) where
   pub add-left-comm : (a b c : F) → a ⊕ (b ⊕ c) ≡ b ⊕ (a ⊕ c)
   add-left-comm a b c = sym (add-assoc a b c) ∙ ap (λ x. x ⊕ c) (add-comm a b) ∙ add-assoc b a c
 
+  pub add-right-comm : (a b c : F) → (a ⊕ b) ⊕ c ≡ (a ⊕ c) ⊕ b
+  add-right-comm a b c = add-assoc a b c ∙ ap (λ x. a ⊕ x) (add-comm b c) ∙ sym (add-assoc a c b)
+
   pub add-zero : (a : F) → a ⊕ 𝟘 ≡ a
   add-zero = K .plus-zero
 

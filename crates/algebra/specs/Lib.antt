@@ -1,3 +1,4 @@
 pub mod Field
 pub mod Sum
 pub mod Coefficients
+pub mod Elimination
