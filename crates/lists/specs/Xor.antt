@@ -3,7 +3,7 @@
 --   xor-assoc, xor-left-comm, xor-self-left, xor-swap   regrouping; a number against itself; a sum of sums, term by term
 --   xor-twice          the double of a sum
 --   bit-xor, mul-xor   a multiple of a sum of two bits; a sum, times a bit
---   Additive f         f takes sums to sums; additive-zero: so it takes zero to zero
+--   Additive f         f takes sums to sums; additive-zero, additive-after: so zero to zero, and one after another
 --   additive-ext       two such functions that agree on the powers of two below 2 ^ n agree on every number below it
 use mathlib.Core.Path.{_≡_, refl, sym, ap, ap₂, _∙_}
 use Prim.Native.Nat.{ℕ, zero, suc, _+_, _*_, _/_, _%_, _^_, _<_}
@@ -71,6 +71,9 @@ pub record Additive (f : ℕ → ℕ) : Type 0 where
 
 pub additive-zero : {f : ℕ → ℕ} → Additive f → f 0 ≡ 0
 additive-zero {f} h = h .sums 0 0 ∙ xor-self (f 0)
+
+pub additive-after : {f g : ℕ → ℕ} → Additive f → Additive g → Additive (λ a. f (g a))
+additive-after {f} {g} hf hg = record { sums = λ a b. ap f (hg .sums a b) ∙ hf .sums (g a) (g b) }
 
 -- the highest bit and the rest, by the sums
 pub additive-ext : {f g : ℕ → ℕ} (n : ℕ) → Additive f → Additive g → ((i : ℕ) → i < n → f (2 ^ i) ≡ g (2 ^ i)) → (a : ℕ) → a < 2 ^ n → f a ≡ g a

@@ -1,0 +1,4 @@
+pub mod Binary
+pub mod BinaryField
+pub mod Gf16
+pub mod Field16
