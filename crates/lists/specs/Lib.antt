@@ -1,3 +1,5 @@
 pub mod Listed
 pub mod Every
 pub mod Xor
+pub mod Smallest
+pub mod Residue
