@@ -1,17 +1,18 @@
 -- Coefficient functions ℕ → F: sums, multiples, shifts, where they end and where they lead.
 --
 --   plus, scale, shift   pointwise sum and multiple; shift s moves each coefficient up by s
+--   unit                 the function that is 𝟙 at o and zero elsewhere
 --   choose               one of two values by a decision
 --   Below K c n          c is zero from n on
 --   Lead K c l           c is not zero at l, and zero above it
 --   zero-or-lead         a function that ends is zero everywhere or has a lead
---   lead-unique, lead-below, lead-scale, lead-shift, lead-plus   what has which lead
+--   lead-unique, lead-below, lead-scale, lead-shift, lead-plus, lead-unit   what has which lead
 --   cancel               two functions with one lead: a multiple of the second takes the lead off the first
 use mathlib.Core.Path.{_≡_, refl, sym, ap, ap₂, _∙_, fun-ext, subst}
 use mathlib.Core.Logic.{_≢_, _⊎_, inl, inr, ⊎-elim}
 use Prim.Native.Nat.{ℕ, zero, suc, _+_, _-_, _<_, _≤_}
 use native.Mathlib.Nat.{add-sub-cancel, le-trans}
-use native.Mathlib.Decide.{decLe}
+use native.Mathlib.Decide.{decLe, ℕ-discrete}
 use native.Mathlib.Omega.{arith}
 use Rattle.algebra.specs.Field.{Field, add-zero, zero-add, mul-zero, mul-ne-zero, ring, add-self, div-mul}
 
@@ -31,7 +32,7 @@ choose-no (yes p) a b h = absurd (h p)
 choose-no (no n) a b h = refl
 
 module _ {F : Type 0} (K : Field F) where
-  open Field K using (_⊕_, _⊗_, 𝟘, inv)
+  open Field K using (_⊕_, _⊗_, 𝟘, 𝟙, inv)
 
   abbrev pub plus : (ℕ → F) → (ℕ → F) → ℕ → F
   plus c d k = c k ⊕ d k
@@ -126,3 +127,21 @@ module _ {F : Type 0} (K : Field F) where
   cancel {c} {d} {l} b q =
       below-pred (below-plus b (below-scale (c l ⊗ inv (d l)) (q .above)))
       (ap (λ x. c l ⊕ x) (div-mul K (c l) (d l) (q .ne)) ∙ add-self K (c l))
+
+  unfoldable pub unit : ℕ → ℕ → F
+  unit o k = choose (ℕ-discrete k o) 𝟙 𝟘
+
+  pub unit-at : (o : ℕ) → unit o o ≡ 𝟙
+  unfolding unit
+  unit-at o = choose-yes (ℕ-discrete o o) 𝟙 𝟘 refl
+
+  pub unit-off : (o k : ℕ) → k ≢ o → unit o k ≡ 𝟘
+  unfolding unit
+  unit-off o k h = choose-no (ℕ-discrete k o) 𝟙 𝟘 h
+
+  pub lead-unit : (o : ℕ) → Lead (unit o) o
+  lead-unit o =
+      record {
+        ne = λ e. K .one-ne-zero (sym (unit-at o) ∙ e);
+        above = record { zero-from = λ k l. unit-off o k (λ (e : k ≡ o). absurd (omega arith)) };
+      }
