@@ -8,9 +8,12 @@
 --   present-large     every order from w(w − 1) on is present
 --   present-zero, present-x, present-y   the order of 1; the orders of x and of y added to a present one
 --   present-plus      the sum of two present orders is present
+--   genus w           w(w − 1)/2, the genus of the curve: that many orders are absent
+--   genus-zero, genus-suc, genus-mono   genus 0 = 0; genus (suc r) = genus r + r; it rises with w
+--   genus-double      twice the genus is w(w − 1)
 use mathlib.Core.Path.{_≡_, refl, sym, ap, ap₂, _∙_}
 use Prim.Native.Nat.{ℕ, zero, suc, _+_, _-_, _*_, _/_, _%_, _<_, _≤_}
-use native.Mathlib.Nat.{mul-add-div-right, mul-add-mod-self-right, div-eq-of-lt, mod-eq-of-lt, mod-lt, div-add-mod', mul-comm, add-zero, le-div-iff-mul-le}
+use native.Mathlib.Nat.{mul-add-div-right, mul-add-mod-self-right, div-eq-of-lt, mod-eq-of-lt, mod-lt, div-add-mod', mul-comm, add-zero, add-suc, add-sub-of-le, le-div-iff-mul-le}
 use native.Mathlib.Decide.{decLe}
 use native.Mathlib.Omega.{arith}
 
@@ -64,3 +67,36 @@ module _ (w : ℕ) (two : 2 ≤ w) where
 
   pub present-y : (o : ℕ) → Present w o → Present w (o + suc w)
   present-y o h = present-plus o (suc w) h (present-at 1 1 (omega arith) (omega arith) (omega arith))
+
+-- the genus of y^w + y = x^(w+1)
+unfoldable pub genus : ℕ → ℕ
+genus w = w * (w - 1) / 2
+
+pub genus-zero : genus 0 ≡ 0
+unfolding genus
+genus-zero = refl
+
+genus-at : (r : ℕ) → genus (suc r) ≡ suc r * r / 2
+unfolding genus
+genus-at r = ap (λ x. suc r * x / 2) (omega arith)
+
+pub genus-suc : (r : ℕ) → genus (suc r) ≡ genus r + r
+genus-suc zero = omega (arith, genus-at 0, genus-zero)
+genus-suc (suc r) = omega (arith, genus-at r, genus-at (suc r))
+
+pub genus-double : (w : ℕ) → 2 * genus w ≡ w * (w - 1)
+genus-double zero = ap (λ x. 2 * x) genus-zero
+genus-double (suc r) = go r (genus-double r) ∙ ap (λ x. suc r * x) (omega arith)
+  where
+    go : (r : ℕ) → 2 * genus r ≡ r * (r - 1) → 2 * genus (suc r) ≡ suc r * r
+    go zero h = omega (arith, genus-suc 0, genus-zero)
+    go (suc k) h =
+        let e : suc k * (suc k - 1) ≡ suc k * k = ap (λ x. suc k * x) (omega arith) in
+        omega (arith, genus-suc (suc k))
+
+genus-add : (a k : ℕ) → genus a ≤ genus (a + k)
+genus-add a zero = omega (arith, ap genus (add-zero a))
+genus-add a (suc k) = omega (arith, ap genus (add-suc a k), genus-suc (a + k), genus-add a k)
+
+pub genus-mono : {a b : ℕ} → a ≤ b → genus a ≤ genus b
+genus-mono {a} {b} h = omega (arith, genus-add a (b - a), ap genus (add-sub-of-le h))
