@@ -6,3 +6,5 @@ pub mod Subspace
 pub mod Koetter
 pub mod Least
 pub mod Examples
+pub mod Power
+pub mod Weighted

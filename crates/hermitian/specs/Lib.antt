@@ -1,1 +1,3 @@
 pub mod Present
+pub mod Ring
+pub mod Value

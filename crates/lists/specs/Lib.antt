@@ -3,3 +3,4 @@ pub mod Every
 pub mod Xor
 pub mod Smallest
 pub mod Residue
+pub mod Count
