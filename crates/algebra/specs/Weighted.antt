@@ -3,12 +3,12 @@
 --   Weighted K e c v   c ends somewhere, and its coefficients times their weights sum to v
 --   weighted-of        the sum up to any bound of c is its value
 --   weighted-total, weighted-unique   a function that ends has a value, and only one
+--   weighted-by, weighted-is     the same function, the same value
 --   weighted-plus, weighted-scale, weighted-zero   values of sums, multiples, and of zero
 --   weighted-ext       weights may differ where c is zero
 --   weighted-factor    a factor of all weights is a factor of the value
 --   weighted-shift, weighted-down   c shifted up by s, or down, at the weights that its coefficients meet there
-use mathlib.Core.Path.{_≡_, refl, sym, ap, ap₂, _∙_, fun-ext}
-use mathlib.Core.Logic.{_≢_, ⊎-elim}
+use mathlib.Core.Path.{_≡_, refl, sym, ap, ap₂, _∙_, subst}
 use Prim.Native.Nat.{ℕ, zero, suc, _+_, _-_, _<_, _≤_}
 use native.Mathlib.Nat.{add-comm, add-sub-cancel-left}
 use native.Mathlib.Decide.{decLe}
@@ -42,7 +42,11 @@ module _ {F : Type 0} (K : Field F) where
   pub weighted-unique : {e c : ℕ → F} {u v : F} → Weighted e c u → Weighted e c v → u ≡ v
   weighted-unique a b = sym (a .total) ∙ weighted-of (a .bound) (a .ends) b
 
-  -- the same function or value, under another name
+  -- a function that is another has its value
+  pub weighted-by : {e c d : ℕ → F} {v : F} → c ≡ d → Weighted e d v → Weighted e c v
+  weighted-by {e} {c} {d} {v} p h = subst (λ f. Weighted e f v) (sym p) h
+
+  -- a value that is another
   pub weighted-is : {e c : ℕ → F} {u v : F} → u ≡ v → Weighted e c u → Weighted e c v
   weighted-is p h = record { bound = h .bound; ends = h .ends; total = h .total ∙ p }
 

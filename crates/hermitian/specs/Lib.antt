@@ -1,3 +1,4 @@
 pub mod Present
 pub mod Ring
 pub mod Value
+pub mod Product
