@@ -2,3 +2,4 @@ pub mod Present
 pub mod Ring
 pub mod Value
 pub mod Product
+pub mod Locator
