@@ -3,3 +3,4 @@ pub mod Ring
 pub mod Value
 pub mod Product
 pub mod Locator
+pub mod Orders
