@@ -1,5 +1,6 @@
 -- A test that the checker computes once for all numbers below a bound, and the fact that it gives at each.
 --
+--   both a b      both tests pass; both-left, both-right, both-intro
 --   every n f     the test f passes at every number below n
 --   every-at      so it passes at each of them
 --   every₂, every₃   the same for pairs and triples
@@ -21,6 +22,10 @@ both-left false b t = t
 pub both-right : (a b : Bool) → T (both a b) → T b
 both-right true b t = t
 both-right false b t = absurd t
+
+pub both-intro : (a b : Bool) → T a → T b → T (both a b)
+both-intro true b s t = t
+both-intro false b s t = s
 
 unfoldable pub every : ℕ → (ℕ → Bool) → Bool
 every zero f = true

@@ -4,3 +4,5 @@ pub mod Xor
 pub mod Smallest
 pub mod Residue
 pub mod Count
+pub mod Words
+pub mod Answers
