@@ -8,3 +8,4 @@ pub mod Least
 pub mod Examples
 pub mod Power
 pub mod Weighted
+pub mod Distance

@@ -5,16 +5,17 @@
 --   weighted-total, weighted-unique   a function that ends has a value, and only one
 --   weighted-by, weighted-is     the same function, the same value
 --   weighted-plus, weighted-scale, weighted-zero   values of sums, multiples, and of zero
+--   weighted-sum       the value of a sum of multiples
 --   weighted-ext       weights may differ where c is zero
 --   weighted-factor    a factor of all weights is a factor of the value
 --   weighted-shift, weighted-down   c shifted up by s, or down, at the weights that its coefficients meet there
-use mathlib.Core.Path.{_≡_, refl, sym, ap, ap₂, _∙_, subst}
+use mathlib.Core.Path.{_≡_, refl, sym, ap, ap₂, _∙_, fun-ext, subst}
 use Prim.Native.Nat.{ℕ, zero, suc, _+_, _-_, _<_, _≤_}
 use native.Mathlib.Nat.{add-comm, add-sub-cancel-left}
 use native.Mathlib.Decide.{decLe}
 use native.Mathlib.Omega.{arith}
 use Rattle.algebra.specs.Field.{Field, zero-add, add-zero, mul-zero, zero-mul, mul-assoc, add-mul, ring}
-use Rattle.algebra.specs.Sum.{sum, sum-nil, sum-ext, sum-zero, sum-plus, sum-scale, sum-append, sum-more}
+use Rattle.algebra.specs.Sum.{sum, sum-nil, sum-suc, sum-ext, sum-zero, sum-plus, sum-scale, sum-append, sum-more}
 use Rattle.algebra.specs.Coefficients.{plus, scale, shift, shift-at, shift-low, Below, below-mono, below-plus, below-scale, below-shift}
 
 module _ {F : Type 0} (K : Field F) where
@@ -71,6 +72,15 @@ module _ {F : Type 0} (K : Field F) where
 
   pub weighted-zero : (e : ℕ → F) → Weighted e (λ k. 𝟘) 𝟘
   weighted-zero e = record { bound = 0; ends = record { zero-from = λ k l. refl }; total = sum-nil K _ }
+
+  pub weighted-sum : {e : ℕ → F} (n : ℕ) (a : ℕ → F) (c : ℕ → ℕ → F) (v : ℕ → F) → ((i : ℕ) → i < n → Weighted e (c i) (v i))
+      → Weighted e (λ k. sum K n (λ i. a i ⊗ c i k)) (sum K n (λ i. a i ⊗ v i))
+  weighted-sum {e} zero a c v h =
+      weighted-by (fun-ext (λ k. sum-nil K (λ i. a i ⊗ c i k))) (weighted-is (sym (sum-nil K (λ i. a i ⊗ v i))) (weighted-zero e))
+  weighted-sum {e} (suc n) a c v h =
+      weighted-by (fun-ext (λ k. sum-suc K n (λ i. a i ⊗ c i k)))
+      (weighted-is (sym (sum-suc K n (λ i. a i ⊗ v i)))
+      (weighted-plus (weighted-sum n a c v (λ i l. h i (omega arith))) (weighted-scale (a n) (h n (omega arith)))))
 
   pub weighted-ext : {d e c : ℕ → F} {v : F} → ((k : ℕ) → c k ⊗ d k ≡ c k ⊗ e k) → Weighted d c v → Weighted e c v
   weighted-ext h a =

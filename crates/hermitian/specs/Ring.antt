@@ -3,7 +3,7 @@
 --   Fn K w c         c is a function on the curve: zero at absent orders, and from some order on
 --   timesX, timesY   multiplication by x and by y
 --   timesMonomial o  multiplication by the monomial of order o: y as often as it has y, then one shift for all its x
---   fn-plus, fn-scale, fn-zero, fn-shift, fn-timesX, fn-timesY, fn-timesMonomial   they keep to Fn
+--   fn-plus, fn-scale, fn-zero, fn-unit, fn-shift, fn-timesX, fn-timesY, fn-timesMonomial   they keep to Fn
 --   lead-timesX, lead-timesY, lead-timesMonomial    the lead goes up by w, by w + 1, by o …
 --   timesX-lead, timesY-lead, timesMonomial-lead    … and keeps its coefficient
 use mathlib.Core.Path.{_≡_, refl, sym, ap, ap₂, _∙_, fun-ext, subst}
@@ -13,7 +13,7 @@ use native.Mathlib.Nat.{div-add-mod', sub-add-cancel}
 use native.Mathlib.Decide.{decLe, ℕ-discrete}
 use native.Mathlib.Omega.{arith}
 use Rattle.algebra.specs.Field.{Field, add-zero, zero-add, mul-zero}
-use Rattle.algebra.specs.Coefficients.{choose, choose-yes, choose-no, plus, scale, shift, shift-at, shift-high, shift-low, Below, Lead, below-mono, below-plus, below-scale, below-shift, lead-shift, lead-plus}
+use Rattle.algebra.specs.Coefficients.{choose, choose-yes, choose-no, plus, scale, unit, unit-off, lead-unit, shift, shift-at, shift-high, shift-low, Below, Lead, below-mono, below-plus, below-scale, below-shift, lead-shift, lead-plus}
 use Rattle.hermitian.specs.Present.{Present, decPresent, divided, present-at, mod-below, present-plus, present-x, present-y}
 
 module _ {F : Type 0} (K : Field F) (w : ℕ) where
@@ -70,6 +70,15 @@ module _ {F : Type 0} (K : Field F) (w : ℕ) where
 
   pub fn-zero : Fn (λ o. 𝟘)
   fn-zero = record { bound = 0; ends = record { zero-from = λ k l. refl }; absent = λ o h. refl }
+
+  -- the monomial of a present order
+  pub fn-unit : (o : ℕ) → Present w o → Fn (unit K o)
+  fn-unit o p =
+      record {
+        bound = suc o;
+        ends = lead-unit K o .above;
+        absent = λ k h. unit-off K o k (λ e. h (subst (λ j. Present w j) (sym e) p));
+      }
 
   pub fn-plus : {c d : ℕ → F} → Fn c → Fn d → Fn (plus K c d)
   fn-plus f g =

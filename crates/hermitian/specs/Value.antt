@@ -3,6 +3,7 @@
 --   Curve K w px py        the point (px, py) lies on y^w + y = x^(w+1)
 --   monomial K w px py o   the value there of the monomial of order o
 --   Val K w px py c v      the function c has the value v at (px, py); its laws are those of `Weighted` in algebra
+--   val-unit, val-one      monomials have their values, and 1 has the value 𝟙
 --   val-shift, val-timesX, val-timesY, val-powY, val-timesMonomial   a function times x^i, x, y, y^j or a monomial
 use mathlib.Core.Path.{_≡_, refl, sym, ap, ap₂, _∙_, subst, subst₂}
 use mathlib.Core.Logic.{_≢_}
@@ -13,8 +14,8 @@ use native.Mathlib.Decide.{ℕ-discrete}
 use native.Mathlib.Omega.{arith}
 use Rattle.algebra.specs.Field.{Field, add-zero, zero-mul, mul-zero, mul-one, one-mul, mul-add, mul-assoc, mul-comm, mul-left-comm, add-self, add-assoc, ring}
 use Rattle.algebra.specs.Power.{pow, pow-nil, pow-suc, pow-one, pow-plus}
-use Rattle.algebra.specs.Sum.{sum, sum-ext, sum-plus, sum-scale}
-use Rattle.algebra.specs.Coefficients.{shift, Below}
+use Rattle.algebra.specs.Sum.{sum, sum-ext, sum-plus, sum-scale, sum-single}
+use Rattle.algebra.specs.Coefficients.{unit, unit-at, unit-off, lead-unit, shift, Below}
 use Rattle.algebra.specs.Weighted.{Weighted, weighted-total, weighted-plus, weighted-ext, weighted-factor, weighted-shift, weighted-down, weighted-is}
 use Rattle.hermitian.specs.Present.{Present, decPresent, divided, mod-below}
 use Rattle.hermitian.specs.Ring.{Fn, timesX, timesY, top, top-at, top-off, below-top, powY, powY-nil, powY-suc, timesMonomial, fn-powY}
@@ -30,6 +31,27 @@ module _ {F : Type 0} (K : Field F) (w : ℕ) (px py : F) where
 
   abbrev pub Val : (ℕ → F) → F → Type 0
   Val = Weighted K monomial
+
+module _ {F : Type 0} (K : Field F) (w : ℕ) (two : 2 ≤ w) (px py : F) where
+  open Field K using (_⊕_, _⊗_, 𝟘, 𝟙)
+
+  -- the monomial of order o has its value
+  pub val-unit : (o : ℕ) → Val K w px py (unit K o) (monomial K w px py o)
+  val-unit o =
+      record {
+        bound = suc o;
+        ends = lead-unit K o .above;
+        total =
+            sum-single K (suc o) o _ (omega arith) (λ k l h. ap (λ x. x ⊗ monomial K w px py k) (unit-off K o k h) ∙ zero-mul K _)
+            ∙ ap (λ x. x ⊗ monomial K w px py o) (unit-at K o)
+            ∙ one-mul K _;
+      }
+
+  pub val-one : Val K w px py (unit K 0) 𝟙
+  unfolding monomial
+  val-one =
+      let d = divided {w = w} {o = 0} 0 0 (omega arith) (omega arith) in
+      weighted-is K (ap₂ (λ i j. pow K px (i - j) ⊗ pow K py j) (d .0) (d .1) ∙ ap₂ (λ a b. a ⊗ b) (pow-nil K px) (pow-nil K py) ∙ mul-one K 𝟙) (val-unit 0)
 
 module _ {F : Type 0} (K : Field F) (w : ℕ) (two : 2 ≤ w) (px py : F) (on : Curve K w px py) where
   open Field K using (_⊕_, _⊗_, 𝟘, 𝟙)

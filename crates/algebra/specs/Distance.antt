@@ -1,0 +1,79 @@
+-- In how many of their first n places two words agree, and in how many they differ (Hamming distance).
+--
+--   agreeing K n a b, differing K n a b   the two counts
+--   agree-or-differ    together they are n
+--   agreement          the places of agreement, rising
+--   difference         the places of difference, rising
+--   differing-comm, differing-triangle    a metric
+--   differing-suc-same, differing-suc-other   one place more
+use mathlib.Core.Path.{_≡_, sym, _∙_}
+use mathlib.Core.Logic.{_≢_}
+use Prim.Native.Nat.{ℕ, zero, suc, _+_, _≤_}
+use native.Mathlib.Omega.{arith}
+use Rattle.lists.specs.Count.{count, count-nil, count-suc, count-opposite, one-more-yes, one-more-no, decNot, Chosen, chosen}
+use Rattle.algebra.specs.Field.{Field}
+
+module _ {F : Type 0} (K : Field F) where
+  unfoldable pub agreeing : ℕ → (ℕ → F) → (ℕ → F) → ℕ
+  agreeing n a b = count (λ i. K .same (a i) (b i)) n
+
+  unfoldable pub differing : ℕ → (ℕ → F) → (ℕ → F) → ℕ
+  differing n a b = count (λ i. decNot (K .same (a i) (b i))) n
+
+  pub agree-or-differ : (n : ℕ) (a b : ℕ → F) → agreeing n a b + differing n a b ≡ n
+  unfolding agreeing differing
+  agree-or-differ n a b = count-opposite (λ i. K .same (a i) (b i)) n
+
+  -- where two words agree: as many places as `agreeing` says, and where they differ: as many as `differing` says
+  pub agreement : (n : ℕ) (a b : ℕ → F) → Chosen (λ i. K .same (a i) (b i)) n
+  agreement n a b = chosen (λ i. K .same (a i) (b i)) n
+
+  pub difference : (n : ℕ) (a b : ℕ → F) → Chosen (λ i. decNot (K .same (a i) (b i))) n
+  difference n a b = chosen (λ i. decNot (K .same (a i) (b i))) n
+
+  pub differing-nil : (a b : ℕ → F) → differing 0 a b ≡ 0
+  unfolding differing
+  differing-nil a b = count-nil (λ i. decNot (K .same (a i) (b i)))
+
+  pub differing-suc-same : (n : ℕ) (a b : ℕ → F) → a n ≡ b n → differing (suc n) a b ≡ differing n a b
+  unfolding differing
+  differing-suc-same n a b e =
+      count-suc (λ i. decNot (K .same (a i) (b i))) n ∙ one-more-no (decNot (K .same (a n) (b n))) _ (λ h. h e)
+
+  pub differing-suc-other : (n : ℕ) (a b : ℕ → F) → a n ≢ b n → differing (suc n) a b ≡ suc (differing n a b)
+  unfolding differing
+  differing-suc-other n a b h =
+      count-suc (λ i. decNot (K .same (a i) (b i))) n ∙ one-more-yes (decNot (K .same (a n) (b n))) _ h
+
+  differing-suc-le : (n : ℕ) (a b : ℕ → F) → differing n a b ≤ differing (suc n) a b
+  differing-suc-le n a b = go (K .same (a n) (b n))
+    where
+      go : Dec (a n ≡ b n) → differing n a b ≤ differing (suc n) a b
+      go (yes e) = omega (arith, differing-suc-same n a b e)
+      go (no e) = omega (arith, differing-suc-other n a b e)
+
+  differing-suc-lt : (n : ℕ) (a b : ℕ → F) → differing (suc n) a b ≤ suc (differing n a b)
+  differing-suc-lt n a b = go (K .same (a n) (b n))
+    where
+      go : Dec (a n ≡ b n) → differing (suc n) a b ≤ suc (differing n a b)
+      go (yes e) = omega (arith, differing-suc-same n a b e)
+      go (no e) = omega (arith, differing-suc-other n a b e)
+
+  pub differing-comm : (n : ℕ) (a b : ℕ → F) → differing n a b ≡ differing n b a
+  differing-comm zero a b = differing-nil a b ∙ sym (differing-nil b a)
+  differing-comm (suc n) a b = go (K .same (a n) (b n)) (differing-comm n a b)
+    where
+      go : Dec (a n ≡ b n) → differing n a b ≡ differing n b a → differing (suc n) a b ≡ differing (suc n) b a
+      go (yes e) ih = differing-suc-same n a b e ∙ ih ∙ sym (differing-suc-same n b a (sym e))
+      go (no e) ih = omega (arith, ih, differing-suc-other n a b e, differing-suc-other n b a (λ h. e (sym h)))
+
+  pub differing-triangle : (n : ℕ) (a b c : ℕ → F) → differing n a c ≤ differing n a b + differing n b c
+  differing-triangle zero a b c = omega (arith, differing-nil a c)
+  differing-triangle (suc n) a b c = go (K .same (a n) (b n)) (K .same (b n) (c n)) (differing-triangle n a b c)
+    where
+      go : Dec (a n ≡ b n) → Dec (b n ≡ c n) → differing n a c ≤ differing n a b + differing n b c
+          → differing (suc n) a c ≤ differing (suc n) a b + differing (suc n) b c
+      go (yes e) (yes h) ih =
+          omega (arith, ih, differing-suc-same n a c (e ∙ h), differing-suc-same n a b e, differing-suc-same n b c h)
+      go (no e) d ih = omega (arith, ih, differing-suc-lt n a c, differing-suc-other n a b e, differing-suc-le n b c)
+      go (yes e) (no h) ih = omega (arith, ih, differing-suc-lt n a c, differing-suc-le n a b, differing-suc-other n b c h)
