@@ -6,3 +6,4 @@ pub mod Locator
 pub mod Points
 pub mod ZeroBound
 pub mod Orders
+pub mod Keys
