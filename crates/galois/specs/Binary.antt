@@ -16,13 +16,13 @@ use mathlib.Core.Bool.{Bool}
 use mathlib.Core.Path.{_≡_, refl, sym, ap, ap₂, _∙_}
 use mathlib.Core.Logic.{_≢_}
 use Prim.Native.Nat.{ℕ, zero, suc, pred, _+_, _*_, _-_, _/_, _%_, _^_, _<_}
-use native.Mathlib.Nat.{zero-add, suc-add, zero-mul, suc-mul, one-mul, mod-lt, mod-mod, mod-eq-of-lt, div-lt-iff-lt-mul, div-add-mod', suc-pred-eq-of-pos}
+use native.Mathlib.Nat.{zero-add, suc-add, zero-mul, suc-mul, one-mul, mod-lt, mod-mod, mod-eq-of-lt, div-lt-iff-lt-mul, div-add-mod', suc-pred-eq-of-pos, lt-of-le-of-lt}
 use native.Mathlib.Omega.{arith}
 use lib.Dec.{T, eqb, eqb→eq}
 use lib.Bits.{bitXor, xor-zero-r, xor-self, xor-shr, xor-mod, xor-lt}
 use lib.Pow.{pow-pos, pow-lt}
 use Rattle.lists.specs.Every.{every, every-at, every₂, every₂-at, every₃, every₃-at}
-use Rattle.lists.specs.Xor.{xor-swap, xor-twice, bit-xor, mul-xor, Additive, additive-zero, additive-after, additive-ext}
+use Rattle.lists.specs.Xor.{xor-swap, xor-twice, bit-xor, mul-xor, mul-bit-le, Additive, additive-zero, additive-after, additive-ext}
 
 module _ (bits red : ℕ) where
   unfoldable pub xtime : ℕ → ℕ
@@ -104,9 +104,7 @@ module _ (bits red : ℕ) where
     carry v h = div-lt-iff-lt-mul (pow-pos bits) .1 (omega arith)
 
     bit-lt : (x a : ℕ) → x < 2 → a < 2 ^ bits → x * a < 2 ^ bits
-    bit-lt zero a h l = rw zero-mul (pow-pos bits)
-    bit-lt (suc zero) a h l = rw one-mul l
-    bit-lt (suc (suc x)) a h l = absurd (omega arith)
+    bit-lt x a h l = lt-of-le-of-lt (mul-bit-le x a h) l
 
     xtime-lt : (v : ℕ) → v < 2 ^ bits → xtime v < 2 ^ bits
     unfolding xtime

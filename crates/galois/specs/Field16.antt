@@ -5,7 +5,7 @@
 --   value x      its number: value-lt, value-toF, toF-value; toF-injective: below 16 no two numbers stand for one element
 --   toF-add, toF-times, toF-inverse, toF-zero, toF-one, toF-ne-zero   the operations on numbers are those of the field
 --   value-add, value-times, value-zero    and back
---   times-lt, inverse-lt, alpha-lt, xor-below   results below 16
+--   times-lt, inverse-lt, alpha-lt, xor-below   results below 16; times-mod, inverse-mod: operands count mod 16
 --   times-comm, times-assoc, times-zero, times-one, times-add, times-inverse   laws on numbers
 --   alpha-cycle  α ^ 15 = 1, so powers of α go round
 use mathlib.Core.Path.{_≡_, _∙_}
@@ -105,6 +105,14 @@ times-lt a b = Binary.times-lt 4 3 cases a b
 pub inverse-lt : (a : ℕ) → inverse a < 16
 unfolding inverse
 inverse-lt a = Binary.inverse-lt 4 3 cases a
+
+pub inverse-mod : (a : ℕ) → inverse (a % 16) ≡ inverse a
+unfolding inverse
+inverse-mod a = Binary.inverse-mod 4 3 a
+
+pub times-mod : (a b : ℕ) → times (a % 16) (b % 16) ≡ times a b
+unfolding times
+times-mod a b = Binary.times-mod 4 3 a b
 
 pub alpha-lt : (n : ℕ) → alpha n < 16
 unfolding alpha

@@ -2,12 +2,12 @@
 --
 --   xor-assoc, xor-left-comm, xor-self-left, xor-swap   regrouping; a number against itself; a sum of sums, term by term
 --   xor-twice          the double of a sum
---   bit-xor, mul-xor   a multiple of a sum of two bits; a sum, times a bit
+--   bit-xor, mul-xor   a multiple of a sum of two bits; a sum, times a bit; mul-bit-le: a bit times a number is at most that
 --   Additive f         f takes sums to sums; additive-zero, additive-after: so zero to zero, and one after another
 --   additive-ext       two such functions that agree on the powers of two below 2 ^ n agree on every number below it
 use mathlib.Core.Path.{_≡_, refl, sym, ap, ap₂, _∙_}
-use Prim.Native.Nat.{ℕ, zero, suc, _+_, _*_, _/_, _%_, _^_, _<_}
-use native.Mathlib.Nat.{zero-mul, one-mul, mod-lt, le-step, lt-suc-self}
+use Prim.Native.Nat.{ℕ, zero, suc, _+_, _*_, _/_, _%_, _^_, _<_, _≤_, zero-le}
+use native.Mathlib.Nat.{zero-mul, one-mul, mod-lt, le-refl, le-step, lt-suc-self}
 use native.Mathlib.Numerals.{one-add}
 use native.Mathlib.Omega.{arith}
 use lib.Dec.{eqb, eqb→eq}
@@ -65,6 +65,11 @@ pub mul-xor : (x a b : ℕ) → x < 2 → x * bitXor a b ≡ bitXor (x * a) (x *
 mul-xor zero a b h = zero-mul (bitXor a b) ∙ sym (ap₂ bitXor (zero-mul a) (zero-mul b))
 mul-xor (suc zero) a b h = one-mul (bitXor a b) ∙ sym (ap₂ bitXor (one-mul a) (one-mul b))
 mul-xor (suc (suc x)) a b h = absurd (omega arith)
+
+pub mul-bit-le : (x a : ℕ) → x < 2 → x * a ≤ a
+mul-bit-le zero a h = rw zero-mul zero-le
+mul-bit-le (suc zero) a h = rw one-mul (le-refl a)
+mul-bit-le (suc (suc x)) a h = absurd (omega arith)
 
 pub record Additive (f : ℕ → ℕ) : Type 0 where
   pub sums : (a b : ℕ) → f (bitXor a b) ≡ bitXor (f a) (f b)
