@@ -6,3 +6,4 @@ pub mod Residue
 pub mod Count
 pub mod Words
 pub mod Answers
+pub mod Passed
