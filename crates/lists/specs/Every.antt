@@ -3,12 +3,14 @@
 --   both a b      both tests pass; both-left, both-right, both-intro
 --   every n f     the test f passes at every number below n
 --   every-at      so it passes at each of them
+--   every-true    and a test that passes at each of them passes
 --   every₂, every₃   the same for pairs and triples
+--   true-T, T-true   a test that is true passes, and one that passes is true
 use mathlib.Core.Bool.{Bool, true, false}
 use mathlib.Core.Path.{_≡_, refl, sym, subst}
 use mathlib.Core.Logic.{⊎-elim}
 use Prim.Native.Nat.{ℕ, zero, suc, _<_}
-use native.Mathlib.Nat.{eq-or-lt-of-le, le-of-suc-le-suc, not-suc-le-zero}
+use native.Mathlib.Nat.{eq-or-lt-of-le, le-of-suc-le-suc, not-suc-le-zero, lt-suc-self, le-step}
 use lib.Dec.{T}
 
 abbrev pub both : Bool → Bool → Bool
@@ -51,3 +53,19 @@ every₃ n f = every n (λ a. every₂ n (λ b c. f a b c))
 pub every₃-at : (n : ℕ) (f : ℕ → ℕ → ℕ → Bool) → T (every₃ n f) → (a b c : ℕ) → a < n → b < n → c < n → T (f a b c)
 unfolding every₃
 every₃-at n f t a b c ha hb hc = every₂-at n (f a) (every-at n (λ a. every₂ n (λ b c. f a b c)) t a ha) b c hb hc
+
+pub true-T : (b : Bool) → b ≡ true → T b
+true-T b e = subst T (sym e) tt
+
+pub T-true : (b : Bool) → T b → b ≡ true
+T-true true t = refl
+T-true false t = absurd t
+
+pub every-true : (n : ℕ) (f : ℕ → Bool) → ((k : ℕ) → k < n → f k ≡ true) → every n f ≡ true
+unfolding every
+every-true zero f h = refl
+every-true (suc n) f h = step (f n) (h n (lt-suc-self n)) (every-true n f (λ k l. h k (le-step l)))
+  where
+    step : (b : Bool) → b ≡ true → every n f ≡ true → both b (every n f) ≡ true
+    step true e ih = ih
+    step false e ih = e

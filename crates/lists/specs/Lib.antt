@@ -7,3 +7,6 @@ pub mod Count
 pub mod Words
 pub mod Answers
 pub mod Passed
+pub mod Distinct
+pub mod Stored
+pub mod Block

@@ -3,6 +3,7 @@
 --   listed n f       f 0, f 1, …, f (n − 1)
 --   listed-start, listed-turn, listed-end   a loop that stores f i at i: before it, at each turn, after it
 --   listed-length, listed-at, listed-ext    its length, its entries, equal rules
+--   listed-cons      from the front
 --   listed-getD      every list is listed by its entries
 use mathlib.Core.Path.{_≡_, refl, sym, ap, ap₂, _∙_}
 use mathlib.Core.List.{List, [], _∷_, _++_, append-assoc, append-nil}
@@ -26,6 +27,12 @@ module _ {ℓ} {A : Type ℓ} where
   pub listed-suc : (n : ℕ) (f : ℕ → A) → listed (suc n) f ≡ listed n f ++ (f n ∷ [])
   unfolding listed
   listed-suc n f = refl
+
+  -- from the front
+  pub listed-cons : (n : ℕ) (f : ℕ → A) → listed (suc n) f ≡ f 0 ∷ listed n (λ k. f (suc k))
+  unfolding listed
+  listed-cons zero f = refl
+  listed-cons (suc n) f = ap (λ (l : List A). l ++ (f (suc n) ∷ [])) (listed-cons n f)
 
   pub listed-length : (n : ℕ) (f : ℕ → A) → length (listed n f) ≡ n
   unfolding listed
