@@ -1,0 +1,53 @@
+-- The capture: the bytes of a rate, a doubtful list and a row.
+--
+--   recordLength     33: a place and its 32 cost bytes
+--   bodyLength d     2,114 + d: the bytes that follow the two bytes of length, where d places are doubtful
+--   captureLength d  2,117 + d: all of them
+--   costBytes        two bytes a cost, high byte first
+--   rowBytes         64 records of a place and its 32 cost bytes, in the row's order
+--   captureOf        version 1, length, rate, d, the d doubtful places, the records
+--   costsFrom        sixteen costs from their 32 bytes
+--   recordsOf n      n records from their bytes
+use mathlib.Core.List.{List, [], _∷_, _++_}
+use Prim.Native.Nat.{ℕ, zero, suc, _+_, _*_, _/_, _%_}
+use lib.ListN.{length, getD, take, drop}
+use Rattle.lists.specs.Listed.{listed}
+use Rattle.book.specs.Book.{width, Entry, Book}
+
+abbrev pub recordLength : ℕ
+recordLength = 33
+
+abbrev pub bodyLength : ℕ → ℕ
+bodyLength d = 2114 + d
+
+abbrev pub captureLength : ℕ → ℕ
+captureLength d = 2117 + d
+
+unfoldable pub costBytes : List ℕ → List ℕ
+costBytes [] = []
+costBytes (cost ∷ column) = cost / 256 ∷ cost % 256 ∷ costBytes column
+
+unfoldable pub rowBytes : List Entry → List ℕ
+rowBytes [] = []
+rowBytes (e ∷ row) = (e .place ∷ costBytes (e .column)) ++ rowBytes row
+
+unfoldable pub captureOf : Book → List ℕ
+captureOf book =
+    1
+    ∷ bodyLength (length (book .doubtful)) / 256
+    ∷ bodyLength (length (book .doubtful)) % 256
+    ∷ book .rate
+    ∷ length (book .doubtful)
+    ∷ (book .doubtful ++ rowBytes (book .row))
+
+-- the number in two bytes, high first
+abbrev pub costAt : List ℕ → ℕ → ℕ
+costAt bytes i = 256 * getD bytes (2 * i) 0 + getD bytes (2 * i + 1) 0
+
+unfoldable pub costsFrom : List ℕ → List ℕ
+costsFrom bytes = listed width (costAt bytes)
+
+unfoldable pub recordsOf : ℕ → List ℕ → List Entry
+recordsOf zero bytes = []
+recordsOf (suc n) bytes =
+    record { place = getD bytes 0 0; column = costsFrom (take 32 (drop 1 bytes)) } ∷ recordsOf n (drop recordLength bytes)

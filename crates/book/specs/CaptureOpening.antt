@@ -1,0 +1,60 @@
+-- Opening a capture: total size, version, length, and then opening with its rate and list and delivering its records in their order.
+--
+--   onAccepted o next        the next step from the book of an accepted one; a refused one refuses the opening with its number
+--   deliverRow book entries  the entries delivered in their order, up to the first that is refused
+--   rateIn, doubtIn, listIn, recordsIn   what a capture's bytes hold: the rate, d, the doubtful list, the 64 records
+--   sizeFits, versionFits, lengthFits    its first three checks; the length is checked against both the total and d
+--   openCaptureOf bytes      what opening a capture answers: 11, 10, 11, 1, 4, 5 or 6 if refused, by the first check that fails; else 0 and the book
+use mathlib.Core.Bool.{Bool, cond, _&&_}
+use mathlib.Core.List.{List, [], _∷_}
+use Prim.Native.Nat.{ℕ, _+_, _*_}
+use lib.Dec.{eqb, leb}
+use lib.ListN.{length, getD, take, drop}
+use Rattle.refusals.specs.Refusal.{accepted, wrongVersion, wrongLength}
+use Rattle.book.specs.Book.{places, Entry, Book, Outcome}
+use Rattle.book.specs.Opening.{refusedOpening, openOf}
+use Rattle.book.specs.Delivery.{deliverOf}
+use Rattle.book.specs.Capture.{bodyLength, recordsOf}
+
+unfoldable pub onAccepted : Outcome → (Book → Outcome) → Outcome
+onAccepted o next = cond (eqb (o .number) accepted) (next (o .book)) (refusedOpening (o .number))
+
+unfoldable pub deliverRow : Book → List Entry → Outcome
+deliverRow book [] = record { number = accepted; book = book }
+deliverRow book (e ∷ entries) = onAccepted (deliverOf book (e .place) (e .column)) (λ after. deliverRow after entries)
+
+abbrev pub rateIn : List ℕ → ℕ
+rateIn bytes = getD bytes 3 0
+
+abbrev pub doubtIn : List ℕ → ℕ
+doubtIn bytes = getD bytes 4 0
+
+abbrev pub listIn : List ℕ → List ℕ
+listIn bytes = take (doubtIn bytes) (drop 5 bytes)
+
+abbrev pub recordsIn : List ℕ → List Entry
+recordsIn bytes = recordsOf places (drop (5 + doubtIn bytes) bytes)
+
+unfoldable pub sizeFits : List ℕ → Bool
+sizeFits bytes = leb 2117 (length bytes) && leb (length bytes) 2125
+
+unfoldable pub versionFits : List ℕ → Bool
+versionFits bytes = eqb (getD bytes 0 0) 1
+
+abbrev pub lengthIn : List ℕ → ℕ
+lengthIn bytes = 256 * getD bytes 1 0 + getD bytes 2 0
+
+unfoldable pub lengthFits : List ℕ → Bool
+lengthFits bytes = eqb (lengthIn bytes + 3) (length bytes) && eqb (lengthIn bytes) (bodyLength (doubtIn bytes))
+
+-- opening with a rate and a list, and then delivering records in their order
+unfoldable pub openWith : ℕ → List ℕ → List Entry → Outcome
+openWith rate list entries = onAccepted (openOf rate list) (λ book. deliverRow book entries)
+
+unfoldable pub openCaptureOf : List ℕ → Outcome
+openCaptureOf bytes =
+    cond (sizeFits bytes)
+    (cond (versionFits bytes)
+    (cond (lengthFits bytes) (openWith (rateIn bytes) (listIn bytes) (recordsIn bytes)) (refusedOpening wrongLength))
+    (refusedOpening wrongVersion))
+    (refusedOpening wrongLength)

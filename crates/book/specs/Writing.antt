@@ -1,0 +1,24 @@
+-- Writing a capture: buffer size, then missing places.
+--
+--   Filled           what a call that fills a lent buffer answers: 0 or the refusal's number, and the buffer after the call
+--   writeOf book out 2 if the buffer is not of exactly 2,117 + d bytes, 7 if a place is missing, the buffer as it was; else 0 and the capture
+use mathlib.Core.Bool.{cond}
+use mathlib.Core.List.{List}
+use Prim.Native.Nat.{ℕ}
+use lib.Dec.{eqb}
+use lib.ListN.{length}
+use Rattle.refusals.specs.Refusal.{accepted, wrongSize, placeMissing}
+use Rattle.book.specs.Book.{Book, someMissing}
+use Rattle.book.specs.Capture.{captureLength, captureOf}
+
+pub record Filled : Type 0 where
+  pub number : ℕ
+  pub bytes : List ℕ
+
+unfoldable pub writeOf : Book → List ℕ → Filled
+writeOf book out =
+    cond (eqb (length out) (captureLength (length (book .doubtful))))
+    (cond (someMissing (book .row))
+    (record { number = placeMissing; bytes = out })
+    (record { number = accepted; bytes = captureOf book }))
+    (record { number = wrongSize; bytes = out })

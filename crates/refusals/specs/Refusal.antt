@@ -1,0 +1,51 @@
+-- The refusals' numbers (document 01, 'Refusals, by who can cause them'), each under the name that the code's constant has.
+--
+--   accepted         0: no refusal
+--   unknownRate      1: the rate is not 39 or 49
+--   wrongSize        2: a lent buffer of the wrong size, or no 64 bytes from the start
+--   noSymbol         3: a symbol above 15
+--   wrongDoubt       4: doubt above 8, or a doubtful list longer than 8, with a place above 63 or not strictly rising
+--   noPlace          5: a place above 63
+--   placeTaken       6: a place already taken
+--   placeMissing     7: closing or writing with a place missing
+--   noCodeword       8: not a codeword
+--   noneNear         9: no codeword is near
+--   wrongVersion     10: the version is not 1
+--   wrongLength      11: size or length wrong
+use Prim.Native.Nat.{ℕ}
+
+abbrev pub accepted : ℕ
+accepted = 0
+
+abbrev pub unknownRate : ℕ
+unknownRate = 1
+
+abbrev pub wrongSize : ℕ
+wrongSize = 2
+
+abbrev pub noSymbol : ℕ
+noSymbol = 3
+
+abbrev pub wrongDoubt : ℕ
+wrongDoubt = 4
+
+abbrev pub noPlace : ℕ
+noPlace = 5
+
+abbrev pub placeTaken : ℕ
+placeTaken = 6
+
+abbrev pub placeMissing : ℕ
+placeMissing = 7
+
+abbrev pub noCodeword : ℕ
+noCodeword = 8
+
+abbrev pub noneNear : ℕ
+noneNear = 9
+
+abbrev pub wrongVersion : ℕ
+wrongVersion = 10
+
+abbrev pub wrongLength : ℕ
+wrongLength = 11
