@@ -8,13 +8,13 @@
 --   zero-or-lead         a function that ends is zero everywhere or has a lead
 --   lead-unique, lead-below, lead-scale, lead-shift, lead-plus, lead-unit   what has which lead
 --   cancel               two functions with one lead: a multiple of the second takes the lead off the first
-use mathlib.Core.Path.{_≡_, refl, sym, ap, ap₂, _∙_, fun-ext, subst}
+use mathlib.Core.Path.{_≡_, refl, sym, ap, ap₂, _∙_}
 use mathlib.Core.Logic.{_≢_, _⊎_, inl, inr, ⊎-elim}
 use Prim.Native.Nat.{ℕ, zero, suc, _+_, _-_, _<_, _≤_}
 use native.Mathlib.Nat.{add-sub-cancel, le-trans}
 use native.Mathlib.Decide.{decLe, ℕ-discrete}
 use native.Mathlib.Omega.{arith}
-use Rattle.algebra.specs.Field.{Field, add-zero, zero-add, mul-zero, mul-ne-zero, ring, add-self, div-mul}
+use Rattle.algebra.specs.Field.{Field, add-zero, mul-zero, mul-ne-zero, add-self, div-mul}
 
 -- one of two values, by a decision
 unfoldable pub choose {ℓ κ} : {P : Type ℓ} {A : Type κ} → Dec P → A → A → A

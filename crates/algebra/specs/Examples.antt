@@ -9,12 +9,12 @@
 --   found                and a basis up to any limit from 1 on yields it
 use mathlib.Core.Path.{_≡_, refl, sym, ap, ap₂, _∙_}
 use mathlib.Core.List.{[], _∷_, List·Memᴰ·head}
-use Prim.Native.Nat.{ℕ, zero, suc, _+_, _%_, _<_, _≤_}
+use Prim.Native.Nat.{ℕ, zero, suc, _+_, _<_, _≤_}
 use native.Mathlib.Nat.{mod-le, mod-eq-of-lt}
 use native.Mathlib.Omega.{arith}
 use Rattle.algebra.specs.Field.{Field, zero-mul}
 use Rattle.algebra.specs.Coefficients.{shift-low, Below, Lead, below-mono, below-plus, below-scale, below-shift, unit, unit-at, unit-off, lead-unit}
-use Rattle.algebra.specs.Subspace.{Space, Functional, Common, common-space}
+use Rattle.algebra.specs.Subspace.{Space, Functional, Common, common-space, values}
 use Rattle.algebra.specs.Koetter.{Basis, start, koetter}
 use Rattle.algebra.specs.Least.{Least, least-exists, least-unique}
 
@@ -58,7 +58,7 @@ module _ {F : Type 0} (K : Field F) where
   module _ (s : ℕ) (h : 0 < s) where
     -- the functionals of the list: this one alone
     abbrev WithoutConstant : (ℕ → F) → Type 0
-    WithoutConstant = Common K Ended (λ (p : Unit {0}). constant s h) (tt ∷ [])
+    WithoutConstant = Common K Ended (values K (λ (p : Unit {0}). constant s h)) (tt ∷ [])
 
     -- a basis from the start basis, by one step
     pub without-constant : (L : ℕ) → (G : ℕ → ℕ → F) × (l : ℕ → ℕ) × Basis K s L WithoutConstant G l

@@ -23,7 +23,7 @@ use Rattle.lists.specs.Residue.{residue-multiple, residue-gap}
 use Rattle.lists.specs.Smallest.{Smallest, search-below}
 use Rattle.algebra.specs.Field.{Field, add-self, zero-add, zero-mul, mul-ne-zero, inv-ne-zero, div-mul}
 use Rattle.algebra.specs.Coefficients.{choose, choose-yes, choose-no, plus, scale, shift, Below, Lead, below-mono, below-scale, lead-shift, lead-plus, cancel, unit, lead-unit}
-use Rattle.algebra.specs.Subspace.{Space, Functional, Kernel, Common, _⊆_, kernel-space, val-zero, lift-lead, reduce, common-inside, on-common, common-start, common-more, common-less, common-space}
+use Rattle.algebra.specs.Subspace.{Space, Functional, Kernel, Common, _⊆_, kernel-space, val-zero, lift-lead, reduce, common-inside, on-common, common-start, common-more, common-less, common-space, values}
 
 module _ {F : Type 0} (K : Field F) (s : ℕ) where
   open Field K using (_⊕_, _⊗_, 𝟘, 𝟙, inv)
@@ -275,12 +275,12 @@ module _ {F : Type 0} (K : Field F) (s : ℕ) where
               )
 
     pub koetter : {P : Type 0} {W : (ℕ → F) → Type 0} → Space K s W → (D : P → Functional K s W) (G : ℕ → ℕ → F) (l : ℕ → ℕ)
-        → Basis W G l → (ps : List P) → (G′ : ℕ → ℕ → F) × (l′ : ℕ → ℕ) × Basis (Common K W D ps) G′ l′
-    koetter S D G l B [] = (G, l, basis-same (common-start K D) (common-inside K D []) B)
+        → Basis W G l → (ps : List P) → (G′ : ℕ → ℕ → F) × (l′ : ℕ → ℕ) × Basis (Common K W (values K D) ps) G′ l′
+    koetter S D G l B [] = (G, l, basis-same (common-start K) (common-inside K []) B)
     koetter S D G l B (p ∷ ps) =
         let t = koetter S D G l B ps in
         let u = step-exists (common-space K D S ps) (on-common K D p ps) (t .0) (t .1) (t .2) in
-        (u .0, u .1, basis-same (common-more K D (λ q m. List·Memᴰ·cases-cons m)) (common-less K D (List·Memᴰ·head refl) (λ q m. List·Memᴰ·tail m)) (u .2))
+        (u .0, u .1, basis-same (common-more K (λ q m. List·Memᴰ·cases-cons m)) (common-less K (List·Memᴰ·head refl) (λ q m. List·Memᴰ·tail m)) (u .2))
 
     -- where the least lead of class r is that of one term, these terms are a basis
     pub start : {W : (ℕ → F) → Type 0} (first : ℕ → ℕ) → ((r : ℕ) → r < s → (c : ℕ → F) (m : ℕ) → Held W c m r → first r ≤ m)

@@ -18,7 +18,7 @@ use native.Mathlib.Omega.{arith}
 use Rattle.lists.specs.Smallest.{Smallest, smallest-exists}
 use Rattle.algebra.specs.Field.{Field, add-self, add-cancel, inv-mul, inv-ne-zero}
 use Rattle.algebra.specs.Coefficients.{plus, scale, Below, Lead, below-plus, below-pred, zero-or-lead, lead-scale}
-use Rattle.algebra.specs.Subspace.{Space, Functional, Common, _⊆_, common-space, common-fewer}
+use Rattle.algebra.specs.Subspace.{Space, Functional, Common, _⊆_, common-space, common-fewer, values}
 use Rattle.algebra.specs.Koetter.{Basis}
 
 module _ {F : Type 0} (K : Field F) where
@@ -55,9 +55,9 @@ module _ {F : Type 0} (K : Field F) where
   -- the order of the functionals, and how often each is there, do not matter
   pub least-any-order : {P : Type 0} {s : ℕ} {W : (ℕ → F) → Type 0} (D : P → Functional K s W) {ps qs : List P} {c d : ℕ → F} {l m : ℕ}
       → Space K s W → ((p : P) → List·Memᴰ p ps → List·Memᴰ p qs) → ((p : P) → List·Memᴰ p qs → List·Memᴰ p ps)
-      → Least (Common K W D ps) c l → Least (Common K W D qs) d m → (l ≡ m) × (c ≡ d)
+      → Least (Common K W (values K D) ps) c l → Least (Common K W (values K D) qs) d m → (l ≡ m) × (c ≡ d)
   least-any-order D {ps} {qs} S there back p q =
-      least-unique (common-space K D S qs) (least-same (common-fewer K D back) (common-fewer K D there) p) q
+      least-unique (common-space K D S qs) (least-same (common-fewer K back) (common-fewer K there) p) q
 
   module _ {s L : ℕ} {W : (ℕ → F) → Type 0} {G : ℕ → ℕ → F} {l : ℕ → ℕ} (B : Basis K s L W G l) where
     pub held-least : {r : ℕ} → Space K s W → Smallest s (λ q. l q ≤ L) l r → Least W (scale K (inv (G r (l r))) (G r)) (l r)

@@ -2,9 +2,10 @@
 --
 --   Space K s W         every element of W ends, and W is closed under sums, multiples and the shift by s
 --   Functional K s W    a relation `Val c v`, 'the value of c is v': each element of W has one value; it is linear, and a shift multiplies it
---   Kernel K W V        the elements of W of value zero
---   Common K W D ps     the elements of W of value zero for each functional D p with p in the list ps
---   restrict            a functional on W is one on every W′ inside W
+--   Kernel K W R        the elements of W of value zero
+--   Common K W R ps     the elements of W of value zero by each of the relations R p with p in the list ps
+--   values D            the relations of the functionals D p
+--   restrict, on-common a functional on W is one on every W′ inside W, so on every common kernel
 --   kernel-space, common-space    kernels are spaces again
 --   common-start, common-more, common-less, common-fewer   no functional; one more, there and back; some of them
 --   val-zero            the value of zero is zero
@@ -86,34 +87,29 @@ module _ {F : Type 0} (K : Field F) where
         subst (λ d. D .Val d 𝟘) e
         (subst (D .Val (scale K 𝟘 c)) (zero-mul K (D .total h .0)) (D .val-scale 𝟘 (D .total h .1)))
 
-  -- the elements on which every functional of a list is zero; D names a functional for each p
-  pub record Common {P : Type 0} {s : ℕ} (W : (ℕ → F) → Type 0) (D : P → Functional s W) (ps : List P) (c : ℕ → F) : Type 0 where
+  -- the elements on which every functional of a list is zero; R p is the relation of the functional that p names
+  pub record Common {P : Type 0} (W : (ℕ → F) → Type 0) (R : P → (ℕ → F) → F → Type 0) (ps : List P) (c : ℕ → F) : Type 0 where
     pub member : W c
-    pub vanishes : (p : P) → List·Memᴰ p ps → D p .Val c 𝟘
+    pub vanishes : (p : P) → List·Memᴰ p ps → R p c 𝟘
 
-  module _ {P : Type 0} {s : ℕ} {W : (ℕ → F) → Type 0} (D : P → Functional s W) where
-    pub common-inside : (ps : List P) → Common W D ps ⊆ W
+  module _ {P : Type 0} {W : (ℕ → F) → Type 0} {R : P → (ℕ → F) → F → Type 0} where
+    pub common-inside : (ps : List P) → Common W R ps ⊆ W
     common-inside ps c h = h .member
 
-    -- the functional of p on the common kernel of ps
-    abbrev pub on-common : (p : P) (ps : List P) → Functional s (Common W D ps)
-    on-common p ps = restrict (common-inside ps) (D p)
-
-    pub common-start : W ⊆ Common W D []
+    pub common-start : W ⊆ Common W R []
     common-start c h = record { member = h; vanishes = λ p m. absurd (List·Memᴰ·not-nil m) }
 
     -- the kernel in ps of one more functional is the common kernel of every list qs of p and the members of ps, in any order
     pub common-more : {p : P} {ps qs : List P} → ((q : P) → List·Memᴰ q qs → (q ≡ p) ⊎ List·Memᴰ q ps)
-        → Kernel (Common W D ps) (D p .Val) ⊆ Common W D qs
+        → Kernel (Common W R ps) (R p) ⊆ Common W R qs
     common-more split c h =
         record {
           member = h .member .member;
-          vanishes = λ q m.
-              ⊎-elim (λ e. subst (λ r. D r .Val c 𝟘) (sym e) (h .vanishes)) (h .member .vanishes q) (split q m);
+          vanishes = λ q m. ⊎-elim (λ e. subst (λ r. R r c 𝟘) (sym e) (h .vanishes)) (h .member .vanishes q) (split q m);
         }
 
     pub common-less : {p : P} {ps qs : List P} → List·Memᴰ p qs → ((q : P) → List·Memᴰ q ps → List·Memᴰ q qs)
-        → Common W D qs ⊆ Kernel (Common W D ps) (D p .Val)
+        → Common W R qs ⊆ Kernel (Common W R ps) (R p)
     common-less {p} at rest c h =
         record {
           member = record { member = h .member; vanishes = λ q m. h .vanishes q (rest q m) };
@@ -121,10 +117,19 @@ module _ {F : Type 0} (K : Field F) where
         }
 
     -- fewer functionals, a larger kernel
-    pub common-fewer : {ps qs : List P} → ((p : P) → List·Memᴰ p qs → List·Memᴰ p ps) → Common W D ps ⊆ Common W D qs
+    pub common-fewer : {ps qs : List P} → ((p : P) → List·Memᴰ p qs → List·Memᴰ p ps) → Common W R ps ⊆ Common W R qs
     common-fewer f c h = record { member = h .member; vanishes = λ p m. h .vanishes p (f p m) }
 
-    pub common-space : Space s W → (ps : List P) → Space s (Common W D ps)
+  module _ {P : Type 0} {s : ℕ} {W : (ℕ → F) → Type 0} (D : P → Functional s W) where
+    -- the relations of the functionals
+    abbrev pub values : P → (ℕ → F) → F → Type 0
+    values p = D p .Val
+
+    -- the functional of p on the common kernel of ps
+    abbrev pub on-common : (p : P) (ps : List P) → Functional s (Common W values ps)
+    on-common p ps = restrict (common-inside ps) (D p)
+
+    pub common-space : Space s W → (ps : List P) → Space s (Common W values ps)
     common-space S ps =
         record {
           ends = λ h. S .ends (h .member);
@@ -137,7 +142,7 @@ module _ {F : Type 0} (K : Field F) where
         at p = kernel-space S (D p)
 
         -- at one functional of the list
-        in-kernel : {p : P} {c : ℕ → F} → List·Memᴰ p ps → Common W D ps c → Kernel W (D p .Val) c
+        in-kernel : {p : P} {c : ℕ → F} → List·Memᴰ p ps → Common W values ps c → Kernel W (D p .Val) c
         in-kernel {p} m h = record { member = h .member; vanishes = h .vanishes p m }
 
   module _ {s : ℕ} {W : (ℕ → F) → Type 0} (S : Space s W) where
