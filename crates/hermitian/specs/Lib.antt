@@ -7,3 +7,5 @@ pub mod Points
 pub mod ZeroBound
 pub mod Orders
 pub mod Keys
+pub mod Interpolant
+pub mod Interpolation
