@@ -2,15 +2,15 @@
 --
 --   agreeing K n a b, differing K n a b   the two counts
 --   agree-or-differ    together they are n
---   agreement          the places of agreement, rising
---   difference         the places of difference, rising
+--   Agreement, agreement      the places of agreement, rising
+--   Difference, difference    as many places as differ, that cover every difference
 --   differing-comm, differing-triangle    a metric
 --   differing-suc-same, differing-suc-other   one place more
 use mathlib.Core.Path.{_≡_, sym, _∙_}
 use mathlib.Core.Logic.{_≢_}
-use Prim.Native.Nat.{ℕ, zero, suc, _+_, _≤_}
+use Prim.Native.Nat.{ℕ, zero, suc, _+_, _<_, _≤_}
 use native.Mathlib.Omega.{arith}
-use Rattle.lists.specs.Count.{count, count-nil, count-suc, count-opposite, one-more-yes, one-more-no, decNot, Chosen, chosen}
+use Rattle.lists.specs.Count.{count, count-nil, count-suc, count-opposite, one-more-yes, one-more-no, decNot, chosen}
 use Rattle.algebra.specs.Field.{Field}
 
 module _ {F : Type 0} (K : Field F) where
@@ -24,12 +24,27 @@ module _ {F : Type 0} (K : Field F) where
   unfolding agreeing differing
   agree-or-differ n a b = count-opposite (λ i. K .same (a i) (b i)) n
 
-  -- where two words agree: as many places as `agreeing` says, and where they differ: as many as `differing` says
-  pub agreement : (n : ℕ) (a b : ℕ → F) → Chosen (λ i. K .same (a i) (b i)) n
-  agreement n a b = chosen (λ i. K .same (a i) (b i)) n
+  pub record Agreement (n : ℕ) (a b : ℕ → F) : Type 0 where
+    pub at : ℕ → ℕ
+    pub below : (i : ℕ) → i < agreeing n a b → at i < n
+    pub rising : (i j : ℕ) → i < j → j < agreeing n a b → at i < at j
+    pub equal : (i : ℕ) → i < agreeing n a b → a (at i) ≡ b (at i)
 
-  pub difference : (n : ℕ) (a b : ℕ → F) → Chosen (λ i. decNot (K .same (a i) (b i))) n
-  difference n a b = chosen (λ i. decNot (K .same (a i) (b i))) n
+  pub record Difference (n : ℕ) (a b : ℕ → F) : Type 0 where
+    pub at : ℕ → ℕ
+    pub covers : (k : ℕ) → k < n → a k ≢ b k → (i : ℕ) × (i < differing n a b) × (at i ≡ k)
+
+  pub agreement : (n : ℕ) (a b : ℕ → F) → Agreement n a b
+  unfolding agreeing
+  agreement n a b =
+      let c = chosen (λ i. K .same (a i) (b i)) n in
+      record { at = c .at; below = c .below; rising = c .rising; equal = c .accepted }
+
+  pub difference : (n : ℕ) (a b : ℕ → F) → Difference n a b
+  unfolding differing
+  difference n a b =
+      let c = chosen (λ i. decNot (K .same (a i) (b i))) n in
+      record { at = c .at; covers = c .all }
 
   pub differing-nil : (a b : ℕ → F) → differing 0 a b ≡ 0
   unfolding differing

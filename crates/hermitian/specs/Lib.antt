@@ -5,6 +5,8 @@ pub mod Product
 pub mod Locator
 pub mod Points
 pub mod ZeroBound
+pub mod Decoding
+pub mod Division
 pub mod Orders
 pub mod Keys
 pub mod Interpolant

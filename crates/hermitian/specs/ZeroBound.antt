@@ -3,6 +3,7 @@
 --   zero-bound        a function with lead m that vanishes at n distinct points of the curve has n ≤ m
 --   vanishing         so a function of order at most M that vanishes at more than M of them is zero,
 --   evaluation-injective   two functions of order at most M with the same values at more than M of them are one,
+--   agreeing-injective     the same with the places of agreement counted,
 --   agreements        and two different ones agree in at most M places,
 --   distance          that is, differ in at least n − M of n
 use mathlib.Core.Path.{_≡_, refl, sym, ap, ap₂, _∙_, fun-ext}
@@ -11,12 +12,12 @@ use Prim.Native.Nat.{ℕ, zero, suc, _+_, _-_, _*_, _<_, _≤_}
 use native.Mathlib.Nat.{add-suc, add-sub-cancel-left, add-sub-of-le, le-refl}
 use native.Mathlib.Decide.{decLe, decLt}
 use native.Mathlib.Omega.{arith}
-use Rattle.lists.specs.Count.{Chosen, lt-or-le}
+use Rattle.lists.specs.Count.{lt-or-le}
 use Rattle.algebra.specs.Field.{Field, add-zero, zero-add, zero-mul, mul-zero, mul-one, mul-ne-zero, add-cancel, add-self}
 use Rattle.algebra.specs.Sum.{sum, sum-suc, sum-ext, sum-zero, sum-append, sum-single}
 use Rattle.algebra.specs.Coefficients.{choose, choose-yes, choose-no, plus, scale, unit, unit-at, unit-off, Below, Lead, below-mono, below-plus, zero-or-lead}
 use Rattle.algebra.specs.Elimination.{Dependence, dependent}
-use Rattle.algebra.specs.Distance.{agreeing, differing, agree-or-differ, agreement}
+use Rattle.algebra.specs.Distance.{agreeing, differing, agree-or-differ, Agreement, agreement}
 use Rattle.algebra.specs.Weighted.{Weighted, weighted-total, weighted-unique, weighted-by, weighted-is, weighted-plus, weighted-zero, weighted-sum}
 use Rattle.hermitian.specs.Present.{Present, decPresent}
 use Rattle.hermitian.specs.Ring.{Fn, fn-plus, timesMonomial, fn-timesMonomial}
@@ -212,23 +213,23 @@ module _ {F : Type 0} (K : Field F) (w : ℕ) where
       (λ o. add-cancel K (c o) (d o)
       (vanishing two h p (fn-plus K w f g) (below-plus K b e) (λ i l. weighted-is K (add-self K (v i)) (weighted-plus K (vc i l) (vd i l))) o))
 
+  -- the same, counted among n points where the values are u and v
+  pub agreeing-injective : 2 ≤ w → {c d : ℕ → F} {M n : ℕ} {x y u v : ℕ → F} → Points K w n x y
+      → Fn K w c → Below K c (suc M) → Fn K w d → Below K d (suc M)
+      → ((i : ℕ) → i < n → Val K w (x i) (y i) c (u i)) → ((i : ℕ) → i < n → Val K w (x i) (y i) d (v i))
+      → M < agreeing K n u v → c ≡ d
+  agreeing-injective two {c} {d} {M} {n} {x} {y} {u} {v} p f b g e vc vd l =
+      let A : Agreement K n u v = agreement K n u v in
+      evaluation-injective two {v = λ i. u (A .at i)} l (points-some K w (agreeing K n u v) (A .at) (A .below) (A .rising) p) f b g e
+      (λ i k. vc (A .at i) (A .below i k))
+      (λ i k. weighted-is K (sym (A .equal i k)) (vd (A .at i) (A .below i k)))
+
   pub agreements : 2 ≤ w → {c d : ℕ → F} {M n : ℕ} {x y u v : ℕ → F} → Points K w n x y
       → Fn K w c → Below K c (suc M) → Fn K w d → Below K d (suc M)
       → ((i : ℕ) → i < n → Val K w (x i) (y i) c (u i)) → ((i : ℕ) → i < n → Val K w (x i) (y i) d (v i))
       → c ≢ d → agreeing K n u v ≤ M
-  unfolding agreeing
-  agreements two {c} {d} {M} {n} {x} {y} {u} {v} p f b g e vc vd h = go (decLe (agreeing K n u v) M)
-    where
-      A : Chosen (λ i. K .same (u i) (v i)) n
-      A = agreement K n u v
-
-      go : Dec (agreeing K n u v ≤ M) → agreeing K n u v ≤ M
-      go (yes l) = l
-      go (no l) =
-          absurd
-          (h (evaluation-injective two {v = λ i. u (A .at i)} (omega arith) (points-some K w (agreeing K n u v) (A .at) (A .below) (A .rising) p) f b g e
-          (λ i k. vc (A .at i) (A .below i k))
-          (λ i k. weighted-is K (sym (A .accepted i k)) (vd (A .at i) (A .below i k)))))
+  agreements two {M = M} {n} {u = u} {v} p f b g e vc vd h =
+      ⊎-elim (λ l. absurd (h (agreeing-injective two p f b g e vc vd l))) (λ l. l) (lt-or-le M (agreeing K n u v))
 
   -- so any two differ in at least n − M places: the distance of the code
   pub distance : 2 ≤ w → {c d : ℕ → F} {M n : ℕ} {x y u v : ℕ → F} → Points K w n x y
