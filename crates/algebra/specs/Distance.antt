@@ -5,7 +5,8 @@
 --   Agreement, agreement      the places of agreement, rising
 --   Difference, difference    as many places as differ, that cover every difference
 --   differing-comm, differing-triangle    a metric
---   differing-suc-same, differing-suc-other   one place more
+--   differing-nil, differing-suc-same, differing-suc-other   no place; one place more: the same, or one more
+--   differing-suc-le, differing-suc-le-suc    never less, and at most one more
 use mathlib.Core.Path.{_≡_, sym, _∙_}
 use mathlib.Core.Logic.{_≢_}
 use Prim.Native.Nat.{ℕ, zero, suc, _+_, _<_, _≤_}
@@ -60,15 +61,15 @@ module _ {F : Type 0} (K : Field F) where
   differing-suc-other n a b h =
       count-suc (λ i. decNot (K .same (a i) (b i))) n ∙ one-more-yes (decNot (K .same (a n) (b n))) _ h
 
-  differing-suc-le : (n : ℕ) (a b : ℕ → F) → differing n a b ≤ differing (suc n) a b
+  pub differing-suc-le : (n : ℕ) (a b : ℕ → F) → differing n a b ≤ differing (suc n) a b
   differing-suc-le n a b = go (K .same (a n) (b n))
     where
       go : Dec (a n ≡ b n) → differing n a b ≤ differing (suc n) a b
       go (yes e) = omega (arith, differing-suc-same n a b e)
       go (no e) = omega (arith, differing-suc-other n a b e)
 
-  differing-suc-lt : (n : ℕ) (a b : ℕ → F) → differing (suc n) a b ≤ suc (differing n a b)
-  differing-suc-lt n a b = go (K .same (a n) (b n))
+  pub differing-suc-le-suc : (n : ℕ) (a b : ℕ → F) → differing (suc n) a b ≤ suc (differing n a b)
+  differing-suc-le-suc n a b = go (K .same (a n) (b n))
     where
       go : Dec (a n ≡ b n) → differing (suc n) a b ≤ suc (differing n a b)
       go (yes e) = omega (arith, differing-suc-same n a b e)
@@ -90,5 +91,5 @@ module _ {F : Type 0} (K : Field F) where
           → differing (suc n) a c ≤ differing (suc n) a b + differing (suc n) b c
       go (yes e) (yes h) ih =
           omega (arith, ih, differing-suc-same n a c (e ∙ h), differing-suc-same n a b e, differing-suc-same n b c h)
-      go (no e) d ih = omega (arith, ih, differing-suc-lt n a c, differing-suc-other n a b e, differing-suc-le n b c)
-      go (yes e) (no h) ih = omega (arith, ih, differing-suc-lt n a c, differing-suc-le n a b, differing-suc-other n b c h)
+      go (no e) d ih = omega (arith, ih, differing-suc-le-suc n a c, differing-suc-other n a b e, differing-suc-le n b c)
+      go (yes e) (no h) ih = omega (arith, ih, differing-suc-le-suc n a c, differing-suc-le n a b, differing-suc-other n b c h)

@@ -11,7 +11,7 @@ use mathlib.Core.Logic.{_≢_}
 use Prim.Native.Nat.{ℕ, zero, suc, _+_, _*_}
 use native.Mathlib.Nat.{add-suc, mul-suc}
 use native.Mathlib.Nat as Nat
-use Rattle.algebra.specs.Field.{Field, mul-assoc, mul-comm, mul-left-comm, mul-one, one-mul, mul-ne-zero, ring}
+use Rattle.algebra.specs.Field.{Field, mul-assoc, mul-one, one-mul, mul-ne-zero, ring}
 
 module _ {F : Type 0} (K : Field F) where
   open Field K using (_⊗_, 𝟘, 𝟙)

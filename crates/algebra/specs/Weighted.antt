@@ -14,7 +14,7 @@ use Prim.Native.Nat.{ℕ, zero, suc, _+_, _-_, _<_, _≤_}
 use native.Mathlib.Nat.{add-comm, add-sub-cancel-left}
 use native.Mathlib.Decide.{decLe}
 use native.Mathlib.Omega.{arith}
-use Rattle.algebra.specs.Field.{Field, zero-add, add-zero, mul-zero, zero-mul, mul-assoc, add-mul, ring}
+use Rattle.algebra.specs.Field.{Field, zero-add, zero-mul, mul-assoc, add-mul, ring}
 use Rattle.algebra.specs.Sum.{sum, sum-nil, sum-suc, sum-ext, sum-zero, sum-plus, sum-scale, sum-append, sum-more}
 use Rattle.algebra.specs.Coefficients.{plus, scale, shift, shift-at, shift-low, Below, below-mono, below-plus, below-scale, below-shift}
 

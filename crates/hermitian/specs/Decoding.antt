@@ -9,17 +9,17 @@
 --   decoding-lead        and if it is not zero, r has a lead
 --   interpolant          there is such a Q that is not zero, so the least Q is small
 --   near-unique          at most one function of order at most M is within T of a word
-use mathlib.Core.Path.{_≡_, refl, sym, ap, ap₂, _∙_, fun-ext, subst}
+use mathlib.Core.Path.{_≡_, sym, ap, ap₂, _∙_, fun-ext, subst}
 use mathlib.Core.Logic.{_≢_, ⊎-elim}
-use Prim.Native.Nat.{ℕ, zero, suc, _+_, _*_, _<_, _≤_}
+use Prim.Native.Nat.{ℕ, suc, _+_, _*_, _<_, _≤_}
 use native.Mathlib.Omega.{arith}
-use Rattle.algebra.specs.Field.{Field, add-zero, zero-add, mul-zero, zero-mul, mul-comm, add-self, add-cancel}
+use Rattle.algebra.specs.Field.{Field, add-zero, mul-zero, add-self, add-cancel}
 use Rattle.algebra.specs.Sum.{sum}
 use Rattle.algebra.specs.Coefficients.{plus, Below, Lead, below-mono, below-plus, zero-or-lead}
 use Rattle.algebra.specs.Distance.{agreeing, differing, agree-or-differ, Agreement, agreement, Difference, difference, differing-comm, differing-triangle}
-use Rattle.algebra.specs.Weighted.{Weighted, weighted-total, weighted-unique, weighted-by, weighted-is, weighted-plus, weighted-zero}
+use Rattle.algebra.specs.Weighted.{weighted-total, weighted-unique, weighted-by, weighted-is, weighted-plus, weighted-zero}
 use Rattle.hermitian.specs.Present.{genus}
-use Rattle.hermitian.specs.Ring.{Fn, fn-plus, timesMonomial}
+use Rattle.hermitian.specs.Ring.{Fn, fn-plus}
 use Rattle.hermitian.specs.Value.{Val, monomial}
 use Rattle.hermitian.specs.Product.{product, fn-product, below-product, val-product}
 use Rattle.hermitian.specs.Points.{Points, points-some}

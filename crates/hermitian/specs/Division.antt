@@ -8,12 +8,9 @@
 --   division-exact           and nothing remains
 --   repaired                 the function near a word is found from every small Q through it
 use mathlib.Core.Path.{_≡_, refl, sym, ap, ap₂, _∙_, fun-ext}
-use mathlib.Core.Logic.{⊎-elim}
-use Prim.Native.Nat.{ℕ, zero, suc, _+_, _-_, _<_, _≤_}
-use native.Mathlib.Nat.{add-comm}
+use Prim.Native.Nat.{ℕ, zero, suc, _+_, _-_, _≤_}
 use native.Mathlib.Decide.{decLe}
 use native.Mathlib.Omega.{arith}
-use Rattle.lists.specs.Count.{lt-or-le}
 use Rattle.algebra.specs.Field.{Field, add-zero, zero-add, add-self, add-assoc, mul-assoc, mul-inv, mul-one}
 use Rattle.algebra.specs.Coefficients.{choose, choose-yes, choose-no, plus, scale, Below, Lead}
 use Rattle.hermitian.specs.Present.{Present, decPresent, genus}

@@ -7,6 +7,7 @@ pub mod Points
 pub mod ZeroBound
 pub mod Decoding
 pub mod Division
+pub mod Example
 pub mod Orders
 pub mod Keys
 pub mod Interpolant

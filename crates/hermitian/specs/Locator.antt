@@ -3,14 +3,14 @@
 --   absentRank w o       the number of an absent order among the absent ones: below the genus, and no two have the same
 --   Locator K w t x y    a function, not zero, of order at most t + genus w, that vanishes at (x i, y i) for each i < t
 --   locator              there is one
-use mathlib.Core.Path.{_≡_, refl, sym, ap, ap₂, _∙_}
+use mathlib.Core.Path.{_≡_, refl, sym, ap, _∙_}
 use mathlib.Core.Logic.{_≢_, ⊎-elim}
-use Prim.Native.Nat.{ℕ, zero, suc, _+_, _-_, _*_, _/_, _%_, _<_, _≤_}
+use Prim.Native.Nat.{ℕ, suc, _+_, _*_, _/_, _%_, _<_, _≤_}
 use native.Mathlib.Nat.{div-add-mod'}
 use native.Mathlib.Decide.{decLe, decLt, ℕ-discrete}
 use native.Mathlib.Omega.{arith}
 use Rattle.algebra.specs.Field.{Field, mul-zero, mul-one}
-use Rattle.algebra.specs.Sum.{sum, sum-ext, sum-single}
+use Rattle.algebra.specs.Sum.{sum-ext, sum-single}
 use Rattle.algebra.specs.Coefficients.{choose, choose-yes, choose-no, Below, below-mono}
 use Rattle.algebra.specs.Elimination.{Dependence, dependent}
 use Rattle.lists.specs.Count.{lt-or-le}

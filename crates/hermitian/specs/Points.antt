@@ -6,19 +6,18 @@
 --   apart               there is one
 --   Separators n x y    for each i < n a function that vanishes at the n points but the i-th, and not there
 --   separators          they exist for distinct points
-use mathlib.Core.Path.{_≡_, refl, sym, ap, ap₂, _∙_, subst}
+use mathlib.Core.Path.{_≡_, sym, ap, _∙_, subst}
 use mathlib.Core.Logic.{_≢_, ⊎-elim}
-use Prim.Native.Nat.{ℕ, zero, suc, _+_, _-_, _*_, _<_, _≤_}
+use Prim.Native.Nat.{ℕ, zero, suc, _+_, _*_, _<_, _≤_}
 use native.Mathlib.Nat.{le-refl, le-of-suc-le-suc, eq-or-lt-of-le}
 use native.Mathlib.Decide.{decLt, ℕ-discrete}
 use native.Mathlib.Omega.{arith}
 use Rattle.lists.specs.Count.{lt-or-le}
-use Rattle.algebra.specs.Field.{Field, add-self, add-cancel, zero-mul, mul-zero, mul-one, one-mul, add-mul, mul-ne-zero}
-use Rattle.algebra.specs.Power.{pow-nil}
-use Rattle.algebra.specs.Sum.{sum, sum-suc, sum-nil}
-use Rattle.algebra.specs.Coefficients.{plus, scale, shift, unit, unit-at, unit-off, lead-unit, Below, below-mono, below-plus, below-scale, below-shift}
-use Rattle.algebra.specs.Weighted.{Weighted, weighted-total, weighted-of, weighted-is, weighted-plus, weighted-scale}
-use Rattle.hermitian.specs.Present.{Present, divided, present-zero}
+use Rattle.algebra.specs.Field.{Field, add-self, add-cancel, zero-mul, mul-zero, add-mul, mul-ne-zero}
+use Rattle.algebra.specs.Sum.{sum}
+use Rattle.algebra.specs.Coefficients.{plus, scale, unit, lead-unit, Below, below-mono, below-plus, below-scale, below-shift}
+use Rattle.algebra.specs.Weighted.{weighted-total, weighted-of, weighted-is, weighted-plus, weighted-scale}
+use Rattle.hermitian.specs.Present.{present-zero}
 use Rattle.hermitian.specs.Ring.{Fn, fn-plus, fn-scale, timesX, timesY, fn-timesX, fn-timesY, below-timesY, fn-unit}
 use Rattle.hermitian.specs.Value.{Curve, Val, monomial, val-timesX, val-timesY, val-one}
 

@@ -11,7 +11,7 @@
 --   genus w           w(w − 1)/2, the genus of the curve: that many orders are absent
 --   genus-zero, genus-suc, genus-mono   genus 0 = 0; genus (suc r) = genus r + r; it rises with w
 --   genus-double      twice the genus is w(w − 1)
-use mathlib.Core.Path.{_≡_, refl, sym, ap, ap₂, _∙_}
+use mathlib.Core.Path.{_≡_, refl, ap, _∙_}
 use Prim.Native.Nat.{ℕ, zero, suc, _+_, _-_, _*_, _/_, _%_, _<_, _≤_}
 use native.Mathlib.Nat.{mul-add-div-right, mul-add-mod-self-right, div-eq-of-lt, mod-eq-of-lt, mod-lt, div-add-mod', mul-comm, add-zero, add-suc, add-sub-of-le, le-div-iff-mul-le}
 use native.Mathlib.Decide.{decLe}

@@ -11,13 +11,13 @@
 --   product-ne-zero    no zero divisors
 use mathlib.Core.Path.{_≡_, refl, sym, ap, ap₂, _∙_, fun-ext, subst}
 use mathlib.Core.Logic.{_≢_, _⊎_, inl, inr, ⊎-elim}
-use Prim.Native.Nat.{ℕ, zero, suc, _+_, _-_, _*_, _/_, _%_, _<_, _≤_}
+use Prim.Native.Nat.{ℕ, zero, suc, _+_, _<_, _≤_}
 use native.Mathlib.Nat.{add-comm}
 use native.Mathlib.Omega.{arith}
-use Rattle.algebra.specs.Field.{Field, add-zero, zero-add, zero-mul, mul-zero, mul-assoc, add-mul, mul-ne-zero}
+use Rattle.algebra.specs.Field.{Field, zero-add, zero-mul, mul-assoc, add-mul, mul-ne-zero}
 use Rattle.algebra.specs.Sum.{sum, sum-nil, sum-suc, sum-ext, sum-plus, sum-scale, sum-more}
-use Rattle.algebra.specs.Coefficients.{plus, scale, Below, Lead, below-mono, below-plus, below-scale, zero-or-lead, lead-below}
-use Rattle.algebra.specs.Weighted.{Weighted, weighted-of, weighted-plus, weighted-scale, weighted-zero, weighted-by, weighted-is}
+use Rattle.algebra.specs.Coefficients.{plus, scale, Below, Lead, below-mono, below-plus, below-scale, zero-or-lead}
+use Rattle.algebra.specs.Weighted.{weighted-of, weighted-plus, weighted-scale, weighted-zero, weighted-by, weighted-is}
 use Rattle.hermitian.specs.Present.{Present, decPresent}
 use Rattle.hermitian.specs.Ring.{Fn, fn-zero, fn-plus, fn-scale, timesMonomial, fn-timesMonomial, below-timesMonomial, timesMonomial-lead}
 use Rattle.hermitian.specs.Value.{Curve, Val, monomial, val-timesMonomial}

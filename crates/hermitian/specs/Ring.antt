@@ -1,20 +1,24 @@
 -- Functions on the curve y^w + y = x^(w+1), as coefficient functions by order, and multiplication by x and by y.
 --
 --   Fn K w c         c is a function on the curve: zero at absent orders, and from some order on
---   timesX, timesY   multiplication by x and by y
+--   timesX, timesY   multiplication by x and by y; `descent` and `top` are its second term
 --   timesMonomial o  multiplication by the monomial of order o: y as often as it has y, then one shift for all its x
 --   fn-plus, fn-scale, fn-zero, fn-unit, fn-shift, fn-timesX, fn-timesY, fn-timesMonomial   they keep to Fn
 --   lead-timesX, lead-timesY, lead-timesMonomial    the lead goes up by w, by w + 1, by o …
 --   timesX-lead, timesY-lead, timesMonomial-lead    … and keeps its coefficient
-use mathlib.Core.Path.{_≡_, refl, sym, ap, ap₂, _∙_, fun-ext, subst}
-use mathlib.Core.Logic.{_≢_, ⊎-elim}
-use Prim.Native.Nat.{ℕ, zero, suc, _+_, _-_, _*_, _/_, _%_, _<_, _≤_}
+use mathlib.Core.Path.{_≡_, refl, sym, ap, ap₂, _∙_, subst}
+use mathlib.Core.Logic.{_≢_}
+use Prim.Native.Nat.{ℕ, zero, suc, _+_, _-_, _*_, _/_, _%_, _≤_}
 use native.Mathlib.Nat.{div-add-mod', sub-add-cancel}
 use native.Mathlib.Decide.{decLe, ℕ-discrete}
 use native.Mathlib.Omega.{arith}
-use Rattle.algebra.specs.Field.{Field, add-zero, zero-add, mul-zero}
-use Rattle.algebra.specs.Coefficients.{choose, choose-yes, choose-no, plus, scale, unit, unit-off, lead-unit, shift, shift-at, shift-high, shift-low, Below, Lead, below-mono, below-plus, below-scale, below-shift, lead-shift, lead-plus}
-use Rattle.hermitian.specs.Present.{Present, decPresent, divided, present-at, mod-below, present-plus, present-x, present-y}
+use Rattle.algebra.specs.Field.{Field, add-zero, mul-zero}
+use Rattle.algebra.specs.Coefficients.{choose, choose-yes, choose-no, plus, scale, unit, unit-off, lead-unit, shift, shift-at, shift-high, shift-low, Below, Lead, below-mono, below-plus, below-scale, below-shift, lead-shift}
+use Rattle.hermitian.specs.Present.{Present, present-at, present-plus}
+
+-- y^w = x^(w+1) + y: as far as this below its source stands the second term of a product with y
+unfoldable pub descent : ℕ → ℕ
+descent w = suc w * (w - 2)
 
 module _ {F : Type 0} (K : Field F) (w : ℕ) where
   open Field K using (_⊕_, _⊗_, 𝟘)
@@ -31,9 +35,9 @@ module _ {F : Type 0} (K : Field F) (w : ℕ) where
   unfoldable pub top : (ℕ → F) → ℕ → F
   top c o = choose (ℕ-discrete (suc (o % w)) w) (c o) 𝟘
 
-  -- y^w = x^(w+1) + y: order o goes to o + w + 1, and what has y^(w − 1) also to o − (w + 1)(w − 2)
+  -- order o goes to o + w + 1, and what has y^(w − 1) also to o − (w + 1)(w − 2)
   unfoldable pub timesY : (ℕ → F) → ℕ → F
-  timesY c o = shift K (suc w) c o ⊕ top c (o + suc w * (w - 2))
+  timesY c o = shift K (suc w) c o ⊕ top c (o + descent w)
 
   unfoldable pub powY : ℕ → (ℕ → F) → ℕ → F
   powY zero c = c
@@ -108,7 +112,7 @@ module _ {F : Type 0} (K : Field F) (w : ℕ) where
       record {
         zero-from = λ k l.
             ap₂ (λ x y. x ⊕ y) (below-shift K (suc w) b .zero-from k l)
-            (top-zero c (k + suc w * (w - 2)) (b .zero-from (k + suc w * (w - 2)) (omega arith)))
+            (top-zero c (k + descent w) (b .zero-from (k + descent w) (omega arith)))
             ∙ add-zero K 𝟘;
       }
 
@@ -116,7 +120,7 @@ module _ {F : Type 0} (K : Field F) (w : ℕ) where
   unfolding timesY
   timesY-lead {c} l b =
       ap₂ (λ x y. x ⊕ y) (shift-at K (suc w) l c)
-      (top-zero c (l + suc w + suc w * (w - 2)) (b .zero-from (l + suc w + suc w * (w - 2)) (omega arith)))
+      (top-zero c (l + suc w + descent w) (b .zero-from (l + suc w + descent w) (omega arith)))
       ∙ add-zero K (c l)
 
   pub lead-timesY : {c : ℕ → F} {l : ℕ} → Lead K c l → Lead K (timesY c) (l + suc w)
@@ -175,9 +179,10 @@ module _ {F : Type 0} (K : Field F) (w : ℕ) where
     fn-timesX = fn-shift w (present-at 1 0 (omega arith) (omega arith) (omega arith))
 
     -- the second term of a present order is present
-    present-second : (o : ℕ) → suc ((o + suc w * (w - 2)) % w) ≡ w → Present w (o + suc w * (w - 2)) → Present w o
+    present-second : (o : ℕ) → suc ((o + descent w) % w) ≡ w → Present w (o + descent w) → Present w o
+    unfolding descent
     present-second o h p =
-        let s : ℕ = o + suc w * (w - 2) in
+        let s : ℕ = o + descent w in
         let i : s / w ≡ (s / w - (w - 2)) + (w - 2) = omega arith in
         present-at (s / w - (w - 2)) 1 (omega arith) (omega arith) (omega (arith, div-add-mod' s w, ap (λ x. x * w) i))
 
@@ -189,12 +194,12 @@ module _ {F : Type 0} (K : Field F) (w : ℕ) where
           ends = below-timesY (f .ends);
           absent = λ o h.
               ap₂ (λ x y. x ⊕ y) (fn-shift (suc w) (present-at 1 1 (omega arith) (omega arith) (omega arith)) f .absent o h)
-              (second o h (ℕ-discrete (suc ((o + suc w * (w - 2)) % w)) w))
+              (second o h (ℕ-discrete (suc ((o + descent w) % w)) w))
               ∙ add-zero K 𝟘;
         }
       where
-        second : (o : ℕ) → ¬ Present w o → Dec (suc ((o + suc w * (w - 2)) % w) ≡ w) → top c (o + suc w * (w - 2)) ≡ 𝟘
-        second o h (yes e) = top-zero c _ (f .absent (o + suc w * (w - 2)) (λ p. h (present-second o e p)))
+        second : (o : ℕ) → ¬ Present w o → Dec (suc ((o + descent w) % w) ≡ w) → top c (o + descent w) ≡ 𝟘
+        second o h (yes e) = top-zero c _ (f .absent (o + descent w) (λ p. h (present-second o e p)))
         second o h (no e) = top-off c _ e
 
     pub fn-powY : {c : ℕ → F} (j : ℕ) → Fn c → Fn (powY j c)

@@ -5,20 +5,20 @@
 --   Val K w px py c v      the function c has the value v at (px, py); its laws are those of `Weighted` in algebra
 --   val-unit, val-one      monomials have their values, and 1 has the value 𝟙
 --   val-shift, val-timesX, val-timesY, val-powY, val-timesMonomial   a function times x^i, x, y, y^j or a monomial
-use mathlib.Core.Path.{_≡_, refl, sym, ap, ap₂, _∙_, subst, subst₂}
+use mathlib.Core.Path.{_≡_, sym, ap, ap₂, _∙_, subst, subst₂}
 use mathlib.Core.Logic.{_≢_}
 use Prim.Native.Nat.{ℕ, zero, suc, _+_, _-_, _*_, _/_, _%_, _<_, _≤_}
 use native.Mathlib.Nat.{div-add-mod'}
 use native.Mathlib.Nat as Nat
 use native.Mathlib.Decide.{ℕ-discrete}
 use native.Mathlib.Omega.{arith}
-use Rattle.algebra.specs.Field.{Field, add-zero, zero-mul, mul-zero, mul-one, one-mul, mul-add, mul-assoc, mul-comm, mul-left-comm, add-self, add-assoc, ring}
+use Rattle.algebra.specs.Field.{Field, add-zero, zero-mul, mul-one, one-mul, mul-add, mul-assoc, mul-comm, mul-left-comm, ring}
 use Rattle.algebra.specs.Power.{pow, pow-nil, pow-suc, pow-one, pow-plus}
-use Rattle.algebra.specs.Sum.{sum, sum-ext, sum-plus, sum-scale, sum-single}
-use Rattle.algebra.specs.Coefficients.{unit, unit-at, unit-off, lead-unit, shift, Below}
+use Rattle.algebra.specs.Sum.{sum-ext, sum-plus, sum-scale, sum-single}
+use Rattle.algebra.specs.Coefficients.{unit, unit-at, unit-off, lead-unit, shift}
 use Rattle.algebra.specs.Weighted.{Weighted, weighted-total, weighted-plus, weighted-ext, weighted-factor, weighted-shift, weighted-down, weighted-is}
 use Rattle.hermitian.specs.Present.{Present, decPresent, divided, mod-below}
-use Rattle.hermitian.specs.Ring.{Fn, timesX, timesY, top, top-at, top-off, below-top, powY, powY-nil, powY-suc, timesMonomial, fn-powY}
+use Rattle.hermitian.specs.Ring.{Fn, timesX, timesY, descent, top, top-at, top-off, below-top, powY, powY-nil, powY-suc, timesMonomial, fn-powY}
 
 module _ {F : Type 0} (K : Field F) (w : ℕ) (px py : F) where
   open Field K using (_⊕_, _⊗_)
@@ -86,8 +86,8 @@ module _ {F : Type 0} (K : Field F) (w : ℕ) (two : 2 ≤ w) (px py : F) (on : 
       ∙ simp (ring, K)
 
   monomial-wrap : (o : ℕ) → Present w o → suc (o % w) ≡ w
-      → monomial K w px py (o + suc w) ⊕ monomial K w px py (o - suc w * (w - 2)) ≡ py ⊗ monomial K w px py o
-  unfolding monomial
+      → monomial K w px py (o + suc w) ⊕ monomial K w px py (o - descent w) ≡ py ⊗ monomial K w px py o
+  unfolding monomial descent
   monomial-wrap o p h =
       let i : ℕ = o / w - o % w in
       let e : o / w ≡ suc i + (w - 2) = omega arith in
@@ -121,7 +121,8 @@ module _ {F : Type 0} (K : Field F) (w : ℕ) (two : 2 ≤ w) (px py : F) (on : 
       subst₂ (λ s x. Val K w px py (shift K s c) (x ⊗ v)) (Nat.one-mul w) (pow-one K px) (val-shift 1 f h)
 
   -- the terms with y^(w − 1) have high orders
-  top-low : {c : ℕ → F} → Fn K w c → (o : ℕ) → o < suc w * (w - 2) → top K w c o ≡ 𝟘
+  top-low : {c : ℕ → F} → Fn K w c → (o : ℕ) → o < descent w → top K w c o ≡ 𝟘
+  unfolding descent
   top-low {c} f o l = go (ℕ-discrete (suc (o % w)) w) (decPresent w o)
     where
       go : Dec (suc (o % w) ≡ w) → Dec (Present w o) → top K w c o ≡ 𝟘
@@ -132,14 +133,14 @@ module _ {F : Type 0} (K : Field F) (w : ℕ) (two : 2 ≤ w) (px py : F) (on : 
           absurd (omega (arith, div-add-mod' o w, ap (λ x. x * w) e))
 
   term : {c : ℕ → F} → Fn K w c → (o : ℕ)
-      → c o ⊗ monomial K w px py (o + suc w) ⊕ top K w c o ⊗ monomial K w px py (o - suc w * (w - 2)) ≡ py ⊗ (c o ⊗ monomial K w px py o)
+      → c o ⊗ monomial K w px py (o + suc w) ⊕ top K w c o ⊗ monomial K w px py (o - descent w) ≡ py ⊗ (c o ⊗ monomial K w px py o)
   term {c} f o = go (ℕ-discrete (suc (o % w)) w)
     where
       up : F
       up = monomial K w px py (o + suc w)
 
       down : F
-      down = monomial K w px py (o - suc w * (w - 2))
+      down = monomial K w px py (o - descent w)
 
       go : Dec (suc (o % w) ≡ w) → c o ⊗ up ⊕ top K w c o ⊗ down ≡ py ⊗ (c o ⊗ monomial K w px py o)
       go (yes h) =
@@ -162,8 +163,8 @@ module _ {F : Type 0} (K : Field F) (w : ℕ) (two : 2 ≤ w) (px py : F) (on : 
       (sym (sum-plus K n _ _) ∙ sum-ext K n _ _ (λ o l. term f o) ∙ sum-scale K n py _ ∙ ap (λ x. py ⊗ x) (h .total))
       (weighted-plus K
       (weighted-shift K (suc w) (weighted-total K (λ o. monomial K w px py (o + suc w)) n (h .ends)))
-      (weighted-down K (suc w * (w - 2)) (top-low f)
-      (weighted-total K (λ o. monomial K w px py (o - suc w * (w - 2))) n (below-top K w (h .ends)))))
+      (weighted-down K (descent w) (top-low f)
+      (weighted-total K (λ o. monomial K w px py (o - descent w)) n (below-top K w (h .ends)))))
 
   pub val-powY : {c : ℕ → F} {v : F} (j : ℕ) → Fn K w c → Val K w px py c v → Val K w px py (powY K w j c) (pow K py j ⊗ v)
   val-powY {c} {v} zero f h =

@@ -6,22 +6,22 @@
 --   agreeing-injective     the same with the places of agreement counted,
 --   agreements        and two different ones agree in at most M places,
 --   distance          that is, differ in at least n − M of n
-use mathlib.Core.Path.{_≡_, refl, sym, ap, ap₂, _∙_, fun-ext}
+use mathlib.Core.Path.{_≡_, sym, ap, ap₂, _∙_, fun-ext}
 use mathlib.Core.Logic.{_≢_, ⊎-elim}
-use Prim.Native.Nat.{ℕ, zero, suc, _+_, _-_, _*_, _<_, _≤_}
-use native.Mathlib.Nat.{add-suc, add-sub-cancel-left, add-sub-of-le, le-refl}
-use native.Mathlib.Decide.{decLe, decLt}
+use Prim.Native.Nat.{ℕ, suc, _+_, _-_, _*_, _<_, _≤_}
+use native.Mathlib.Nat.{add-suc, add-sub-cancel-left, add-sub-of-le}
+use native.Mathlib.Decide.{decLt}
 use native.Mathlib.Omega.{arith}
 use Rattle.lists.specs.Count.{lt-or-le}
 use Rattle.algebra.specs.Field.{Field, add-zero, zero-add, zero-mul, mul-zero, mul-one, mul-ne-zero, add-cancel, add-self}
-use Rattle.algebra.specs.Sum.{sum, sum-suc, sum-ext, sum-zero, sum-append, sum-single}
-use Rattle.algebra.specs.Coefficients.{choose, choose-yes, choose-no, plus, scale, unit, unit-at, unit-off, Below, Lead, below-mono, below-plus, zero-or-lead}
+use Rattle.algebra.specs.Sum.{sum, sum-ext, sum-zero, sum-append, sum-single}
+use Rattle.algebra.specs.Coefficients.{choose, choose-yes, choose-no, plus, unit, unit-at, unit-off, Below, Lead, below-plus, zero-or-lead}
 use Rattle.algebra.specs.Elimination.{Dependence, dependent}
 use Rattle.algebra.specs.Distance.{agreeing, differing, agree-or-differ, Agreement, agreement}
-use Rattle.algebra.specs.Weighted.{Weighted, weighted-total, weighted-unique, weighted-by, weighted-is, weighted-plus, weighted-zero, weighted-sum}
+use Rattle.algebra.specs.Weighted.{weighted-total, weighted-unique, weighted-by, weighted-is, weighted-plus, weighted-zero, weighted-sum}
 use Rattle.hermitian.specs.Present.{Present, decPresent}
 use Rattle.hermitian.specs.Ring.{Fn, fn-plus, timesMonomial, fn-timesMonomial}
-use Rattle.hermitian.specs.Value.{Curve, Val, monomial}
+use Rattle.hermitian.specs.Value.{Val, monomial}
 use Rattle.hermitian.specs.Product.{product, below-product, val-product, product-ne-zero}
 use Rattle.hermitian.specs.Points.{Points, points-some, Separators, separators}
 
@@ -190,13 +190,11 @@ module _ {F : Type 0} (K : Field F) (w : ℕ) where
 
   pub zero-bound : 2 ≤ w → {c : ℕ → F} {m n : ℕ} {x y : ℕ → F} → Points K w n x y → Fn K w c → Lead K c m
       → ((i : ℕ) → i < n → Val K w (x i) (y i) c 𝟘) → n ≤ m
-  zero-bound two {c} {m} {n} {x} {y} p f l v = go (decLe n m)
-    where
-      go : Dec (n ≤ m) → n ≤ m
-      go (yes h) = h
-      go (no h) =
-          absurd
-          (too-many two f l (points-some K w (suc m) (λ i. i) (λ i b. omega arith) (λ i j b e. b) p) (λ i b. v i (omega arith)))
+  zero-bound two {c} {m} {n} {x} {y} p f l v =
+      ⊎-elim
+      (λ (h : m < n). absurd
+      (too-many two f l (points-some K w (suc m) (λ i. i) (λ i b. omega arith) (λ i j b e. b) p) (λ i b. v i (omega arith))))
+      (λ (h : n ≤ m). omega arith) (lt-or-le m n)
 
   -- a function of order at most M that vanishes at more than M points is zero
   pub vanishing : 2 ≤ w → {c : ℕ → F} {M n : ℕ} {x y : ℕ → F} → M < n → Points K w n x y → Fn K w c → Below K c (suc M)
