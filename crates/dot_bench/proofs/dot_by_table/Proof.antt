@@ -1,0 +1,56 @@
+-- `dot_bench::dot_by_table` meets its contract: at each turn the sum is that of the entries passed.
+use Prim.Native.Nat.{_≤_, _-_}
+use mathlib.Core.Path.{_≡_, refl, _∙_, ap}
+use native.Mathlib.Omega.{arith}
+use Rattle.dot_bench.specs.Dot.{dot, dot-next}
+use borrow.Author.Needs.{needs}
+use Rattle.dot_bench.proofs.dot_by_table.Statement.{statement}
+use Rattle.dot_bench.proofs.dot_by_table.Tie as tie
+
+abbrev Inv-loop : tie.InvT-loop
+Inv-loop a b sum₀ i₀ sum i = (i ≤ 134) × (sum ≡ dot i a b)
+
+abbrev μ-loop : tie.MeasureT-loop
+μ-loop a b sum₀ i₀ sum i = 134 - i
+
+loop-holds : tie.Need-loop-holds Inv-loop μ-loop
+unfolding dot
+loop-holds c = (search needs, refl)
+
+array-read-product-by-table : tie.Need-array-read-product-by-table Inv-loop μ-loop
+array-read-product-by-table c = search needs
+
+array-read-product-by-table-2 : tie.Need-array-read-product-by-table-2 Inv-loop μ-loop
+array-read-product-by-table-2 c = search needs
+
+product-by-table-requires : tie.Need-product-by-table-requires Inv-loop μ-loop
+product-by-table-requires c κs = search needs
+
+add-i : tie.Need-add-i Inv-loop μ-loop
+add-i c = search needs
+
+loop-less : tie.Need-loop-less Inv-loop μ-loop
+loop-less c = search needs
+
+loop-again : tie.Need-loop-again Inv-loop μ-loop
+loop-again c = (search needs, dot-next _ _ _ (c .before .before .loop .inv .1) (c .product-by-table .ensures))
+
+returns : tie.Need-returns Inv-loop μ-loop
+returns c =
+    let e : c .before .loop .i ≡ 134 = omega arith in
+    c .before .loop .inv .1 ∙ ap (λ m. dot m (c .before .before .args .t1) (c .before .before .args .t2)) e
+
+pub dot-by-table-spec : {M : Type 1} → statement M
+dot-by-table-spec =
+    tie.close
+    (tie.spec
+    Inv-loop
+    μ-loop
+    loop-holds
+    array-read-product-by-table
+    array-read-product-by-table-2
+    product-by-table-requires
+    add-i
+    loop-less
+    loop-again
+    returns)
