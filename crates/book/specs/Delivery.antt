@@ -7,7 +7,7 @@ use mathlib.Core.List.{List, [], _∷_, _++_}
 use Prim.Native.Nat.{ℕ}
 use lib.Dec.{ltb}
 use Rattle.refusals.specs.Refusal.{accepted, noPlace, placeTaken}
-use Rattle.book.specs.Book.{places, Entry, Book, taken, Outcome}
+use Rattle.book.specs.Book.{places, Book, taken, Outcome}
 
 unfoldable pub withEntry : Book → ℕ → List ℕ → Book
 withEntry book p column =

@@ -5,3 +5,8 @@ pub mod Capture
 pub mod Writing
 pub mod CaptureOpening
 pub mod LookUp
+pub mod RowLaws
+pub mod CaptureLaws
+pub mod CaptureCases
+pub mod RoundTrip
+pub mod LookUpLaws

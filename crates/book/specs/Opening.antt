@@ -12,7 +12,7 @@ use lib.Dec.{eqb, leb}
 use lib.ListN.{length}
 use Rattle.lists.specs.Distinct.{below}
 use Rattle.refusals.specs.Refusal.{accepted, unknownRate, wrongDoubt}
-use Rattle.book.specs.Book.{places, Book, newBook, Outcome}
+use Rattle.book.specs.Book.{places, newBook, Outcome}
 
 unfoldable pub knownRate : ℕ → Bool
 knownRate rate = eqb rate 39 || eqb rate 49

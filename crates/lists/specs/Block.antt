@@ -6,14 +6,14 @@
 --   put-length, put-same, put-other   the table keeps its length; row q is r; every other row is as it was
 --   block-ext          tables of equal rows are equal
 --   block-replicate    the rows of a table of equal entries
-use mathlib.Core.Path.{_≡_, refl, sym, ap, _∙_, subst}
-use mathlib.Core.List.{List, [], _∷_, _++_}
-use Prim.Native.Nat.{ℕ, zero, suc, _+_, _-_, _*_, _/_, _%_, _<_, _≤_}
+use mathlib.Core.Path.{_≡_, sym, ap, _∙_, subst}
+use mathlib.Core.List.{List, _++_}
+use Prim.Native.Nat.{ℕ, _+_, _-_, _*_, _/_, _%_, _<_, _≤_}
 use native.Mathlib.Nat.{mul-suc, mul-le-mul-left, div-add-mod', mod-lt, mul-comm, div-lt-iff-lt-mul}
 use native.Mathlib.Decide.{decLe}
 use native.Mathlib.Omega.{arith}
-use lib.ListN.{length, getD, take, drop, replicate, length-take, length-drop, length-append, List·getD-append, getD-replicate, length-replicate}
-use lib.Seq.{getD-take, getD-drop, getD-append-add, ext-getD, paste, length-paste, length-paste-head, length-take-le, take-all}
+use lib.ListN.{length, getD, take, drop, replicate, length-drop, length-append, List·getD-append, getD-replicate, length-replicate}
+use lib.Seq.{getD-take, getD-drop, getD-append-add, ext-getD, paste, length-paste, length-paste-head, length-take-le}
 
 unfoldable pub block {ℓ} : {A : Type ℓ} → ℕ → ℕ → List A → List A
 block w q l = take w (drop (w * q) l)

@@ -3,7 +3,8 @@
 --   among p l        p stands in l
 --   distinct l       no number stands in l twice
 --   below n l        every number of l is below n
---   among-append, distinct-snoc, below-append     of a longer list
+--   among-append, distinct-snoc, distinct-before, below-append     of a longer list
+--   below-take, below-drop                        of a part
 --   among-at, below-at                            what stands at an index is among them, and is below n
 --   distinct-le      distinct numbers that are all among others are no more than those
 --   distinct-bound   distinct numbers below n are at most n
@@ -13,13 +14,13 @@ use mathlib.Core.Bool.{Bool, true, false, cond, not, _&&_, _||_, false≢true}
 use mathlib.Core.Path.{_≡_, refl, sym, ap, ap₂, _∙_, subst}
 use mathlib.Core.List.{List, [], _∷_, _++_}
 use mathlib.Core.Logic.{⊎-elim}
-use Prim.Native.Nat.{ℕ, zero, suc, _+_, _<_, _≤_}
-use native.Mathlib.Nat.{eq-or-lt-of-le, le-of-suc-le-suc, le-step, lt-suc-self}
+use Prim.Native.Nat.{ℕ, zero, suc, _<_, _≤_}
+use native.Mathlib.Nat.{eq-or-lt-of-le, le-of-suc-le-suc}
 use native.Mathlib.Decide.{decLe}
 use native.Mathlib.Omega.{arith}
-use lib.Dec.{T, eqb, ltb, leb}
-use lib.ListN.{length, getD}
-use borrow.Author.Tests.{eq-eqb, ne-eqb, eqb-true, eqb-false, lt-ltb, ltb-true, le-leb, lt-leb}
+use lib.Dec.{eqb, ltb, leb}
+use lib.ListN.{length, getD, take, drop, take-append-drop}
+use borrow.Author.Tests.{eq-eqb, ne-eqb, eqb-true, eqb-false, lt-ltb, ltb-true, le-leb, lt-leb, not-true}
 use Rattle.lists.specs.Listed.{listed, listed-nil, listed-suc, listed-length}
 use Rattle.lists.specs.Every.{every, every-at, every-true, true-T, T-true}
 
@@ -101,17 +102,21 @@ pub below-cons : (n x : ℕ) (l : List ℕ) → below n (x ∷ l) ≡ true → (
 unfolding below
 below-cons n x l e = (ltb-true x n (and-left (ltb x n) (below n l) e), and-right (ltb x n) (below n l) e)
 
--- two tests that are not both true
+pub below-take : (n k : ℕ) (l : List ℕ) → below n l ≡ true → below n (take k l) ≡ true
+below-take n k l b =
+    and-left (below n (take k l)) (below n (drop k l)) (sym (below-append n (take k l) (drop k l)) ∙ ap (below n) (take-append-drop k l) ∙ b)
+
+pub below-drop : (n k : ℕ) (l : List ℕ) → below n l ≡ true → below n (drop k l) ≡ true
+below-drop n k l b =
+    and-right (below n (take k l)) (below n (drop k l)) (sym (below-append n (take k l) (drop k l)) ∙ ap (below n) (take-append-drop k l) ∙ b)
+
+-- two tests neither of which is true
 apart : (a b : Bool) → (a || b) ≡ false → (a ≡ false) × (b ≡ false)
 apart true b e = absurd (false≢true (sym e))
 apart false b e = (refl, e)
 
 eqb-flip : (x y : ℕ) → eqb x y ≡ false → eqb y x ≡ false
 eqb-flip x y e = ne-eqb y x (λ q. eqb-false x y e (sym q))
-
-not-true : (b : Bool) → not b ≡ true → b ≡ false
-not-true true e = sym e
-not-true false e = refl
 
 -- one number more at the end, that was not among them
 pub distinct-snoc : (l : List ℕ) (x : ℕ) → distinct l ≡ true → among x l ≡ false → distinct (l ++ (x ∷ [])) ≡ true
@@ -124,6 +129,15 @@ distinct-snoc (y ∷ l) x d a =
     (among-append y l (x ∷ [])
     ∙ ap₂ (λ b c. b || (c || false)) (not-true (among y l) (and-left (not (among y l)) (distinct l) d)) (eqb-flip y x (e .0))))
     (distinct-snoc l x (and-right (not (among y l)) (distinct l) d) (e .1))
+
+-- a number that stands between others is not among those before it
+pub distinct-before : (l : List ℕ) (x : ℕ) (m : List ℕ) → distinct (l ++ (x ∷ m)) ≡ true → among x l ≡ false
+unfolding distinct among
+distinct-before [] x m d = refl
+distinct-before (y ∷ l) x m d =
+    let e : among y (l ++ (x ∷ m)) ≡ false = not-true (among y (l ++ (x ∷ m))) (and-left (not (among y (l ++ (x ∷ m)))) (distinct (l ++ (x ∷ m))) d) in
+    let f : eqb x y ≡ false = apart (eqb x y) (among y m) (apart (among y l) (among y (x ∷ m)) (sym (among-append y l (x ∷ m)) ∙ e) .1) .0 in
+    ap₂ (λ b c. b || c) (eqb-flip x y f) (distinct-before l x m (and-right (not (among y (l ++ (x ∷ m)))) (distinct (l ++ (x ∷ m))) d))
 
 pub among-snoc : (l : List ℕ) (x : ℕ) → among x (l ++ (x ∷ [])) ≡ true
 unfolding among

@@ -3,10 +3,10 @@
 --   both a b      both tests pass; both-left, both-right, both-intro
 --   every n f     the test f passes at every number below n
 --   every-at      so it passes at each of them
---   every-true    and a test that passes at each of them passes
+--   every-true, every-false   a test that passes at each of them passes, and one that does not fails at one of them
 --   every₂, every₃   the same for pairs and triples
 --   true-T, T-true   a test that is true passes, and one that passes is true
-use mathlib.Core.Bool.{Bool, true, false}
+use mathlib.Core.Bool.{Bool, true, false, true≢false}
 use mathlib.Core.Path.{_≡_, refl, sym, subst}
 use mathlib.Core.Logic.{⊎-elim}
 use Prim.Native.Nat.{ℕ, zero, suc, _<_}
@@ -69,3 +69,13 @@ every-true (suc n) f h = step (f n) (h n (lt-suc-self n)) (every-true n f (λ k 
     step : (b : Bool) → b ≡ true → every n f ≡ true → both b (every n f) ≡ true
     step true e ih = ih
     step false e ih = e
+
+pub every-false : (n : ℕ) (f : ℕ → Bool) → every n f ≡ false → (k : ℕ) × (k < n) × (f k ≡ false)
+unfolding every
+every-false zero f e = absurd (true≢false e)
+every-false (suc n) f e = go (f n) refl e (every-false n f)
+  where
+    go : (b : Bool) → f n ≡ b → both b (every n f) ≡ false → (every n f ≡ false → (k : ℕ) × (k < n) × (f k ≡ false))
+        → (k : ℕ) × (k < suc n) × (f k ≡ false)
+    go true q t ih = let r = ih t in (r .0, le-step (r .1), r .2)
+    go false q t ih = (n, lt-suc-self n, q)

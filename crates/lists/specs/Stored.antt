@@ -2,7 +2,7 @@
 --
 --   stored-one       the next entry is stored
 --   stored-part      the next part is lent to a call, which leaves `part` in its place
-use mathlib.Core.Path.{_≡_, refl, sym, ap, _∙_}
+use mathlib.Core.Path.{_≡_, sym, ap, _∙_}
 use mathlib.Core.List.{List, [], _∷_, _++_, append-assoc}
 use Prim.Native.Nat.{ℕ, suc, _+_, _<_}
 use lib.ListN.{length, set, getD, take, drop}

@@ -1,0 +1,225 @@
+-- The two round trips of a capture.
+--
+--   full-row             a proper book with no place missing has 64 entries
+--   capture-length       and its capture has 2,117 + d bytes
+--   write-size, write-missing, write-accepted   the three cases of writing
+--   size-range, version-one, length-right, none-missing   what the checks of an accepted capture say
+--   open-written         its capture opens as that book: the same rate, list and row
+--   write-then-open      so writing, where it is accepted, and then opening gives the book again
+--   written-opened       the capture of the book that an accepted capture opens as is that capture
+--   open-then-write      so opening an accepted capture and then writing gives its bytes again
+use mathlib.Core.Bool.{Bool, true, false, not, _&&_}
+use mathlib.Core.Path.{_≡_, refl, sym, ap, ap₂, _∙_}
+use mathlib.Core.List.{List, [], _∷_, _++_}
+use Prim.Native.Nat.{ℕ, suc, _+_, _/_, _%_, _<_, _≤_}
+use native.Mathlib.Omega.{arith}
+use lib.Dec.{eqb, leb}
+use lib.ListN.{length, getD, drop, length-append, length-drop, take-append-drop}
+use lib.Seq.{take-at, drop-at, length-take-le, drop-drop}
+use borrow.Author.Tests.{eqb-true, eqb-false, eq-eqb, ne-eqb, le-leb, leb-true, not-false}
+use Rattle.refusals.specs.Refusal.{accepted, wrongSize, placeMissing}
+use Rattle.lists.specs.Distinct.{below, below-drop, below-at, distinct-bound, and-left, and-right, and-both}
+use Rattle.book.specs.Book.{places, Book, newBook, someMissing, Outcome}
+use Rattle.book.specs.Opening.{rising, fitDoubt}
+use Rattle.book.specs.Capture.{bodyLength, captureLength, rowBytes, recordsOf, captureOf}
+use Rattle.book.specs.Writing.{Filled, writeOf}
+use Rattle.book.specs.CaptureOpening.{rateIn, doubtIn, listIn, recordsIn, sizeFits, versionFits, lengthIn, lengthFits, openWith, openCaptureOf}
+use Rattle.book.specs.RowLaws.{placesOf, Proper, places-length, missing-count}
+use Rattle.book.specs.CaptureCases.{extended, row-delivered, open-checked, open-with, bookIn, Fit, capture-fit}
+use Rattle.book.specs.CaptureLaws.{row-bytes-length, records-row, row-records, records-length}
+
+-- ---- writing, then opening
+
+-- a proper book with no place missing has 64 entries
+pub full-row : (book : Book) → Proper book → someMissing (book .row) ≡ false → length (book .row) ≡ places
+full-row book proper m =
+    let a : length (placesOf (book .row)) ≤ places = distinct-bound places (placesOf (book .row)) (proper .apart) (proper .in-range) in
+    let b : places ≤ length (book .row) =
+    leb-true places (length (book .row))
+    (not-false (leb places (length (book .row))) (sym (missing-count (book .row) (proper .in-range) (proper .apart)) ∙ m)) in
+    omega (arith, places-length (book .row))
+
+pub list-short : (list : List ℕ) → fitDoubt list ≡ true → length list ≤ 8
+unfolding fitDoubt
+list-short list f = leb-true (length list) 8 (and-left (leb (length list) 8) (below places list && rising list) f)
+
+pub capture-length : (book : Book) → Proper book → someMissing (book .row) ≡ false
+    → length (captureOf book) ≡ captureLength (length (book .doubtful))
+unfolding captureOf
+capture-length book proper m =
+    omega (
+      arith,
+      length-append (book .doubtful) (rowBytes (book .row)),
+      row-bytes-length (book .row) (proper .all-wide),
+      full-row book proper m,
+    )
+
+-- what lies behind the five bytes of the head and the list
+behind : (v h l r e : ℕ) (rest : List ℕ) → drop (5 + e) (v ∷ h ∷ l ∷ r ∷ e ∷ rest) ≡ drop e rest
+behind v h l r e rest = let q : 5 + e ≡ suc (suc (suc (suc (suc e)))) = omega arith in rw q
+
+module _ (book : Book) (proper : Proper book) (m : someMissing (book .row) ≡ false) where
+  written-size : sizeFits (captureOf book) ≡ true
+  unfolding sizeFits
+  written-size =
+      let a : length (captureOf book) ≡ captureLength (length (book .doubtful)) = capture-length book proper m in
+      let b : length (book .doubtful) ≤ 8 = list-short (book .doubtful) (proper .list-fit) in
+      and-both (leb 2117 (length (captureOf book))) (leb (length (captureOf book)) 2125)
+      (le-leb 2117 (length (captureOf book)) (omega arith)) (le-leb (length (captureOf book)) 2125 (omega arith))
+
+  written-version : versionFits (captureOf book) ≡ true
+  unfolding versionFits captureOf
+  written-version = refl
+
+  written-length : lengthFits (captureOf book) ≡ true
+  unfolding lengthFits captureOf
+  written-length =
+      let a : length (captureOf book) ≡ captureLength (length (book .doubtful)) = capture-length book proper m in
+      and-both (eqb (lengthIn (captureOf book) + 3) (length (captureOf book)))
+      (eqb (lengthIn (captureOf book)) (bodyLength (length (book .doubtful))))
+      (eq-eqb (lengthIn (captureOf book) + 3) (length (captureOf book)) (omega arith))
+      (eq-eqb (lengthIn (captureOf book)) (bodyLength (length (book .doubtful))) (omega arith))
+
+  written-list : listIn (captureOf book) ≡ book .doubtful
+  unfolding captureOf
+  written-list = take-at (book .doubtful) (rowBytes (book .row)) (length (book .doubtful)) refl
+
+  written-records : recordsIn (captureOf book) ≡ book .row
+  unfolding captureOf
+  written-records =
+      ap (recordsOf places)
+      (behind 1 (bodyLength (length (book .doubtful)) / 256) (bodyLength (length (book .doubtful)) % 256) (book .rate)
+      (length (book .doubtful)) (book .doubtful ++ rowBytes (book .row))
+      ∙ drop-at (book .doubtful) (rowBytes (book .row)) (length (book .doubtful)) refl)
+      ∙ ap (λ n. recordsOf n (rowBytes (book .row))) (sym (full-row book proper m)) ∙ records-row (book .row) (proper .all-wide)
+
+  written-rate : rateIn (captureOf book) ≡ book .rate
+  unfolding captureOf
+  written-rate = refl
+
+  pub open-written : openCaptureOf (captureOf book) ≡ record { number = accepted; book = book }
+  unfolding extended newBook
+  open-written =
+      open-checked (captureOf book) written-size written-version written-length
+      ∙ ap₂ (λ r (l : List ℕ). openWith r l (recordsIn (captureOf book))) written-rate written-list
+      ∙ ap (openWith (book .rate) (book .doubtful)) written-records
+      ∙ open-with (book .rate) (book .doubtful) (book .row) (proper .rate-known) (proper .list-fit)
+      ∙ row-delivered (newBook (book .rate) (book .doubtful)) (book .row) (proper .in-range) (proper .apart)
+
+-- ---- the three cases of writing
+
+module _ (book : Book) (out : List ℕ) where
+  pub write-size : (length out ≡ captureLength (length (book .doubtful)) → ⊥) → writeOf book out ≡ record { number = wrongSize; bytes = out }
+  unfolding writeOf
+  write-size h = rw (ne-eqb (length out) (captureLength (length (book .doubtful))) h)
+
+  pub write-missing : length out ≡ captureLength (length (book .doubtful)) → someMissing (book .row) ≡ true
+      → writeOf book out ≡ record { number = placeMissing; bytes = out }
+  unfolding writeOf
+  write-missing h m = rw (eq-eqb (length out) (captureLength (length (book .doubtful))) h, m)
+
+  pub write-accepted : length out ≡ captureLength (length (book .doubtful)) → someMissing (book .row) ≡ false
+      → writeOf book out ≡ record { number = accepted; bytes = captureOf book }
+  unfolding writeOf
+  write-accepted h m = rw (eq-eqb (length out) (captureLength (length (book .doubtful))) h, m)
+
+  pub write-then-open : Proper book → writeOf book out .number ≡ accepted
+      → openCaptureOf (writeOf book out .bytes) ≡ record { number = accepted; book = book }
+  write-then-open proper n =
+      go (eqb (length out) (captureLength (length (book .doubtful)))) refl (someMissing (book .row)) refl
+    where
+      go : (a : Bool) → eqb (length out) (captureLength (length (book .doubtful))) ≡ a → (b : Bool) → someMissing (book .row) ≡ b
+          → openCaptureOf (writeOf book out .bytes) ≡ record { number = accepted; book = book }
+      go false e b m =
+          absurd
+          (omega (arith, sym (ap (λ (f : Filled). f .number) (write-size (eqb-false (length out) (captureLength (length (book .doubtful))) e))) ∙ n))
+      go true e true m =
+          absurd
+          (omega (arith, sym (ap (λ (f : Filled). f .number) (write-missing (eqb-true (length out) (captureLength (length (book .doubtful))) e) m)) ∙ n))
+      go true e false m =
+          ap (λ (f : Filled). openCaptureOf (f .bytes)) (write-accepted (eqb-true (length out) (captureLength (length (book .doubtful))) e) m)
+          ∙ open-written book proper m
+
+-- ---- opening, then writing
+
+-- what the first three checks say
+pub size-range : (bytes : List ℕ) → sizeFits bytes ≡ true → (2117 ≤ length bytes) × (length bytes ≤ 2125)
+unfolding sizeFits
+size-range bytes s = (
+  leb-true 2117 (length bytes) (and-left (leb 2117 (length bytes)) (leb (length bytes) 2125) s),
+  leb-true (length bytes) 2125 (and-right (leb 2117 (length bytes)) (leb (length bytes) 2125) s),
+)
+
+pub version-one : (bytes : List ℕ) → versionFits bytes ≡ true → getD bytes 0 0 ≡ 1
+unfolding versionFits
+version-one bytes v = eqb-true (getD bytes 0 0) 1 v
+
+pub length-right : (bytes : List ℕ) → lengthFits bytes ≡ true
+    → (lengthIn bytes + 3 ≡ length bytes) × (lengthIn bytes ≡ bodyLength (doubtIn bytes))
+unfolding lengthFits
+length-right bytes l =
+    let a = eqb (lengthIn bytes + 3) (length bytes) in
+    let b = eqb (lengthIn bytes) (bodyLength (doubtIn bytes)) in (
+      eqb-true (lengthIn bytes + 3) (length bytes) (and-left a b l),
+      eqb-true (lengthIn bytes) (bodyLength (doubtIn bytes)) (and-right a b l),
+    )
+
+-- the five bytes of the head, one by one
+head : (bytes : List ℕ) → 5 ≤ length bytes
+    → bytes ≡ getD bytes 0 0 ∷ getD bytes 1 0 ∷ getD bytes 2 0 ∷ getD bytes 3 0 ∷ getD bytes 4 0 ∷ drop 5 bytes
+head [] h = absurd (omega arith)
+head (v ∷ []) h = absurd (omega arith)
+head (v ∷ a ∷ []) h = absurd (omega arith)
+head (v ∷ a ∷ b ∷ []) h = absurd (omega arith)
+head (v ∷ a ∷ b ∷ r ∷ []) h = absurd (omega arith)
+head (v ∷ a ∷ b ∷ r ∷ e ∷ rest) h = refl
+
+-- an accepted capture has no place missing
+pub none-missing : (bytes : List ℕ) → Fit bytes → someMissing (recordsIn bytes) ≡ false
+unfolding bookIn
+none-missing bytes fit =
+    missing-count (recordsIn bytes) (fit .proper .in-range) (fit .proper .apart)
+    ∙ ap not (le-leb places (length (recordsIn bytes)) (omega (arith, records-length places (drop (5 + doubtIn bytes) bytes))))
+
+module _ (bytes : List ℕ) (b : below 256 bytes ≡ true) (fit : Fit bytes) where
+  list-long : length (listIn bytes) ≡ doubtIn bytes
+  list-long =
+      let r = length-right bytes (fit .length-fits) in
+      length-take-le (doubtIn bytes) (drop 5 bytes) (rw length-drop (omega arith))
+
+  rest-bytes : rowBytes (recordsIn bytes) ≡ drop (5 + doubtIn bytes) bytes
+  rest-bytes =
+      let r = length-right bytes (fit .length-fits) in
+      row-records places (drop (5 + doubtIn bytes) bytes) (length-drop (5 + doubtIn bytes) bytes ∙ omega arith)
+      (below-drop 256 (5 + doubtIn bytes) bytes b)
+
+  all-bytes : captureOf (bookIn bytes) ≡ bytes
+  unfolding captureOf bookIn
+  all-bytes =
+      let s = size-range bytes (fit .size-fits) in
+      let r = length-right bytes (fit .length-fits) in
+      let n : length (listIn bytes) ≡ doubtIn bytes = list-long in
+      let low : getD bytes 2 0 < 256 = below-at 256 bytes 2 b (omega arith) in
+      ap₂ (λ x (l : List ℕ). x ∷ l) (sym (version-one bytes (fit .version-fits)))
+      (ap₂ (λ x (l : List ℕ). x ∷ l) (omega arith)
+      (ap₂ (λ x (l : List ℕ). x ∷ l) (omega arith)
+      (ap₂ (λ x (l : List ℕ). rateIn bytes ∷ x ∷ l) n
+      (ap (λ (l : List ℕ). listIn bytes ++ l) (rest-bytes ∙ sym (drop-drop (doubtIn bytes) 5 bytes))
+      ∙ take-append-drop (doubtIn bytes) (drop 5 bytes)))))
+      ∙ sym (head bytes (omega arith))
+
+-- the capture of the book that an accepted capture opens as is that capture
+pub written-opened : (bytes : List ℕ) → below 256 bytes ≡ true → openCaptureOf bytes .number ≡ accepted
+    → captureOf (openCaptureOf bytes .book) ≡ bytes
+written-opened bytes b n = let fit = capture-fit bytes n in ap (λ (o : Outcome). captureOf (o .book)) (fit .opens) ∙ all-bytes bytes b fit
+
+pub open-then-write : (bytes out : List ℕ) → below 256 bytes ≡ true → openCaptureOf bytes .number ≡ accepted → length out ≡ length bytes
+    → writeOf (openCaptureOf bytes .book) out ≡ record { number = accepted; bytes = bytes }
+unfolding bookIn
+open-then-write bytes out b n e =
+    let fit = capture-fit bytes n in
+    let r = length-right bytes (fit .length-fits) in
+    let m : length (listIn bytes) ≡ doubtIn bytes = list-long bytes b fit in
+    ap (λ (o : Outcome). writeOf (o .book) out) (fit .opens)
+    ∙ write-accepted (bookIn bytes) out (omega arith) (none-missing bytes fit)
+    ∙ ap (λ (l : List ℕ). record { number = accepted; bytes = l }) (all-bytes bytes b fit)
