@@ -36,6 +36,17 @@ skip-cases p i = go (decLt i p)
         let l : p ≤ i = omega arith in
         inr (l, skip-high p i l)
 
+-- and keep their order
+pub skip-rising : (p i j : ℕ) → i < j → skip p i < skip p j
+skip-rising p i j h = go (skip-cases p i) (skip-cases p j)
+  where
+    go : ((i < p) × (skip p i ≡ i)) ⊎ ((p ≤ i) × (skip p i ≡ suc i)) → ((j < p) × (skip p j ≡ j)) ⊎ ((p ≤ j) × (skip p j ≡ suc j))
+        → skip p i < skip p j
+    go (inl a) (inl b) = omega (arith, a, b)
+    go (inl a) (inr b) = omega (arith, a, b)
+    go (inr a) (inl b) = omega (arith, a, b)
+    go (inr a) (inr b) = omega (arith, a, b)
+
 module _ {F : Type 0} (K : Field F) where
   open Field K using (_⊕_, _⊗_, 𝟘, 𝟙, inv)
 

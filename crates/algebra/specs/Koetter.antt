@@ -4,7 +4,7 @@
 --   Basis K s L W G l      in each class r < s no element of W leads below l r, and where l r ≤ L the row G r has that lead
 --   Discrepancies          Δ r is the value of the row G r, for the classes that are not spent (a class is spent where l r > L)
 --   Live, Pivot            not spent and of non-zero discrepancy; the class of least lead among these
---   cleared, raised        what the step makes of the other rows, and of the pivot's
+--   raised                 what the step makes of the pivot's row; the others are `cleared`
 --   Step                   the equations of rows and leads after a step at a pivot
 --   quiet                  where all discrepancies vanish, the basis of W is one of the kernel
 --   step                   rows and leads that meet the equations of a step at a pivot are a basis of the kernel
@@ -21,9 +21,9 @@ use native.Mathlib.Decide.{decLe, ℕ-discrete}
 use native.Mathlib.Omega.{arith}
 use Rattle.lists.specs.Residue.{residue-multiple, residue-gap}
 use Rattle.lists.specs.Smallest.{Smallest, search-below}
-use Rattle.algebra.specs.Field.{Field, add-self, zero-add, zero-mul, mul-ne-zero, inv-ne-zero, div-mul}
+use Rattle.algebra.specs.Field.{Field, add-self, zero-add, mul-ne-zero, inv-ne-zero}
 use Rattle.algebra.specs.Coefficients.{choose, choose-yes, choose-no, plus, scale, shift, Below, Lead, below-mono, below-scale, lead-shift, lead-plus, cancel, unit, lead-unit}
-use Rattle.algebra.specs.Subspace.{Space, Functional, Kernel, Common, _⊆_, kernel-space, val-zero, lift-lead, reduce, common-inside, on-common, common-start, common-more, common-less, common-space, values}
+use Rattle.algebra.specs.Subspace.{Space, Functional, Kernel, Common, _⊆_, kernel-space, val-zero, lift-lead, reduce, cleared, cleared-kernel, cleared-lead, common-inside, on-common, common-start, common-more, common-less, common-space, values}
 
 module _ {F : Type 0} (K : Field F) (s : ℕ) where
   open Field K using (_⊕_, _⊗_, 𝟘, 𝟙, inv)
@@ -32,10 +32,6 @@ module _ {F : Type 0} (K : Field F) (s : ℕ) where
     pub member : W c
     pub leads : Lead K c m
     pub class : m % s ≡ r
-
-  -- c, of value u, with the multiple of d, of value v, that has the value u too
-  abbrev pub cleared : F → F → (ℕ → F) → (ℕ → F) → ℕ → F
-  cleared u v c d = plus K c (scale K (u ⊗ inv v) d)
 
   -- c shifted, with a times itself: where a shift multiplies values by a, this has the value zero
   abbrev pub raised : F → (ℕ → F) → ℕ → F
@@ -62,7 +58,7 @@ module _ {F : Type 0} (K : Field F) (s : ℕ) where
       pub lead-pivot : l′ p ≡ l p + s
       pub lead-other : (r : ℕ) → r < s → r ≢ p → l′ r ≡ l r
       pub row-pivot : l′ p ≤ L → G′ p ≡ raised a (G p)
-      pub row-other : (r : ℕ) → r < s → r ≢ p → l r ≤ L → G′ r ≡ cleared (Δ r) (Δ p) (G r) (G p)
+      pub row-other : (r : ℕ) → r < s → r ≢ p → l r ≤ L → G′ r ≡ cleared K (Δ r) (Δ p) (G r) (G p)
 
     pub basis-same : {W W′ : (ℕ → F) → Type 0} {G : ℕ → ℕ → F} {l : ℕ → ℕ} → _⊆_ K W W′ → _⊆_ K W′ W → Basis W G l → Basis W′ G l
     basis-same into from B =
@@ -173,30 +169,22 @@ module _ {F : Type 0} (K : Field F) (s : ℕ) where
 
         -- another row, less the multiple of the pivot's row that has its value
         cleared-held : (r : ℕ) → r < s → r ≢ p → l r ≤ L
-            → Held (Kernel K W (D .Val)) (cleared (Δ r) (Δ p) (G r) (G p)) (l r) r
+            → Held (Kernel K W (D .Val)) (cleared K (Δ r) (Δ p) (G r) (G p)) (l r) r
         cleared-held r h ne u =
             record {
-              member = record {
-                member = S .sums (e .member) (S .multiples _ (base .member));
-                vanishes =
-                    subst (D .Val (cleared (Δ r) (Δ p) (G r) (G p)))
-                    (ap (λ x. Δ r ⊕ x) (div-mul K (Δ r) (Δ p) (P .passes .nonzero)) ∙ add-self K (Δ r))
-                    (D .val-plus (E .at r h u) (D .val-scale _ base-value));
-              };
-              leads = lead-plus K (e .leads) (small (K .same (Δ r) 𝟘));
+              member = cleared-kernel K S D (e .member) (base .member) (E .at r h u) base-value (P .passes .nonzero);
+              leads = cleared-lead K (e .leads) (base .leads) smaller;
               class = e .class;
             }
           where
             e : Held W (G r) (l r) r
             e = B .held r h u
 
-            small : Dec (Δ r ≡ 𝟘) → Below K (scale K (Δ r ⊗ inv (Δ p)) (G p)) (l r)
-            small (yes z) =
-                record { zero-from = λ k b. ap (λ x. (x ⊗ inv (Δ p)) ⊗ G p k) z ∙ ap (λ x. x ⊗ G p k) (zero-mul K (inv (Δ p))) ∙ zero-mul K (G p k) }
-            small (no z) =
+            smaller : Δ r ≢ 𝟘 → l p < l r
+            smaller z =
                 let le : l p ≤ l r = P .least r h (record { unspent = u; nonzero = z }) in
                 let other : l p ≢ l r = λ q. ne (sym (e .class) ∙ ap (λ x. x % s) (sym q) ∙ base .class) in
-                below-mono K (omega arith) (below-scale K _ (base .leads .above))
+                omega arith
 
         pub step : (G′ : ℕ → ℕ → F) (l′ : ℕ → ℕ) → Step (D .multiplier) p Δ G l G′ l′ → Basis (Kernel K W (D .Val)) G′ l′
         step G′ l′ T =
@@ -262,7 +250,7 @@ module _ {F : Type 0} (K : Field F) (s : ℕ) where
           at-pivot Δ E p P =
               let row : ℕ → ℕ → F = λ r.
               choose (ℕ-discrete r p) (raised (D .multiplier) (G p))
-              (cleared (Δ r) (Δ p) (G r) (G p)) in
+              (cleared K (Δ r) (Δ p) (G r) (G p)) in
               let lead : ℕ → ℕ = λ r. choose (ℕ-discrete r p) (l p + s) (l r) in (
                 row,
                 lead,

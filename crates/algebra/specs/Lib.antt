@@ -9,3 +9,4 @@ pub mod Examples
 pub mod Power
 pub mod Weighted
 pub mod Distance
+pub mod Dimension

@@ -8,17 +8,18 @@
 --   restrict, on-common a functional on W is one on every W′ inside W, so on every common kernel
 --   kernel-space, common-space    kernels are spaces again
 --   common-start, common-more, common-less, common-fewer   no functional; one more, there and back; some of them
+--   cleared             c with the multiple of d that takes its value off: cleared-kernel, cleared-lead say what that gives
 --   val-zero            the value of zero is zero
 --   lift-lead           an element with lead l gives one with lead l + q·s, for every q
 --   reduce              a part of W that has every lead of W below a bound holds all of W below that bound
-use mathlib.Core.Path.{_≡_, sym, _∙_, fun-ext, subst}
+use mathlib.Core.Path.{_≡_, sym, ap, _∙_, fun-ext, subst}
 use mathlib.Core.List.{List, [], List·Memᴰ, List·Memᴰ·not-nil}
-use mathlib.Core.Logic.{_⊎_, ⊎-elim}
+use mathlib.Core.Logic.{_≢_, _⊎_, ⊎-elim}
 use Prim.Native.Nat.{ℕ, zero, suc, _+_, _*_, _<_, _≤_}
 use native.Mathlib.Nat.{suc-mul}
 use native.Mathlib.Omega.{arith}
-use Rattle.algebra.specs.Field.{Field, add-zero, mul-zero, zero-mul, ring}
-use Rattle.algebra.specs.Coefficients.{plus, scale, shift, Below, Lead, below-pred, lead-shift, cancel}
+use Rattle.algebra.specs.Field.{Field, add-zero, add-self, mul-zero, zero-mul, div-mul, ring}
+use Rattle.algebra.specs.Coefficients.{plus, scale, shift, Below, Lead, below-mono, below-pred, below-scale, lead-shift, lead-plus, cancel}
 
 module _ {F : Type 0} (K : Field F) where
   open Field K using (_⊕_, _⊗_, 𝟘, inv)
@@ -43,6 +44,19 @@ module _ {F : Type 0} (K : Field F) where
   pub record Kernel (W : (ℕ → F) → Type 0) (Val : (ℕ → F) → F → Type 0) (c : ℕ → F) : Type 0 where
     pub member : W c
     pub vanishes : Val c 𝟘
+
+  -- c, of value u, with the multiple of d, of value v, that has the value u too
+  abbrev pub cleared : F → F → (ℕ → F) → (ℕ → F) → ℕ → F
+  cleared u v c d = plus K c (scale K (u ⊗ inv v) d)
+
+  -- it keeps its lead, where it is zero already or d leads below it
+  pub cleared-lead : {u v : F} {c d : ℕ → F} {l m : ℕ} → Lead K c l → Lead K d m → (u ≢ 𝟘 → m < l) → Lead K (cleared u v c d) l
+  cleared-lead {u} {v} {c} {d} {l} {m} p q h = lead-plus K p (small (K .same u 𝟘))
+    where
+      small : Dec (u ≡ 𝟘) → Below K (scale K (u ⊗ inv v) d) l
+      small (yes z) =
+          record { zero-from = λ k b. ap (λ x. (x ⊗ inv v) ⊗ d k) z ∙ ap (λ x. x ⊗ d k) (zero-mul K (inv v)) ∙ zero-mul K (d k) }
+      small (no z) = below-mono K (h z) (below-scale K _ (q .above))
 
   abbrev pub _⊆_ : ((ℕ → F) → Type 0) → ((ℕ → F) → Type 0) → Type 0
   W′ ⊆ W = (c : ℕ → F) → W′ c → W c
@@ -79,6 +93,14 @@ module _ {F : Type 0} (K : Field F) where
                 member = S .shifts (h .member);
                 vanishes = subst (D .Val (shift K s c)) (mul-zero K (D .multiplier)) (D .val-shift (h .vanishes));
               };
+        }
+
+    pub cleared-kernel : {c d : ℕ → F} {u v : F} → W c → W d → D .Val c u → D .Val d v → v ≢ 𝟘 → Kernel W (D .Val) (cleared u v c d)
+    cleared-kernel {c} {d} {u} {v} hc hd p q ne =
+        record {
+          member = S .sums hc (S .multiples _ hd);
+          vanishes =
+              subst (D .Val (cleared u v c d)) (ap (λ x. u ⊕ x) (div-mul K u v ne) ∙ add-self K u) (D .val-plus p (D .val-scale _ q));
         }
 
     pub val-zero : {c : ℕ → F} → W c → ((k : ℕ) → c k ≡ 𝟘) → D .Val c 𝟘

@@ -22,7 +22,7 @@ use Rattle.algebra.specs.Subspace.{Space}
 use Rattle.algebra.specs.Koetter.{Basis, start}
 use Rattle.hermitian.specs.Present.{Present}
 use Rattle.hermitian.specs.Ring.{Fn}
-use Rattle.hermitian.specs.Keys.{plain, timesZ, IsKey, isKey, decKey, isKey-x, first, first-key, first-class, first-least}
+use Rattle.hermitian.specs.Keys.{plain, timesZ, IsKey, isKey, decKey, even-key, odd-key, isKey-x, first, first-key, first-class, first-least}
 
 module _ {F : Type 0} (K : Field F) where
   open Field K using (_⊕_, _⊗_, 𝟘)
@@ -195,8 +195,8 @@ module _ {F : Type 0} (K : Field F) where
         }
       where
         none : (k : ℕ) → ¬ IsKey w M k → Dec (k % 2 ≡ 0) → Dec (M ≤ k / 2) → joined M a b k ≡ 𝟘
-        none k h (yes z) l = joined-even M a b k z ∙ f .absent (k / 2) (λ p. h (isKey (plain (k / 2)) p (omega arith)))
-        none k h (no z) (yes l) = joined-odd M a b k z l ∙ g .absent (k / 2 - M) (λ p. h (isKey (timesZ (k / 2 - M)) p (omega arith)))
+        none k h (yes z) l = joined-even M a b k z ∙ f .absent (k / 2) (λ p. h (even-key z p))
+        none k h (no z) (yes l) = joined-odd M a b k z l ∙ g .absent (k / 2 - M) (λ p. h (odd-key z l p))
         none k h (no z) (no l) = joined-low M a b k z l
 
     pub interpolant-unit : {k : ℕ} → IsKey w M k → Interpolant (unit K k)

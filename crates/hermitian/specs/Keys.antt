@@ -8,6 +8,7 @@
 --   key-before, before-key   keys are ordered as the terms are
 --   byX, key-x          multiplication by x adds 2w to the key
 --   IsKey w M k         k is the key of a term whose order is present
+--   key-even, even-key, key-odd, odd-key   even keys are those without z, odd ones those with z
 --   decKey, isKey-x     key or not; with a key k, k + 2w is one
 --   firstTerm w M r     the power of y in class r, r < 2w, with or without z; `first w M r` is its key
 --   first-even, first-odd    which power of y it is
@@ -91,27 +92,34 @@ key-x w M (timesZ o) = omega arith
 pub data IsKey (w M k : ℕ) : Type 0 where
   isKey : (t : Term) → Present w (monomialOrder t) → k ≡ key M t → IsKey w M k
 
+-- an even key is that of a term without z, an odd one that of a term with z
+pub key-even : {w M k : ℕ} → k % 2 ≡ 0 → IsKey w M k → Present w (k / 2)
+key-even {w} {M} {k} z (isKey (plain o) p e) =
+    let q : o ≡ k / 2 = omega arith in
+    subst (Present w) q p
+key-even {w} {M} {k} z (isKey (timesZ o) p e) = absurd (omega arith)
+
+pub key-odd : {w M k : ℕ} → ¬ (k % 2 ≡ 0) → IsKey w M k → (M ≤ k / 2) × Present w (k / 2 - M)
+key-odd {w} {M} {k} z (isKey (plain o) p e) = absurd (omega arith)
+key-odd {w} {M} {k} z (isKey (timesZ o) p e) =
+    let q : o ≡ k / 2 - M = omega arith in
+    (omega arith, subst (Present w) q p)
+
+pub even-key : {w M k : ℕ} → k % 2 ≡ 0 → Present w (k / 2) → IsKey w M k
+even-key {w} {M} {k} z p = isKey (plain (k / 2)) p (omega arith)
+
+pub odd-key : {w M k : ℕ} → ¬ (k % 2 ≡ 0) → M ≤ k / 2 → Present w (k / 2 - M) → IsKey w M k
+odd-key {w} {M} {k} z l p = isKey (timesZ (k / 2 - M)) p (omega arith)
+
 pub decKey : (w M k : ℕ) → Dec (IsKey w M k)
 decKey w M k = go (ℕ-discrete (k % 2) 0) (decLe M (k / 2)) (decPresent w (k / 2)) (decPresent w (k / 2 - M))
   where
-    even : k % 2 ≡ 0 → IsKey w M k → Present w (k / 2)
-    even z (isKey (plain o) p e) =
-        let q : o ≡ k / 2 = omega arith in
-        subst (Present w) q p
-    even z (isKey (timesZ o) p e) = absurd (omega arith)
-
-    odd : ¬ (k % 2 ≡ 0) → IsKey w M k → (M ≤ k / 2) × Present w (k / 2 - M)
-    odd z (isKey (plain o) p e) = absurd (omega arith)
-    odd z (isKey (timesZ o) p e) =
-        let q : o ≡ k / 2 - M = omega arith in
-        (omega arith, subst (Present w) q p)
-
     go : Dec (k % 2 ≡ 0) → Dec (M ≤ k / 2) → Dec (Present w (k / 2)) → Dec (Present w (k / 2 - M)) → Dec (IsKey w M k)
-    go (yes z) l (yes p) q = yes (isKey (plain (k / 2)) p (omega arith))
-    go (yes z) l (no p) q = no (λ h. p (even z h))
-    go (no z) (no l) p q = no (λ h. l (odd z h .0))
-    go (no z) (yes l) p (yes q) = yes (isKey (timesZ (k / 2 - M)) q (omega arith))
-    go (no z) (yes l) p (no q) = no (λ h. q (odd z h .1))
+    go (yes z) l (yes p) q = yes (even-key z p)
+    go (yes z) l (no p) q = no (λ h. p (key-even z h))
+    go (no z) (no l) p q = no (λ h. l (key-odd z h .0))
+    go (no z) (yes l) p (yes q) = yes (odd-key z l q)
+    go (no z) (yes l) p (no q) = no (λ h. q (key-odd z h .1))
 
 -- the power of y for which y^i z lies in class 2j + 1
 unfoldable pub zPower : ℕ → ℕ → ℕ → ℕ

@@ -12,3 +12,4 @@ pub mod Orders
 pub mod Keys
 pub mod Interpolant
 pub mod Interpolation
+pub mod Size

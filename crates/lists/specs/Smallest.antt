@@ -3,7 +3,7 @@
 --   Smallest n P value r   r is below n and passes P, and no number below n that passes has a smaller value
 --   search-below           either no number below n passes, or one of them is smallest
 --   smallest-exists        where one below n passes, one of them is smallest
-use mathlib.Core.Path.{sym, subst}
+use mathlib.Core.Path.{_≡_, sym, subst}
 use mathlib.Core.Logic.{_⊎_, inl, inr, ⊎-elim}
 use Prim.Native.Nat.{ℕ, zero, suc, _<_, _≤_}
 use native.Mathlib.Nat.{le-refl, le-step, lt-suc-self, eq-or-lt-of-le, le-of-suc-le-suc, le-trans}
