@@ -11,7 +11,7 @@ use mathlib.Core.Path.{_≡_, sym, _∙_}
 use mathlib.Core.Logic.{_≢_}
 use Prim.Native.Nat.{ℕ, zero, suc, _+_, _<_, _≤_}
 use native.Mathlib.Omega.{arith}
-use Rattle.lists.specs.Count.{count, count-nil, count-suc, count-opposite, one-more-yes, one-more-no, decNot, chosen}
+use Rattle.lists.specs.Chosen.{count, count-nil, count-suc, count-opposite, one-more-yes, one-more-no, decNot, chosen}
 use Rattle.algebra.specs.Field.{Field}
 
 module _ {F : Type 0} (K : Field F) where

@@ -2,18 +2,18 @@
 --
 --   Radius w M T n       2T + M + g < n: so many wrong values can be repaired
 --   Near K w M T n x y t f    f is a function of order at most M whose values differ from t in at most T of n points
---   ValZ K w px py z q r v    Q = q + r·z has the value v at the point (px, py) and z
---   Through K w n x y t q r   Q is zero at each point (x i, y i) and t i, i < n
+--   Vanishes K w px py z q r  Q = q + r·z is zero at the point (px, py) and z
+--   PassesThrough K w n x y t q r   Q vanishes at each point (x i, y i) and t i, i < n
 --   Small K w M L q r    q and r are functions of orders at most L + M and L: the key of Q is at most 2(L + M) + 1
 --   decoding             any small Q through the word, L = T + g, has q = f·r,
 --   decoding-lead        and if it is not zero, r has a lead
 --   interpolant          there is such a Q that is not zero, so the least Q is small
 --   near-unique          at most one function of order at most M is within T of a word
-use mathlib.Core.Path.{_≡_, sym, ap, ap₂, _∙_, fun-ext, subst}
+use mathlib.Core.Path.{_≡_, sym, ap, _∙_, fun-ext, subst}
 use mathlib.Core.Logic.{_≢_, ⊎-elim}
 use Prim.Native.Nat.{ℕ, suc, _+_, _*_, _<_, _≤_}
 use native.Mathlib.Omega.{arith}
-use Rattle.algebra.specs.Field.{Field, add-zero, mul-zero, add-self, add-cancel}
+use Rattle.algebra.specs.Field.{Field, mul-zero, add-self, add-cancel}
 use Rattle.algebra.specs.Sum.{sum}
 use Rattle.algebra.specs.Coefficients.{plus, Below, Lead, below-mono, below-plus, zero-or-lead}
 use Rattle.algebra.specs.Distance.{agreeing, differing, agree-or-differ, Agreement, agreement, Difference, difference, differing-comm, differing-triangle}
@@ -39,15 +39,14 @@ module _ {F : Type 0} (K : Field F) (w : ℕ) where
     pub val : (i : ℕ) → i < n → Val K w (x i) (y i) f (value i)
     pub few : differing K n value t ≤ T
 
-  pub record ValZ (px py z : F) (q r : ℕ → F) (v : F) : Type 0 where
-    pub plain : F
-    pub withZ : F
-    pub val-plain : Val K w px py q plain
-    pub val-withZ : Val K w px py r withZ
-    pub together : plain ⊕ z ⊗ withZ ≡ v
+  -- Q0's value is z times Q1's, so that Q0 + Q1 z is zero there
+  pub record Vanishes (px py z : F) (q r : ℕ → F) : Type 0 where
+    pub value : F
+    pub val-withZ : Val K w px py r value
+    pub val-plain : Val K w px py q (z ⊗ value)
 
-  abbrev pub Through : ℕ → (ℕ → F) → (ℕ → F) → (ℕ → F) → (ℕ → F) → (ℕ → F) → Type 0
-  Through n x y t q r = (i : ℕ) → i < n → ValZ (x i) (y i) (t i) q r 𝟘
+  abbrev pub PassesThrough : ℕ → (ℕ → F) → (ℕ → F) → (ℕ → F) → (ℕ → F) → (ℕ → F) → Type 0
+  PassesThrough n x y t q r = (i : ℕ) → i < n → Vanishes (x i) (y i) (t i) q r
 
   pub record Small (M L : ℕ) (q r : ℕ → F) : Type 0 where
     pub fn-plain : Fn K w q
@@ -57,7 +56,7 @@ module _ {F : Type 0} (K : Field F) (w : ℕ) where
 
   module _ (two : 2 ≤ w) {M T n : ℕ} {x y : ℕ → F} (p : Points K w n x y) {t f : ℕ → F} (near : Near M T n x y t f) where
     -- q + f·r vanishes wherever the word has f's value, at more places than its lead allows
-    pub decoding : Radius w M T n → {q r : ℕ → F} → Small M (T + genus w) q r → Through n x y t q r → q ≡ product K w (suc M) f r
+    pub decoding : Radius w M T n → {q r : ℕ → F} → Small M (T + genus w) q r → PassesThrough n x y t q r → q ≡ product K w (suc M) f r
     decoding radius {q} {r} s h =
         fun-ext
         (λ o. add-cancel K (q o) (product K w (suc M) f r o)
@@ -80,11 +79,11 @@ module _ {F : Type 0} (K : Field F) (w : ℕ) where
             let k : ℕ = A .at i in
             let b : k < n = A .below i l in
             let e = h k b in
-            weighted-is K (ap (λ z. e .plain ⊕ z ⊗ e .withZ) (A .equal i l) ∙ e .together)
+            weighted-is K (ap (λ z. t k ⊗ e .value ⊕ z ⊗ e .value) (A .equal i l) ∙ add-self K _)
             (weighted-plus K (e .val-plain)
             (val-product K w two (x k) (y k) (p .on k b) (suc M) (near .order) (near .val k b) (s .fn-withZ) (e .val-withZ)))
 
-    pub decoding-lead : Radius w M T n → {q r : ℕ → F} → Small M (T + genus w) q r → Through n x y t q r
+    pub decoding-lead : Radius w M T n → {q r : ℕ → F} → Small M (T + genus w) q r → PassesThrough n x y t q r
         → (((o : ℕ) → (q o ≡ 𝟘) × (r o ≡ 𝟘)) → ⊥) → (l : ℕ) × (l < suc (T + genus w)) × Lead K r l
     decoding-lead radius {q} {r} s h ne =
         ⊎-elim (λ z. absurd (ne (λ o. (no-plain z o, z o)))) (λ l. l) (zero-or-lead K (suc (T + genus w)) (s .order-withZ))
@@ -95,11 +94,11 @@ module _ {F : Type 0} (K : Field F) (w : ℕ) where
             vanishing K w two {M = T + genus w + M} (omega (arith, radius)) p (s .fn-plain) (s .order-plain)
             (λ i l.
             let e = h i l in
-            let v : e .withZ ≡ 𝟘 = weighted-unique K (e .val-withZ) (weighted-by K (fun-ext z) (weighted-zero K _)) in
-            weighted-is K (sym (add-zero K _) ∙ ap (λ b. e .plain ⊕ b) (sym (ap (λ b. t i ⊗ b) v ∙ mul-zero K (t i))) ∙ e .together) (e .val-plain))
+            let v : e .value ≡ 𝟘 = weighted-unique K (e .val-withZ) (weighted-by K (fun-ext z) (weighted-zero K _)) in
+            weighted-is K (ap (λ b. t i ⊗ b) v ∙ mul-zero K (t i)) (e .val-plain))
 
     -- E·z + f·E, with E a locator of the wrong places
-    pub interpolant : (q : ℕ → F) × (r : ℕ → F) × (Small M (T + genus w) q r) × (Through n x y t q r) × ((o : ℕ) × (r o ≢ 𝟘))
+    pub interpolant : (q : ℕ → F) × (r : ℕ → F) × (Small M (T + genus w) q r) × (PassesThrough n x y t q r) × ((o : ℕ) × (r o ≢ 𝟘))
     interpolant = (product K w (suc M) f E, E, small, (λ i l. through i l (K .same (near .value i) (t i))), (L .at, L .ne))
       where
         D : Difference K n (near .value) t
@@ -126,14 +125,14 @@ module _ {F : Type 0} (K : Field F) (w : ℕ) where
               order-withZ = E-order;
             }
 
-        through : (i : ℕ) → i < n → Dec (near .value i ≡ t i) → ValZ (x i) (y i) (t i) (product K w (suc M) f E) E 𝟘
+        through : (i : ℕ) → i < n → Dec (near .value i ≡ t i) → Vanishes (x i) (y i) (t i) (product K w (suc M) f E) E
         through i l d =
             record {
-              plain = near .value i ⊗ v;
-              withZ = v;
-              val-plain = val-product K w two (x i) (y i) (p .on i l) (suc M) (near .order) (near .val i l) (L .fn) at-v;
+              value = v;
               val-withZ = at-v;
-              together = zero-sum d;
+              val-plain =
+                  weighted-is K (right d)
+                  (val-product K w two (x i) (y i) (p .on i l) (suc M) (near .order) (near .val i l) (L .fn) at-v);
             }
           where
             v : F
@@ -142,12 +141,12 @@ module _ {F : Type 0} (K : Field F) (w : ℕ) where
             at-v : Val K w (x i) (y i) E v
             at-v = weighted-total K (monomial K w (x i) (y i)) (suc (T + genus w)) E-order
 
-            zero-sum : Dec (near .value i ≡ t i) → near .value i ⊗ v ⊕ t i ⊗ v ≡ 𝟘
-            zero-sum (yes e) = ap (λ z. z ⊗ v ⊕ t i ⊗ v) e ∙ add-self K (t i ⊗ v)
-            zero-sum (no e) =
+            right : Dec (near .value i ≡ t i) → near .value i ⊗ v ≡ t i ⊗ v
+            right (yes e) = ap (λ z. z ⊗ v) e
+            right (no e) =
                 let c = D .covers i l e in
                 let z : v ≡ 𝟘 = weighted-unique K at-v (subst (λ k. Val K w (x k) (y k) E 𝟘) (c .2) (L .vanishes (c .0) (c .1))) in
-                ap₂ (λ a b. a ⊕ b) (ap (λ a. near .value i ⊗ a) z ∙ mul-zero K _) (ap (λ a. t i ⊗ a) z ∙ mul-zero K _) ∙ add-zero K 𝟘
+                ap (λ a. near .value i ⊗ a) z ∙ mul-zero K _ ∙ sym (ap (λ a. t i ⊗ a) z ∙ mul-zero K _)
 
     pub near-unique : Radius w M T n → {g : ℕ → F} → Near M T n x y t g → f ≡ g
     near-unique radius {g} other =

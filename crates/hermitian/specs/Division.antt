@@ -17,7 +17,7 @@ use Rattle.hermitian.specs.Present.{Present, decPresent, genus}
 use Rattle.hermitian.specs.Ring.{Fn, timesMonomial, timesMonomial-lead}
 use Rattle.hermitian.specs.Product.{product, product-nil, product-suc, below-product}
 use Rattle.hermitian.specs.Points.{Points}
-use Rattle.hermitian.specs.Decoding.{Radius, Near, Small, Through, decoding}
+use Rattle.hermitian.specs.Decoding.{Radius, Near, Small, PassesThrough, decoding}
 
 module _ {F : Type 0} (K : Field F) (w l : ℕ) (r : ℕ → F) where
   open Field K using (_⊕_, _⊗_, 𝟘, inv)
@@ -104,6 +104,6 @@ module _ {F : Type 0} (K : Field F) (w l : ℕ) (r : ℕ → F) where
 module _ {F : Type 0} (K : Field F) (w : ℕ) where
   -- 4.7 and 4.8 together: what the decoder finds
   pub repaired : 2 ≤ w → {M T n : ℕ} {x y t f : ℕ → F} → Points K w n x y → Near K w M T n x y t f → Radius w M T n
-      → {q r : ℕ → F} {l : ℕ} → Small K w M (T + genus w) q r → Through K w n x y t q r → Lead K r l → quotient K w l r M q ≡ f
+      → {q r : ℕ → F} {l : ℕ} → Small K w M (T + genus w) q r → PassesThrough K w n x y t q r → Lead K r l → quotient K w l r M q ≡ f
   repaired two p near radius {q} {r} {l} s h lead =
       division K w l r lead (near .fn) (near .order) (decoding K w two p near radius s h)

@@ -3,28 +3,35 @@
 --   Four, four        the elements 0, 1, α and α + 1 = α², and the field that they form
 --   eight             the eight points of the curve with w = 2
 --   f, word           the function x, of order M = 2, and its values at the eight points, two of them changed
+--   samples, places   the points with the word's values, listed
 --   f-near            f is within T = 2 of the word
 --   radius            2·2 + 2 + genus 2 < 8
---   f-repaired        so f is what division finds from any small Q through the word that is not zero,
---   f-found           and there is such a Q
+--   f-repaired        so f is what division finds from the least Q through the word,
+--   f-found           and there is a least Q, with Q1 not zero
 use mathlib.Core.Bool.{Bool}
+use mathlib.Core.List.{List, [], _∷_}
 use mathlib.Core.Path.{_≡_, refl, sym, ap, ap₂, _∙_, subst}
 use mathlib.Core.Logic.{_≢_}
 use Prim.Native.Nat.{ℕ, zero, suc, _+_, _*_, _/_, _%_, _≤_}
 use native.Mathlib.Decide.{map-dec, ℕ-discrete}
 use native.Mathlib.Omega.{arith}
+use lib.ListN.{getD}
 use lib.Dec.{T, eqb, eqb→eq}
 use Rattle.lists.specs.Every.{both, both-left, both-right, every, every-at}
 use Rattle.algebra.specs.Field.{Field, mul-one}
 use Rattle.algebra.specs.Power.{pow, pow-nil, pow-one}
 use Rattle.algebra.specs.Coefficients.{unit, lead-unit, Lead}
+use Rattle.algebra.specs.Least.{Least}
 use Rattle.algebra.specs.Distance.{differing, differing-nil, differing-suc-same, differing-suc-le-suc}
 use Rattle.hermitian.specs.Present.{genus}
 use Rattle.hermitian.specs.Ring.{fn-unit}
 use Rattle.hermitian.specs.Value.{Val, monomial, val-unit}
-use Rattle.hermitian.specs.Points.{Points}
-use Rattle.hermitian.specs.Decoding.{Radius, Near, Small, Through, interpolant, decoding-lead}
-use Rattle.hermitian.specs.Division.{quotient, repaired}
+use Rattle.hermitian.specs.Points.{Points, points-some}
+use Rattle.hermitian.specs.Decoding.{Radius, Near}
+use Rattle.hermitian.specs.Division.{quotient}
+use Rattle.hermitian.specs.Interpolant.{withoutZ, withZ}
+use Rattle.hermitian.specs.Interpolation.{Sample, Through}
+use Rattle.hermitian.specs.Repair.{xAt, yAt, zAt, near-least, least-withZ, least-repairs}
 
 pub data Four : Type 0 where
   o i a b : Four
@@ -185,30 +192,55 @@ monomial-x : (x y : Four) → monomial four 2 x y 2 ≡ x
 unfolding monomial four
 monomial-x x y = ap₂ productOf (pow-one four x) (pow-nil four y) ∙ mul-one four x
 
-wrong-two : differing four 8 px word ≤ 2
-unfolding word
+-- the eight points with the word's values, in a list
+pub samples : ℕ → Sample four 2
+samples n = record { x = px (n % 8); y = py (n % 8); z = word (n % 8); on = eight .on (n % 8) (omega arith) }
+
+abbrev pub places : List ℕ
+places = 0 ∷ 1 ∷ 2 ∷ 3 ∷ 4 ∷ 5 ∷ 6 ∷ 7 ∷ []
+
+abbrev pub x : ℕ → Four
+x = xAt four 2 2 samples 0 places
+
+abbrev pub y : ℕ → Four
+y = yAt four 2 2 samples 0 places
+
+abbrev pub z : ℕ → Four
+z = zAt four 2 2 samples 0 places
+
+inOrder : ℕ → Bool
+inOrder n = eqb (getD places n 0 % 8) n
+
+pub points : Points four 2 8 x y
+unfolding samples inOrder every
+points =
+    points-some four 2 8 (λ n. getD places n 0 % 8) (λ n l. omega arith)
+    (λ m n l h. omega (arith, eqb→eq _ m (every-at 8 inOrder tt m (omega arith)), eqb→eq _ n (every-at 8 inOrder tt n h))) eight
+
+wrong-two : differing four 8 x z ≤ 2
+unfolding word samples
 wrong-two =
     omega (
       arith,
-      differing-nil four px word,
-      differing-suc-le-suc four 0 px word,
-      differing-suc-same four 1 px word refl,
-      differing-suc-same four 2 px word refl,
-      differing-suc-same four 3 px word refl,
-      differing-suc-same four 4 px word refl,
-      differing-suc-le-suc four 5 px word,
-      differing-suc-same four 6 px word refl,
-      differing-suc-same four 7 px word refl,
+      differing-nil four x z,
+      differing-suc-le-suc four 0 x z,
+      differing-suc-same four 1 x z refl,
+      differing-suc-same four 2 x z refl,
+      differing-suc-same four 3 x z refl,
+      differing-suc-same four 4 x z refl,
+      differing-suc-le-suc four 5 x z,
+      differing-suc-same four 6 x z refl,
+      differing-suc-same four 7 x z refl,
     )
 
-pub f-near : Near four 2 2 2 8 px py word f
+pub f-near : Near four 2 2 2 8 x y z f
 unfolding f
 f-near =
     record {
       fn = fn-unit four 2 2 (omega arith);
       order = lead-unit four 2 .above;
-      value = px;
-      val = λ n l. subst (λ v. Val four 2 (px n) (py n) (unit four 2) v) (monomial-x (px n) (py n)) (val-unit four 2 (omega arith) (px n) (py n) 2);
+      value = x;
+      val = λ n l. subst (λ v. Val four 2 (x n) (y n) (unit four 2) v) (monomial-x (x n) (y n)) (val-unit four 2 (omega arith) (x n) (y n) 2);
       few = wrong-two;
     }
 
@@ -216,14 +248,12 @@ pub radius : Radius 2 2 2 8
 unfolding genus
 radius = omega arith
 
--- the genus is 1, so that T + g is 3
-pub f-repaired : {q r : ℕ → Four} {l : ℕ} → Small four 2 2 3 q r → Through four 2 8 px py word q r → Lead four r l → quotient four 2 l r 2 q ≡ f
-unfolding genus
-f-repaired s h lead = repaired four 2 (omega arith) eight f-near radius s h lead
+pub f-repaired : {c : ℕ → Four} {l m : ℕ} → Least four (Through four 2 2 samples places) c l → Lead four (withZ four 2 c) m
+    → quotient four 2 m (withZ four 2 c) 2 (withoutZ four c) ≡ f
+f-repaired = least-repairs four 2 2 samples 0 places (omega arith) points f-near radius
 
-pub f-found : (q : ℕ → Four) × (r : ℕ → Four) × (l : ℕ) × Small four 2 2 3 q r × Through four 2 8 px py word q r × Lead four r l
-unfolding genus
+pub f-found : (c : ℕ → Four) × (l : ℕ) × (m : ℕ) × Least four (Through four 2 2 samples places) c l × Lead four (withZ four 2 c) m
 f-found =
-    let Q = interpolant four 2 (omega arith) eight f-near in
-    let L = decoding-lead four 2 (omega arith) eight f-near radius (Q .2) (Q .3) (λ z. Q .4 .1 (z (Q .4 .0) .1)) in
-    (Q .0, Q .1, L .0, Q .2, Q .3, L .2)
+    let Q = near-least four 2 2 samples 0 places (omega arith) points f-near in
+    let L = least-withZ four 2 2 samples 0 places (omega arith) points f-near radius (Q .2) in
+    (Q .0, Q .1, L .0, Q .2, L .2)

@@ -130,7 +130,7 @@ module _ {F : Type 0} (K : Field F) where
         (without-joined _ _ ∙ sym (without-shift w (joined M a b) ∙ ap (shift K w) (without-joined a b)))
         (with-joined _ _ ∙ sym (with-shift w (joined M a b) (gap-joined a b) ∙ ap (shift K w) (with-joined a b)))
 
-    pub below-joined : {a b : ℕ → F} {m n : ℕ} (N : ℕ) → 2 * m ≤ N → 2 * (n + M) + 1 ≤ N → Below K a m → Below K b n → Below K (joined M a b) N
+    pub below-joined : {a b : ℕ → F} {m n : ℕ} (N : ℕ) → 2 * m ≤ N → 2 * (n + M) ≤ N → Below K a m → Below K b n → Below K (joined M a b) N
     below-joined {a} {b} {m} {n} N hm hn p q = record { zero-from = λ k l. go k l (ℕ-discrete (k % 2) 0) (decLe M (k / 2)) }
       where
         go : (k : ℕ) → N ≤ k → Dec (k % 2 ≡ 0) → Dec (M ≤ k / 2) → joined M a b k ≡ 𝟘

@@ -7,9 +7,10 @@ pub mod Points
 pub mod ZeroBound
 pub mod Decoding
 pub mod Division
-pub mod Example
 pub mod Orders
 pub mod Keys
 pub mod Interpolant
 pub mod Interpolation
 pub mod Size
+pub mod Repair
+pub mod Example

@@ -13,7 +13,7 @@ use Rattle.algebra.specs.Field.{Field, mul-zero, mul-one}
 use Rattle.algebra.specs.Sum.{sum-ext, sum-single}
 use Rattle.algebra.specs.Coefficients.{choose, choose-yes, choose-no, Below, below-mono}
 use Rattle.algebra.specs.Elimination.{Dependence, dependent}
-use Rattle.lists.specs.Count.{lt-or-le}
+use Rattle.lists.specs.Chosen.{lt-or-le}
 use Rattle.hermitian.specs.Present.{Present, decPresent, mod-below, genus, genus-suc, genus-mono}
 use Rattle.hermitian.specs.Ring.{Fn}
 use Rattle.hermitian.specs.Value.{monomial, Val}

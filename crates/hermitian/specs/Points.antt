@@ -12,7 +12,7 @@ use Prim.Native.Nat.{ℕ, zero, suc, _+_, _*_, _<_, _≤_}
 use native.Mathlib.Nat.{le-refl, le-of-suc-le-suc, eq-or-lt-of-le}
 use native.Mathlib.Decide.{decLt, ℕ-discrete}
 use native.Mathlib.Omega.{arith}
-use Rattle.lists.specs.Count.{lt-or-le}
+use Rattle.lists.specs.Chosen.{lt-or-le}
 use Rattle.algebra.specs.Field.{Field, add-self, add-cancel, zero-mul, mul-zero, add-mul, mul-ne-zero}
 use Rattle.algebra.specs.Sum.{sum}
 use Rattle.algebra.specs.Coefficients.{plus, scale, unit, lead-unit, Below, below-mono, below-plus, below-scale, below-shift}

@@ -12,7 +12,7 @@ use Prim.Native.Nat.{ℕ, suc, _+_, _-_, _*_, _<_, _≤_}
 use native.Mathlib.Nat.{add-suc, add-sub-cancel-left, add-sub-of-le}
 use native.Mathlib.Decide.{decLt}
 use native.Mathlib.Omega.{arith}
-use Rattle.lists.specs.Count.{lt-or-le}
+use Rattle.lists.specs.Chosen.{lt-or-le}
 use Rattle.algebra.specs.Field.{Field, add-zero, zero-add, zero-mul, mul-zero, mul-one, mul-ne-zero, add-cancel, add-self}
 use Rattle.algebra.specs.Sum.{sum, sum-ext, sum-zero, sum-append, sum-single}
 use Rattle.algebra.specs.Coefficients.{choose, choose-yes, choose-no, plus, unit, unit-at, unit-off, Below, Lead, below-plus, zero-or-lead}

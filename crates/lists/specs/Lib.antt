@@ -3,10 +3,11 @@ pub mod Every
 pub mod Xor
 pub mod Smallest
 pub mod Residue
-pub mod Count
+pub mod Chosen
 pub mod Words
 pub mod Answers
 pub mod Passed
 pub mod Distinct
 pub mod Stored
 pub mod Block
+pub mod Member
