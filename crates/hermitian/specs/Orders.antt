@@ -3,7 +3,6 @@
 --   order w i j         the order of x^i y^j: w·i + (w + 1)·j
 --   xPower, yPower      the powers of x and of y in the monomial of a present order
 --   order-present, order-x, order-y, order-injective, order-of   monomials with j < w and present orders are one to one
---   genus w             w(w − 1)/2
 --   rank w n            how many present orders lie below n
 --   rank-large          from w(w − 1) on every order is present: exactly genus w of those below n are absent
 --   rank-least          at most genus w orders below n are absent, for every n
@@ -17,14 +16,14 @@ use mathlib.Core.Bool.{Bool, true, false}
 use mathlib.Core.List.{List, [], _∷_, _++_}
 use mathlib.Core.Logic.{_↔_, ⊎-elim}
 use Prim.Native.Nat.{ℕ, zero, suc, min, _+_, _-_, _*_, _/_, _%_, _<_, _≤_}
-use native.Mathlib.Nat.{add-zero, add-suc, zero-mul, suc-mul, mul-suc, mul-comm, add-sub-of-le, div-add-mod', div-eq-of-eq-mul-left, eq-or-lt-of-le, le-of-suc-le-suc}
+use native.Mathlib.Nat.{add-zero, add-suc, zero-mul, suc-mul, mul-comm, add-sub-of-le, div-add-mod', eq-or-lt-of-le, le-of-suc-le-suc}
 use native.Mathlib.Decide.{decLe}
 use native.Mathlib.Omega.{arith}
 use lib.Dec.{leb}
 use lib.ListN.{length, getD, length-append, List·getD-append}
 use lib.Seq.{getD-at}
 use borrow.Author.Tests.{le-leb, lt-leb}
-use Rattle.hermitian.specs.Present.{Present, decPresent, divided, present-at, present-large}
+use Rattle.hermitian.specs.Present.{Present, decPresent, divided, present-at, present-large, genus, genus-zero, genus-suc, genus-double}
 
 abbrev pub order : ℕ → ℕ → ℕ → ℕ
 order w i j = w * i + (w + 1) * j
@@ -64,9 +63,6 @@ order-of w o h =
 
 unfoldable pub isPresent : ℕ → ℕ → Bool
 isPresent w o = leb (o % w) (o / w)
-
-unfoldable pub genus : ℕ → ℕ
-genus w = w * (w - 1) / 2
 
 -- one more if the test passes
 abbrev counted : Bool → ℕ → ℕ
@@ -118,15 +114,6 @@ rank-gap w m n h = rw (← add-sub-of-le h) (up (n - m))
 pub rank-past : (w m n : ℕ) → Present w m → m < n → rank w m < rank w n
 rank-past w m n p h = omega (arith, rank-yes w m p, rank-gap w (suc m) n h)
 
--- 1 + 2 + … + q: what the first q rows of w orders hold while rows still grow
-abbrev triangle : ℕ → ℕ
-triangle zero = 0
-triangle (suc q) = triangle q + suc q
-
-triangle-twice : (q : ℕ) → suc q * q ≡ triangle q * 2
-triangle-twice zero = refl
-triangle-twice (suc q) = omega (arith, triangle-twice q, suc-mul (suc q) (suc q), mul-suc (suc q) q)
-
 -- row q has q + 1 present orders, the first ones, until it is full
 rank-row : (w q r : ℕ) → q < w → r ≤ w → rank w (q * w + r) ≡ rank w (q * w) + min r (suc q)
 rank-row w q zero h l = rw add-zero (omega arith)
@@ -140,37 +127,24 @@ rank-row w q (suc r) h l = rw add-suc (go (rank-row w q r h (omega arith)) (decL
     go ih (yes p) = omega (arith, rank-yes w (q * w + r) (omega (arith, at)))
     go ih (no p) = omega (arith, rank-no w (q * w + r) (omega (arith, at)))
 
-rank-rows : (w q : ℕ) → q ≤ w → rank w (q * w) ≡ triangle q
-rank-rows w zero h = ap (rank w) (zero-mul w) ∙ rank-nil w
+-- so that q rows hold 1 + 2 + … + q of them
+rank-rows : (w q : ℕ) → q ≤ w → rank w (q * w) ≡ genus (suc q)
+rank-rows w zero h = ap (rank w) (zero-mul w) ∙ rank-nil w ∙ omega (arith, genus-suc 0, genus-zero)
 rank-rows w (suc q) h =
-    ap (rank w) (suc-mul q w) ∙ rank-row w q w h (omega arith) ∙ omega (arith, rank-rows w q (omega arith))
-
-genus-triangle : (q : ℕ) → genus (suc q) ≡ triangle q
-unfolding genus
-genus-triangle q =
-    let e : suc q - 1 ≡ q = omega arith in
-    div-eq-of-eq-mul-left {n = 2} {m = suc q * (suc q - 1)} {k = triangle q} (omega arith) (ap (λ x. suc q * x) e ∙ triangle-twice q)
-
-pub genus-twice : (w : ℕ) → genus w + genus w ≡ w * (w - 1)
-unfolding genus
-genus-twice zero = refl
-genus-twice (suc q) =
-    let e : suc q - 1 ≡ q = omega arith in
-    let g : genus (suc q) ≡ triangle q = genus-triangle q in
-    omega (arith, ap (λ x. suc q * x) e, triangle-twice q)
+    ap (rank w) (suc-mul q w) ∙ rank-row w q w h (omega arith) ∙ omega (arith, rank-rows w q (omega arith), genus-suc (suc q))
 
 module _ (w : ℕ) (two : 2 ≤ w) where
   rank-start : rank w (w * (w - 1)) ≡ genus w
   rank-start =
       let e : suc (w - 1) ≡ w = omega arith in
-      ap (rank w) (mul-comm w (w - 1)) ∙ rank-rows w (w - 1) (omega arith) ∙ sym (genus-triangle (w - 1)) ∙ ap genus e
+      ap (rank w) (mul-comm w (w - 1)) ∙ rank-rows w (w - 1) (omega arith) ∙ ap genus e
 
   -- from w(w − 1) on every order is present, so that exactly genus w of the orders below n are absent
   pub rank-large : (n : ℕ) → w * (w - 1) ≤ n → rank w n + genus w ≡ n
   rank-large n h = rw (← add-sub-of-le h) (up (n - w * (w - 1)))
     where
       up : (d : ℕ) → rank w (w * (w - 1) + d) + genus w ≡ w * (w - 1) + d
-      up zero = rw add-zero (omega (arith, rank-start, genus-twice w))
+      up zero = rw add-zero (omega (arith, rank-start, genus-double w))
       up (suc d) = rw add-suc (omega (arith, up d, rank-yes w (w * (w - 1) + d) (present-large w two (w * (w - 1) + d) (omega arith))))
 
   pub rank-least : (n : ℕ) → n ≤ rank w n + genus w
@@ -178,7 +152,7 @@ module _ (w : ℕ) (two : 2 ≤ w) where
     where
       go : Dec (w * (w - 1) ≤ n) → n ≤ rank w n + genus w
       go (yes h) = omega (arith, rank-large n h)
-      go (no h) = omega (arith, rank-gap w n (w * (w - 1)) (omega arith), rank-start, genus-twice w)
+      go (no h) = omega (arith, rank-gap w n (w * (w - 1)) (omega arith), rank-start, genus-double w)
 
   -- the rank of a present order is its place in the list
   presents-length : (n : ℕ) → length (presents w n) ≡ rank w n
@@ -263,11 +237,11 @@ module _ (w : ℕ) (two : 2 ≤ w) where
   )
     where
       all : rank w (M + 1) + genus w ≡ M + 1
-      all = rank-large (M + 1) (omega (arith, genus-twice w))
+      all = rank-large (M + 1) (omega (arith, genus-double w))
 
   pub orderOf-large : (t : ℕ) → genus w ≤ t → orderOf w t ≡ t + genus w
   orderOf-large t h =
-      let large : w * (w - 1) ≤ t + genus w = omega (arith, genus-twice w) in
+      let large : w * (w - 1) ≤ t + genus w = omega (arith, genus-double w) in
       let r : rank w (t + genus w) ≡ t = omega (arith, rank-large (t + genus w) large) in
       ap (orderOf w) (sym r) ∙ orderOf-rank (t + genus w) (present-large w two (t + genus w) large)
 
