@@ -1,0 +1,7 @@
+//! A Hermitian Chase decoder by another hand, written from document 01 alone, to run the proved
+//! library against.
+
+pub mod field;
+pub mod linear;
+pub mod random;
+pub mod row;
