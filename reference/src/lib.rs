@@ -1,7 +1,10 @@
 //! A Hermitian Chase decoder by another hand, written from document 01 alone, to run the proved
 //! library against.
 
+pub mod code;
+pub mod curve;
 pub mod field;
 pub mod linear;
 pub mod random;
+pub mod refusal;
 pub mod row;

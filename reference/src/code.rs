@@ -1,0 +1,205 @@
+//! The code: encoding by summing monomials, reading back by linear solving.
+//!
+//! - [`Code`]: one code, with what elimination computes once for it; [`Code::of_rate`].
+//! - [`Code::codeword`], [`Code::message`]: from message to word and back.
+//! - [`encode`], [`read_back`]: document 01's calls, with its checks.
+
+use std::sync::OnceLock;
+
+use crate::curve::{monomials, GENUS, PLACES};
+use crate::linear::Span;
+use crate::refusal::Refusal;
+use crate::row::Row;
+
+/// All functions of order at most M, by their values at the 64 places.
+pub struct Code {
+    /// k, the number of message symbols.
+    pub symbols: usize,
+    /// M, the largest order.
+    pub top: usize,
+    /// T: a codeword is near a test word that differs from it in at most T places.
+    pub reach: usize,
+    /// The values of the monomials by rising order.
+    pub monomials: Vec<Row>,
+    /// The same monomials in echelon form.
+    echelon: Span,
+}
+
+impl Code {
+    /// The code of the functions of order at most `top`, which is below 58.
+    pub fn new(top: usize) -> Code {
+        let monomials: Vec<Row> = monomials(top).iter().map(|m| m.values()).collect();
+        let mut echelon = Span::default();
+        for (symbol, values) in monomials.iter().enumerate() {
+            let dependent = echelon.add(symbol, *values);
+            assert_eq!(dependent, None, "the monomials are independent");
+        }
+        Code {
+            symbols: monomials.len(),
+            top,
+            reach: reach(top),
+            monomials,
+            echelon,
+        }
+    }
+
+    /// "Rate 39 uses orders up to M = 44, rate 49 up to M = 54."
+    pub fn of_rate(rate: u64) -> Result<&'static Code, Refusal> {
+        static RATE_39: OnceLock<Code> = OnceLock::new();
+        static RATE_49: OnceLock<Code> = OnceLock::new();
+        match rate {
+            39 => Ok(RATE_39.get_or_init(|| Code::new(44))),
+            49 => Ok(RATE_49.get_or_init(|| Code::new(54))),
+            _ => Err(Refusal::Rate),
+        }
+    }
+
+    /// "Message symbol number 0 multiplies the lowest order, and so on upwards. The codeword holds
+    /// that function's value at each place."
+    pub fn codeword(&self, message: &[u8]) -> Row {
+        assert_eq!(message.len(), self.symbols);
+        let mut word = Row::default();
+        for (symbol, values) in message.iter().zip(&self.monomials) {
+            word.add_scaled(*symbol, values);
+        }
+        word
+    }
+
+    /// The message of a codeword; none for every other word.
+    pub fn message(&self, word: &Row) -> Option<Vec<u8>> {
+        let combination = self.echelon.express(*word)?;
+        Some(combination.elements()[..self.symbols].to_vec())
+    }
+}
+
+/// "In general the largest T with 2T < 64 − M − 6."
+fn reach(top: usize) -> usize {
+    let limit = PLACES - GENUS - top;
+    (0..limit)
+        .rev()
+        .find(|t| 2 * t < limit)
+        .expect("M below 58")
+}
+
+/// "Encode: rate; message of exactly k bytes and 64 bytes of the lent frame from a given start;
+/// symbols. The codeword goes into the frame from that start, and the other bytes stay."
+pub fn encode(rate: u64, message: &[u8], frame: &mut [u8], start: usize) -> Result<(), Refusal> {
+    let code = Code::of_rate(rate)?;
+    let part = frame
+        .get_mut(start..)
+        .and_then(|rest| rest.get_mut(..PLACES));
+    let part = part.ok_or(Refusal::Size)?;
+    check_size(message, code.symbols)?;
+    check_symbols(message)?;
+    part.copy_from_slice(&code.codeword(message).elements());
+    Ok(())
+}
+
+/// "Read back: rate; word of 64 and message buffer of k bytes; symbols; codeword."
+pub fn read_back(rate: u64, word: &[u8], message: &mut [u8]) -> Result<(), Refusal> {
+    let code = Code::of_rate(rate)?;
+    check_size(word, PLACES)?;
+    check_size(message, code.symbols)?;
+    check_symbols(word)?;
+    let row = Row::from_elements(word.iter().copied());
+    let found = code.message(&row).ok_or(Refusal::NotCodeword)?;
+    message.copy_from_slice(&found);
+    Ok(())
+}
+
+/// A lent buffer has exactly the size asked for.
+pub fn check_size(buffer: &[u8], size: usize) -> Result<(), Refusal> {
+    if buffer.len() == size {
+        Ok(())
+    } else {
+        Err(Refusal::Size)
+    }
+}
+
+fn check_symbols(symbols: &[u8]) -> Result<(), Refusal> {
+    if symbols.iter().all(|symbol| *symbol <= 15) {
+        Ok(())
+    } else {
+        Err(Refusal::Symbol)
+    }
+}
+
+#[cfg(test)]
+mod tests {
+    use super::*;
+    use crate::random::Random;
+
+    const RATES: [u64; 2] = [39, 49];
+
+    #[test]
+    fn rates_have_document_01s_numbers() {
+        let numbers = RATES.map(|rate| {
+            let code = Code::of_rate(rate).unwrap();
+            (code.symbols, code.top, code.reach)
+        });
+        assert_eq!(numbers, [(39, 44, 6), (49, 54, 1)]);
+        for rate in [0, 38, 40, 48, 50, 39 + 256, u64::MAX] {
+            assert_eq!(Code::of_rate(rate).err(), Some(Refusal::Rate));
+        }
+    }
+
+    #[test]
+    fn reading_back_inverts_encoding_and_refuses_damage() {
+        let mut random = Random::new(4, 0);
+        for _ in 0..500 {
+            for rate in RATES {
+                let symbols = rate as usize;
+                let sent: Vec<u8> = (0..symbols).map(|_| random.symbol()).collect();
+                let mut word = [0; PLACES];
+                assert_eq!(encode(rate, &sent, &mut word, 0), Ok(()));
+                let mut read = vec![0; symbols];
+                assert_eq!(read_back(rate, &word, &mut read), Ok(()));
+                assert_eq!(read, sent);
+
+                let place = random.below(PLACES);
+                word[place] = random.other_symbol(word[place]);
+                let before = vec![7; symbols];
+                read.clone_from(&before);
+                let damaged = read_back(rate, &word, &mut read);
+                assert_eq!(damaged, Err(Refusal::NotCodeword));
+                assert_eq!(read, before);
+            }
+        }
+    }
+
+    #[test]
+    fn encoding_checks_rate_then_sizes_then_symbols() {
+        let message = [16; 39];
+        let mut frame = [99; 70];
+        assert_eq!(
+            encode(40, &message[1..], &mut frame, 70),
+            Err(Refusal::Rate)
+        );
+        assert_eq!(encode(39, &message[1..], &mut frame, 0), Err(Refusal::Size));
+        for start in [7, 70, 71, usize::MAX - 63, usize::MAX] {
+            assert_eq!(encode(39, &message, &mut frame, start), Err(Refusal::Size));
+        }
+        assert_eq!(encode(39, &message, &mut frame, 6), Err(Refusal::Symbol));
+        assert_eq!(frame, [99; 70]);
+        assert_eq!(encode(39, &[0; 39], &mut frame, 6), Ok(()));
+        assert_eq!(frame[..6], [99; 6]);
+        assert_eq!(frame[6..], [0; 64]);
+    }
+
+    #[test]
+    fn reading_back_checks_rate_then_sizes_then_symbols_then_the_word() {
+        let mut message = [5; 39];
+        let mut word = [0; 64];
+        word[63] = 16;
+        assert_eq!(read_back(50, &word[1..], &mut message), Err(Refusal::Rate));
+        assert_eq!(read_back(39, &word[1..], &mut message), Err(Refusal::Size));
+        assert_eq!(read_back(49, &word, &mut message), Err(Refusal::Size));
+        assert_eq!(read_back(39, &word, &mut message), Err(Refusal::Symbol));
+        word[63] = 15;
+        assert_eq!(
+            read_back(39, &word, &mut message),
+            Err(Refusal::NotCodeword)
+        );
+        assert_eq!(message, [5; 39]);
+    }
+}

@@ -1,0 +1,46 @@
+//! "Refusals, by who can cause them."
+//!
+//! - [`Refusal`]: the eleven refusals; [`Refusal::number`] is document 01's number.
+//! - [`number`]: the number a call returns, 0 where it is accepted.
+
+/// Why a call is refused.
+#[derive(Clone, Copy, Debug, PartialEq, Eq)]
+pub enum Refusal {
+    /// "1 rate not 39 or 49"
+    Rate = 1,
+    /// "2 a lent buffer of the wrong size, or no 64 bytes from the start"
+    Size = 2,
+    /// "3 a symbol above 15"
+    Symbol = 3,
+    /// "4 doubt above 8, or a doubtful list longer than 8, with a place above 63 or not strictly
+    /// rising"
+    Doubt = 4,
+    /// "5 place above 63"
+    Place = 5,
+    /// "6 place already taken"
+    Taken = 6,
+    /// "7 closing or writing with a place missing"
+    Missing = 7,
+    /// "8 not a codeword"
+    NotCodeword = 8,
+    /// "9 none near"
+    NoneNear = 9,
+    /// "10 version not 1"
+    Version = 10,
+    /// "11 size or length wrong"
+    Length = 11,
+}
+
+impl Refusal {
+    pub fn number(self) -> u8 {
+        self as u8
+    }
+}
+
+/// The number of the refusal, or 0.
+pub fn number<T>(result: &Result<T, Refusal>) -> u8 {
+    match result {
+        Ok(_) => 0,
+        Err(refusal) => refusal.number(),
+    }
+}
