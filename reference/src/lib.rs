@@ -3,8 +3,11 @@
 
 pub mod code;
 pub mod curve;
+pub mod decode;
 pub mod field;
 pub mod linear;
+pub mod nearest;
 pub mod random;
 pub mod refusal;
 pub mod row;
+pub mod soft;

@@ -1,0 +1,127 @@
+//! Columns of costs: best and second symbols, gaps, doubtful places, totals.
+//!
+//! - [`Column`], [`Columns`], [`column_of_bytes`], [`column_bytes`]: sixteen costs, and 64 of those.
+//! - [`best`], [`second`], [`gap`]: what a column says by itself.
+//! - [`doubtful_places`]: the places that table decoding doubles.
+//! - [`total`], [`pinned`], [`changed`]: what a codeword costs, and the counts of the report.
+
+use crate::curve::PLACES;
+use crate::field::SYMBOLS;
+
+/// "65535 is the ceiling, reads 'at least' and is summed as 65535." (Saturation.)
+pub const CEILING: u16 = 65535;
+
+/// The largest doubt, and the length of the longest doubtful list.
+pub const DOUBT_LIMIT: usize = 8;
+
+/// The bytes of a column: two for each cost, high first.
+pub const COLUMN_BYTES: usize = 2 * SYMBOLS;
+
+/// "A place's column is sixteen costs, one for each symbol, each 0 to 65535 and smaller if
+/// likelier."
+pub type Column = [u16; SYMBOLS];
+
+/// The columns by place.
+pub type Columns = [Column; PLACES];
+
+/// A column from its 32 bytes.
+pub fn column_of_bytes(bytes: &[u8]) -> Column {
+    assert_eq!(bytes.len(), COLUMN_BYTES);
+    std::array::from_fn(|symbol| u16::from_be_bytes([bytes[2 * symbol], bytes[2 * symbol + 1]]))
+}
+
+/// The 32 bytes of a column.
+pub fn column_bytes(column: &Column) -> Vec<u8> {
+    column.iter().flat_map(|cost| cost.to_be_bytes()).collect()
+}
+
+/// The symbols from likeliest to unlikeliest. "Equal costs go to the smaller symbol."
+fn ranking(column: &Column) -> Vec<u8> {
+    let mut symbols: Vec<u8> = (0..SYMBOLS as u8).collect();
+    symbols.sort_by_key(|symbol| (column[usize::from(*symbol)], *symbol));
+    symbols
+}
+
+/// "The best symbol has least cost."
+pub fn best(column: &Column) -> u8 {
+    ranking(column)[0]
+}
+
+/// "The second is best of the others."
+pub fn second(column: &Column) -> u8 {
+    ranking(column)[1]
+}
+
+/// "The gap is second cost minus best cost."
+pub fn gap(column: &Column) -> u16 {
+    column[usize::from(second(column))] - column[usize::from(best(column))]
+}
+
+/// "Table decoding with doubt d (0 to 8) takes the d places of smallest gap. Equal gaps go to the
+/// lower place." The list rises.
+pub fn doubtful_places(columns: &Columns, doubt: usize) -> Vec<u8> {
+    let mut places: Vec<u8> = (0..PLACES as u8).collect();
+    places.sort_by_key(|place| (gap(&columns[usize::from(*place)]), *place));
+    places.truncate(doubt);
+    places.sort_unstable();
+    places
+}
+
+/// A word's costs by place.
+fn costs<'a>(columns: &'a Columns, word: &'a [u8; PLACES]) -> impl Iterator<Item = u16> + 'a {
+    columns
+        .iter()
+        .zip(word)
+        .map(|(column, symbol)| column[usize::from(*symbol)])
+}
+
+/// The sum of a word's costs over the 64 places.
+pub fn total(columns: &Columns, word: &[u8; PLACES]) -> u32 {
+    costs(columns, word).map(u32::from).sum()
+}
+
+/// "Pinned places, where the answer's symbol costs 65535." (Saturated costs.)
+pub fn pinned(columns: &Columns, word: &[u8; PLACES]) -> u8 {
+    costs(columns, word).filter(|cost| *cost == CEILING).count() as u8
+}
+
+/// "Changed places, where the answer is not the best symbol."
+pub fn changed(columns: &Columns, word: &[u8; PLACES]) -> u8 {
+    let differs = |(column, symbol): &(&Column, &u8)| best(column) != **symbol;
+    columns.iter().zip(word).filter(differs).count() as u8
+}
+
+#[cfg(test)]
+mod tests {
+    use super::*;
+
+    #[test]
+    fn equal_gaps_go_to_the_lower_place() {
+        let mut columns = [[9; SYMBOLS]; PLACES];
+        for (place, column) in columns.iter_mut().enumerate() {
+            column[3] = if place % 2 == 0 { 4 } else { 5 };
+        }
+        assert_eq!(doubtful_places(&columns, 3), [1, 3, 5]);
+        assert_eq!(doubtful_places(&columns, 0), []);
+        columns[40][3] = 9;
+        assert_eq!(doubtful_places(&columns, 3), [1, 3, 40]);
+    }
+
+    #[test]
+    fn totals_sum_the_ceiling_as_it_is() {
+        let columns = [[CEILING; SYMBOLS]; PLACES];
+        let word = [1; PLACES];
+        assert_eq!(total(&columns, &word), 64 * 65535);
+        assert_eq!(pinned(&columns, &word), 64);
+        assert_eq!(changed(&columns, &word), 64);
+    }
+
+    #[test]
+    fn column_bytes_have_the_high_byte_first() {
+        let mut column = [0; SYMBOLS];
+        column[1] = 0x1234;
+        let bytes = column_bytes(&column);
+        assert_eq!(bytes[..4], [0, 0, 0x12, 0x34]);
+        assert_eq!(column_of_bytes(&bytes), column);
+    }
+}
