@@ -1,6 +1,7 @@
 //! A Hermitian Chase decoder by another hand, written from document 01 alone, to run the proved
 //! library against.
 
+pub mod capture;
 pub mod code;
 pub mod curve;
 pub mod decode;
@@ -12,4 +13,5 @@ pub mod random;
 pub mod refusal;
 pub mod row;
 pub mod session;
+pub mod show;
 pub mod soft;

@@ -1,0 +1,103 @@
+//! Captures: writing, opening, look-up.
+//!
+//! "One version byte, 1. Two bytes of length: the bytes that follow, 2,114 + d. Then the rate (39
+//! or 49), d, d doubtful places, and 64 records of a place and its 32 cost bytes."
+//!
+//! - [`write_capture`]: the capture of a session.
+//! - [`open_capture`]: the session of a capture, or the first refusal in document 01's order.
+//! - [`look_up`]: one column as a part of the caller's capture.
+
+use crate::code::check_size;
+use crate::curve::PLACES;
+use crate::refusal::Refusal;
+use crate::session::Session;
+use crate::soft::{column_bytes, column_of_bytes, COLUMN_BYTES};
+
+pub const VERSION: u8 = 1;
+
+/// "Total size from 2,117 to 2,125."
+pub const SMALLEST: usize = DOUBTFUL_START + PLACES * RECORD_BYTES;
+pub const LARGEST: usize = SMALLEST + 8;
+
+/// Version and length, which the length doesn't count.
+const UNCOUNTED_BYTES: usize = 3;
+const RATE_BYTE: usize = 3;
+const DOUBT_BYTE: usize = 4;
+const DOUBTFUL_START: usize = 5;
+const RECORD_BYTES: usize = 1 + COLUMN_BYTES;
+
+/// "Writing: 2 for a wrong size; 7 if a place is missing; else the capture of rate, doubtful list
+/// and row."
+pub fn write_capture(session: &Session, out: &mut [u8]) -> Result<(), Refusal> {
+    check_size(out, capture_size(session))?;
+    session.check_missing()?;
+    out.copy_from_slice(&bytes_of(session));
+    Ok(())
+}
+
+/// "Buffer of exactly 2,117 + d bytes."
+pub fn capture_size(session: &Session) -> usize {
+    SMALLEST + session.doubtful().len()
+}
+
+/// "The writer puts records in the order in which the places were accepted."
+fn bytes_of(session: &Session) -> Vec<u8> {
+    let length = (capture_size(session) - UNCOUNTED_BYTES) as u16;
+    let mut bytes = vec![VERSION];
+    bytes.extend(length.to_be_bytes());
+    bytes.push(session.rate() as u8);
+    bytes.push(session.doubtful().len() as u8);
+    bytes.extend(session.doubtful());
+    for (place, column) in session.row() {
+        bytes.push(*place);
+        bytes.extend(column_bytes(column));
+    }
+    bytes
+}
+
+/// "Opening an accepted capture counts as opening with its rate and list and then delivering its
+/// records in their order." "Checks: total size from 2,117 to 2,125; version; length against both
+/// the total and d; rate; doubtful list; then record by record, place range and repeated place."
+pub fn open_capture(bytes: &[u8]) -> Result<Session, Refusal> {
+    check_head(bytes)?;
+    let (doubtful, records) = bytes[DOUBTFUL_START..].split_at(usize::from(bytes[DOUBT_BYTE]));
+    let mut session = Session::open(u64::from(bytes[RATE_BYTE]), doubtful)?;
+    for record in records.chunks_exact(RECORD_BYTES) {
+        session.deliver(u64::from(record[0]), column_of_bytes(&record[1..]))?;
+    }
+    Ok(session)
+}
+
+/// "The first three give 11, 10 and 11."
+fn check_head(bytes: &[u8]) -> Result<(), Refusal> {
+    if !(SMALLEST..=LARGEST).contains(&bytes.len()) {
+        return Err(Refusal::Length);
+    }
+    if bytes[0] != VERSION {
+        return Err(Refusal::Version);
+    }
+    let length = usize::from(u16::from_be_bytes([bytes[1], bytes[2]]));
+    let by_total = bytes.len() - UNCOUNTED_BYTES;
+    let by_doubt = SMALLEST - UNCOUNTED_BYTES + usize::from(bytes[DOUBT_BYTE]);
+    if length != by_total || length != by_doubt {
+        return Err(Refusal::Length);
+    }
+    Ok(())
+}
+
+/// "A look-up of one place hands back the 32 bytes of that column as a part of the caller's
+/// capture; the part is empty exactly if the capture is refused or the place is above 63."
+pub fn look_up(bytes: &[u8], place: u64) -> &[u8] {
+    let Ok(session) = open_capture(bytes) else {
+        return &[];
+    };
+    let found = session
+        .row()
+        .iter()
+        .position(|(taken, _)| u64::from(*taken) == place);
+    let Some(number) = found else {
+        return &[];
+    };
+    let start = DOUBTFUL_START + session.doubtful().len() + number * RECORD_BYTES + 1;
+    &bytes[start..start + COLUMN_BYTES]
+}
