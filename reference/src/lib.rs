@@ -4,11 +4,14 @@
 pub mod capture;
 pub mod code;
 pub mod curve;
+pub mod damage;
 pub mod decode;
 pub mod field;
+pub mod frames;
 pub mod least;
 pub mod linear;
 pub mod nearest;
+pub mod pairs;
 pub mod random;
 pub mod refusal;
 pub mod row;
