@@ -1,6 +1,52 @@
 //! A Hermitian Chase decoder by another hand, written from document 01 alone, to run the proved
-//! library against.
+//! library against. It shares no table and no method with it:
+//!
+//! - products are polynomial arithmetic on bits ([`field`], and [`row`] for 64 at once);
+//! - the points of the curve are searched for, the monomials enumerated ([`curve`]);
+//! - encoding sums monomials, reading back solves linear equations ([`code`], [`linear`]);
+//! - the least Q is found by elimination over its terms ([`least`]);
+//! - each test word is decoded by itself, with an error locator ([`nearest`], [`decode`]);
+//! - a session keeps the row of the book and computes each answer from it ([`session`]).
+//!
+//! One frame from opening to closing, with a wrong symbol at place 7:
+//!
+//! ```
+//! use reference::session::Session;
+//!
+//! let mut session = Session::open(39, &[]).unwrap();
+//! for place in (0..64).rev() {
+//!     let mut column = [40; 16];
+//!     column[if place == 7 { 3 } else { 0 }] = 0;
+//!     session.deliver(place, column).unwrap();
+//! }
+//! let (mut message, mut report) = ([99; 39], [99; 8]);
+//! session.close(&mut message, &mut report).unwrap();
+//! assert_eq!(message, [0; 39]);
+//! assert_eq!(report, [0, 0, 0, 40, 0, 1, 0, 1]);
+//! ```
+//!
+//! # Comparing
+//!
+//! [`frames`] makes frames of ten kinds from a seed, [`pairs`] those between two codewords at least
+//! distance, [`damage`] captures with faults. The binary `compare` runs them in two ways.
+//!
+//! Calls that cross as numbers and byte slices are linked: with the feature `proved`, and with
+//! `MODEM_LIB_DIR` naming the folder of `libmodem.a`, `compare code` and `compare table` run the
+//! trials of [`trials`] on both libraries.
+//!
+//! Sessions and captures are compared by stream: a program reads calls on its standard input and
+//! writes answers on its standard output, laid out as in [`calls`]; `compare run` starts it on the
+//! lists of [`call_lists`] and names the first answer that differs. `compare shows` does the same
+//! with a program that prints as `show` does.
+//!
+//! ```text
+//! cargo test --offline
+//! cargo run --offline --release --bin compare -- run OCDRWXL 1 3000 PROGRAM
+//! MODEM_LIB_DIR=.. cargo run --offline --release --features proved --bin compare -- table 1 3000
+//! ```
 
+pub mod call_lists;
+pub mod calls;
 pub mod capture;
 pub mod code;
 pub mod curve;
@@ -12,9 +58,13 @@ pub mod least;
 pub mod linear;
 pub mod nearest;
 pub mod pairs;
+#[cfg(feature = "proved")]
+pub mod proved;
 pub mod random;
 pub mod refusal;
 pub mod row;
 pub mod session;
 pub mod show;
 pub mod soft;
+pub mod streams;
+pub mod trials;

@@ -1,0 +1,148 @@
+//! Compares other programs, and the proved library, with the reference.
+//!
+//! `compare` alone prints its subcommands.
+
+use std::io::{self, Read, Write};
+use std::process::ExitCode;
+use std::time::Instant;
+
+use reference::calls::{answer_all, Call};
+use reference::decode::{decode, test_words};
+use reference::frames::{frame, Kind, RATES};
+use reference::nearest::Finder;
+use reference::random::Random;
+use reference::show::show;
+use reference::streams::{chosen_calls, compare_calls, compare_shows};
+
+const USAGE: &str = "\
+compare calls LETTERS SEED COUNT            write the calls of COUNT frames
+compare answers                             read calls, write their answers
+compare run LETTERS SEED COUNT PROGRAM ..   run a program on these calls and compare its answers
+compare show                                read a capture, print what `show` prints
+compare shows SEED COUNT PROGRAM ..         run a program on COUNT captures and compare
+compare time COUNT                          decode COUNT frames of each sort and time them
+compare code SEED COUNT                     the proved encoding and reading back (feature proved)
+compare table SEED COUNT                    the proved table decoding (feature proved)
+LETTERS are those of the calls wanted, of OCDRWXL.";
+
+fn main() -> ExitCode {
+    let arguments: Vec<String> = std::env::args().skip(1).collect();
+    match run(&arguments) {
+        Ok(()) => ExitCode::SUCCESS,
+        Err(line) => {
+            eprintln!("{line}");
+            ExitCode::FAILURE
+        }
+    }
+}
+
+fn run(arguments: &[String]) -> Result<(), String> {
+    let words: Vec<&str> = arguments.iter().map(String::as_str).collect();
+    match words[..] {
+        ["calls", letters, seed, count] => write_calls(letters, number(seed)?, number(count)?),
+        ["answers"] => {
+            let answers = answer_all(&input()?).ok_or("the input isn't whole calls")?;
+            output(&answers)
+        }
+        ["run", letters, seed, count, _, ..] => {
+            let calls = compare_calls(&arguments[4..], letters, number(seed)?, number(count)?)?;
+            output(format!("{count} frames, {calls} calls alike\n").as_bytes())
+        }
+        ["show"] => output(show(&input()?).as_bytes()),
+        ["shows", seed, count, _, ..] => {
+            let captures = compare_shows(&arguments[3..], number(seed)?, number(count)?)?;
+            output(format!("{captures} captures alike\n").as_bytes())
+        }
+        ["time", count] => time(number(count)?),
+        #[cfg(feature = "proved")]
+        ["code", seed, count] => proved::code(number(seed)?, number(count)?),
+        #[cfg(feature = "proved")]
+        ["table", seed, count] => proved::table(number(seed)?, number(count)?),
+        _ => Err(USAGE.to_string()),
+    }
+}
+
+fn number(word: &str) -> Result<u64, String> {
+    word.parse().map_err(|_| format!("{word} is no number"))
+}
+
+fn input() -> Result<Vec<u8>, String> {
+    let mut bytes = Vec::new();
+    io::stdin()
+        .read_to_end(&mut bytes)
+        .map_err(|error| error.to_string())?;
+    Ok(bytes)
+}
+
+fn output(bytes: &[u8]) -> Result<(), String> {
+    io::stdout()
+        .write_all(bytes)
+        .map_err(|error| error.to_string())
+}
+
+fn write_calls(letters: &str, seed: u64, count: u64) -> Result<(), String> {
+    for number in 0..count {
+        let calls = chosen_calls(letters, seed, number);
+        output(&calls.iter().flat_map(Call::bytes).collect::<Vec<u8>>())?;
+    }
+    Ok(())
+}
+
+/// Times frames with eight doubtful places on one thread, by rate and kind.
+fn time(count: u64) -> Result<(), String> {
+    for rate in RATES {
+        let finder = Finder::of_rate(rate).map_err(|refusal| format!("{refusal:?}"))?;
+        for kind in [Kind::Valid, Kind::Wrong, Kind::Pair, Kind::Beyond] {
+            let make = |number| frame(kind, rate, 8, &mut Random::new(1, number));
+            let frames: Vec<_> = (0..count).map(make).collect();
+            let tests = frames
+                .iter()
+                .map(|f| test_words(&f.columns, &f.doubtful).len());
+            let tests: usize = tests.sum();
+            let start = Instant::now();
+            let answers = frames
+                .iter()
+                .filter_map(|f| decode(finder, &f.columns, &f.doubtful));
+            let near: u64 = answers.map(|answer| u64::from(answer.tests)).sum();
+            let micros = start.elapsed().as_secs_f64() * 1e6 / tests as f64;
+            output(
+                format!(
+                    "rate {rate}, {kind:?}: {tests} test words, {near} near, {micros:.2} µs each\n"
+                )
+                .as_bytes(),
+            )?;
+        }
+    }
+    Ok(())
+}
+
+#[cfg(feature = "proved")]
+mod proved {
+    use reference::proved::PROVED;
+    use reference::trials::{
+        compare, encode_trial, read_back_trial, table_trial, Difference, Trial, REFERENCE,
+    };
+
+    pub fn code(seed: u64, count: u64) -> Result<(), String> {
+        report("encode", encode_trial, seed, count)?;
+        report("read back", read_back_trial, seed, count)
+    }
+
+    pub fn table(seed: u64, count: u64) -> Result<(), String> {
+        report("table decoding", table_trial, seed, count)
+    }
+
+    /// Prints how often each number was returned.
+    fn report(name: &str, trial: Trial, seed: u64, count: u64) -> Result<(), String> {
+        let tally = compare(trial, [&REFERENCE, &PROVED], seed, count).map_err(|difference| {
+            let Difference {
+                trial,
+                outcomes: [expected, got],
+            } = difference;
+            format!("{name}: trial {trial} of seed {seed}: expected {expected:x?}, got {got:x?}")
+        })?;
+        let returned = tally.iter().enumerate().filter(|(_, times)| **times > 0);
+        let returned: Vec<String> = returned.map(|(n, times)| format!("{n}: {times}")).collect();
+        super::output(format!("{name}: {count} alike ({})\n", returned.join(", ")).as_bytes())
+    }
+}

@@ -1,0 +1,232 @@
+//! Random lists of calls: one frame from opening to closing, with refused calls and readings.
+//!
+//! - [`call_list`]: the list of a numbered frame.
+
+use crate::calls::Call;
+use crate::curve::PLACES;
+use crate::damage::{any_bytes, capture_of, damaged};
+use crate::frames::Frame;
+use crate::random::Random;
+use crate::soft::Column;
+
+/// The sizes of an interpolant reading and of a report, and sizes beside them.
+const READING_SIZES: [u16; 4] = [82, 0, 81, 83];
+const REPORT_SIZES: [u16; 4] = [8, 0, 7, 9];
+
+/// The calls made with one frame of a seed: openings, refused ones among them; deliveries in
+/// random order, and between them refused deliveries, readings, and closings and writings that
+/// come too early or into buffers of wrong sizes; then closing, twice, writing, reading, and the
+/// same with the captures of the frame.
+pub fn call_list(seed: u64, number: u64) -> Vec<Call> {
+    let frame = Frame::numbered(seed, number);
+    let mut random = Random::new(seed ^ u64::MAX, number);
+    let arrivals = random.shuffled(0..PLACES as u8);
+    let mut calls = Vec::new();
+    if random.once_in(4) {
+        calls.extend(refused_opening(&mut random));
+    }
+    calls.push(Call::Open {
+        rate: frame.rate as u16,
+        doubtful: frame.doubtful.clone(),
+    });
+    for (taken, place) in arrivals.iter().enumerate() {
+        if random.once_in(6) {
+            calls.push(between(&frame, &arrivals[..taken], &mut random));
+        }
+        calls.push(delivery(&frame, *place));
+    }
+    calls.push(between(&frame, &arrivals, &mut random));
+    calls.extend(whole(&frame));
+    calls.push(refused_delivery(&arrivals, &mut random));
+    calls.extend(whole(&frame));
+    calls.extend(with_captures(&frame, &arrivals, &mut random));
+    calls
+}
+
+fn delivery(frame: &Frame, place: u8) -> Call {
+    Call::Deliver {
+        place: u16::from(place),
+        column: frame.columns[usize::from(place)],
+    }
+}
+
+/// Reading, closing and writing into buffers of the right sizes.
+fn whole(frame: &Frame) -> [Call; 3] {
+    [
+        Call::ReadInterpolant { size: 82 },
+        Call::Close {
+            message: frame.rate as u16,
+            report: 8,
+        },
+        Call::WriteCapture {
+            size: capture_size(frame),
+        },
+    ]
+}
+
+fn capture_size(frame: &Frame) -> u16 {
+    2117 + frame.doubtful.len() as u16
+}
+
+/// An opening that is refused, and calls on the session that it hands back.
+fn refused_opening(random: &mut Random) -> Vec<Call> {
+    let rates = [0, 38, 40, 48, 50, 39 + 256, 49 + 256, 65535];
+    let lists: [&[u8]; 6] = [
+        &[64],
+        &[7, 7],
+        &[9, 8],
+        &[0, 1, 2, 3, 4, 5, 6, 7, 8],
+        &[0, 1, 2, 3, 4, 5, 6, 255],
+        &[],
+    ];
+    let doubtful = random.one_of(&lists).to_vec();
+    let by_list = !doubtful.is_empty() && random.once_in(2);
+    let rate = if by_list {
+        39 + 10 * random.below(2) as u16
+    } else {
+        random.one_of(&rates)
+    };
+    vec![
+        Call::Open { rate, doubtful },
+        Call::Deliver {
+            place: random.below(64) as u16,
+            column: any_column(random),
+        },
+        Call::Deliver {
+            place: random.below(64) as u16,
+            column: any_column(random),
+        },
+        Call::ReadInterpolant { size: 82 },
+        Call::Close {
+            message: random.one_of(&[39, 49]),
+            report: 8,
+        },
+        Call::WriteCapture {
+            size: random.one_of(&[2117, 2118]),
+        },
+    ]
+}
+
+/// One of the calls that change nothing, with the places of `taken` delivered.
+fn between(frame: &Frame, taken: &[u8], random: &mut Random) -> Call {
+    match random.below(6) {
+        0 | 1 => Call::ReadInterpolant { size: 82 },
+        2 => Call::ReadInterpolant {
+            size: random.one_of(&READING_SIZES),
+        },
+        3 => Call::Close {
+            message: frame.rate as u16 + 1 - random.one_of(&[1, 1, 0, 2]),
+            report: random.one_of(&REPORT_SIZES),
+        },
+        4 => Call::WriteCapture {
+            size: capture_size(frame) + 1 - random.below(3) as u16,
+        },
+        _ => refused_delivery(taken, random),
+    }
+}
+
+/// A place above 63, or one that is taken, with other costs.
+fn refused_delivery(taken: &[u8], random: &mut Random) -> Call {
+    let place = if taken.is_empty() || random.once_in(2) {
+        random.one_of(&[64, 65, 127, 128, 255, 256, 256 + 7, 32768, 65535])
+    } else {
+        u16::from(random.one_of(taken))
+    };
+    Call::Deliver {
+        place,
+        column: any_column(random),
+    }
+}
+
+fn any_column(random: &mut Random) -> Column {
+    [(); 16].map(|_| random.below(1000) as u16)
+}
+
+/// Random bytes, and captures of the frame, valid and damaged: looked up, opened and used.
+fn with_captures(frame: &Frame, arrivals: &[u8], random: &mut Random) -> Vec<Call> {
+    let capture = capture_of(frame, arrivals);
+    let spoiled = damaged(&capture, random);
+    let place = random.one_of(&[0, 1, 31, 62, 63, 64, 255, 256, 65535]);
+    let noise = any_bytes(random);
+    let mut calls = vec![
+        Call::OpenCapture {
+            capture: noise.clone(),
+        },
+        Call::LookUp {
+            place,
+            capture: noise,
+        },
+        Call::LookUp {
+            place: random.below(PLACES) as u16,
+            capture: capture.clone(),
+        },
+        Call::LookUp {
+            place,
+            capture: capture.clone(),
+        },
+        Call::LookUp {
+            place: random.below(PLACES) as u16,
+            capture: spoiled.clone(),
+        },
+        Call::OpenCapture { capture: spoiled },
+    ];
+    calls.extend(whole(frame));
+    calls.push(Call::OpenCapture { capture });
+    calls.extend(whole(frame));
+    calls.push(refused_delivery(arrivals, random));
+    calls
+}
+
+#[cfg(test)]
+mod tests {
+    use super::*;
+    use crate::calls::answer_all;
+    use crate::session::Session;
+
+    #[test]
+    fn calls_are_read_back_from_their_bytes() {
+        for number in 0..40 {
+            let calls = call_list(50, number);
+            let stream: Vec<u8> = calls.iter().flat_map(Call::bytes).collect();
+            let mut rest = &stream[..];
+            for call in &calls {
+                let (read, after) = Call::read(rest).unwrap();
+                assert_eq!(read, *call);
+                rest = after;
+            }
+            assert!(rest.is_empty());
+            assert_eq!(answer_all(&stream[..stream.len() - 1]), None);
+        }
+    }
+
+    #[test]
+    fn lists_reach_every_refusal_of_every_call() {
+        let mut seen = std::collections::BTreeMap::new();
+        for number in 0..400 {
+            let mut session = Session::default();
+            for call in call_list(51, number) {
+                let answer = call.answer(&mut session);
+                if !matches!(call, Call::LookUp { .. }) {
+                    *seen.entry((call.letter() as char, answer[0])).or_insert(0) += 1;
+                }
+            }
+        }
+        let expected = [
+            ('O', &[0, 1, 4][..]),
+            ('C', &[0, 1, 4, 5, 6, 10, 11]),
+            ('D', &[0, 5, 6]),
+            ('R', &[0, 2]),
+            ('W', &[0, 2, 7]),
+            ('X', &[0, 2, 7, 9]),
+        ];
+        let expected: Vec<(char, u8)> = expected
+            .iter()
+            .flat_map(|(letter, numbers)| numbers.iter().map(|number| (*letter, *number)))
+            .collect();
+        let mut reached: Vec<(char, u8)> = seen.keys().copied().collect();
+        let mut sorted = expected;
+        reached.sort_unstable();
+        sorted.sort_unstable();
+        assert_eq!(reached, sorted);
+    }
+}

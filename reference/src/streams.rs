@@ -1,0 +1,175 @@
+//! Running another program on lists of calls, and on captures, and comparing what it writes.
+//!
+//! - [`compare_calls`]: one process for each share of the frames; it reads calls and writes
+//!   answers, as [`crate::calls`] lays them out.
+//! - [`compare_shows`]: a process for each capture, valid or damaged, that prints as `show` does.
+
+use std::io::{Read, Write};
+use std::process::{Command, Stdio};
+use std::thread;
+
+use crate::call_lists::call_list;
+use crate::calls::Call;
+use crate::damage::{capture_of, damaged};
+use crate::frames::Frame;
+use crate::random::Random;
+use crate::session::Session;
+use crate::show::show;
+
+/// The calls of one numbered frame whose letters are among those chosen.
+pub fn chosen_calls(letters: &str, seed: u64, number: u64) -> Vec<Call> {
+    let mut calls = call_list(seed, number);
+    calls.retain(|call| letters.contains(char::from(call.letter())));
+    calls
+}
+
+/// Runs a program on the chosen calls of `count` frames. The number of calls compared, or a line
+/// that names the first difference.
+pub fn compare_calls(
+    program: &[String],
+    letters: &str,
+    seed: u64,
+    count: u64,
+) -> Result<usize, String> {
+    in_shares(count, |numbers| {
+        let frames: Vec<(u64, Vec<Call>)> = numbers
+            .map(|number| (number, chosen_calls(letters, seed, number)))
+            .collect();
+        let calls = frames.iter().flat_map(|(_, calls)| calls);
+        let answers = output_of(program, calls.flat_map(Call::bytes).collect())?;
+        check_answers(&frames, &answers)
+    })
+}
+
+/// Checks a program's answers to the frames' calls, which one session after the other takes.
+pub fn check_answers(frames: &[(u64, Vec<Call>)], answers: &[u8]) -> Result<usize, String> {
+    let mut rest = answers;
+    let mut checked = 0;
+    let mut session = Session::default();
+    for (number, calls) in frames {
+        for (at, call) in calls.iter().enumerate() {
+            let expected = call.answer(&mut session);
+            let place = format!("frame {number}, call {at} ({})", char::from(call.letter()));
+            rest = rest.strip_prefix(&expected[..]).ok_or_else(|| {
+                let got = &rest[..rest.len().min(expected.len())];
+                format!("{place}: expected {expected:02x?}, got {got:02x?}")
+            })?;
+            checked += 1;
+        }
+    }
+    if rest.is_empty() {
+        Ok(checked)
+    } else {
+        Err(format!("{} bytes after the last answer", rest.len()))
+    }
+}
+
+/// Runs a program on the captures of `count` frames, every second one damaged. The number of
+/// captures compared, or a line that names the first difference.
+pub fn compare_shows(program: &[String], seed: u64, count: u64) -> Result<usize, String> {
+    in_shares(count, |numbers| {
+        let mut compared = 0;
+        for number in numbers {
+            let capture = numbered_capture(seed, number);
+            let expected = show(&capture);
+            let got = output_of(program, capture)?;
+            if got != expected.as_bytes() {
+                let got = String::from_utf8_lossy(&got).into_owned();
+                return Err(format!(
+                    "capture {number}: expected {expected:?}, got {got:?}"
+                ));
+            }
+            compared += 1;
+        }
+        Ok(compared)
+    })
+}
+
+/// The capture of a numbered frame in random order; damaged where the number is odd.
+pub fn numbered_capture(seed: u64, number: u64) -> Vec<u8> {
+    let mut random = Random::new(seed, number);
+    let frame = Frame::numbered(seed, number / 2);
+    let capture = capture_of(&frame, &random.shuffled(0..64));
+    if number.is_multiple_of(2) {
+        capture
+    } else {
+        damaged(&capture, &mut random)
+    }
+}
+
+/// Does the numbers below `count` in as many shares as there are processors.
+fn in_shares(
+    count: u64,
+    share: impl Fn(std::iter::StepBy<std::ops::Range<u64>>) -> Result<usize, String> + Sync,
+) -> Result<usize, String> {
+    let shares = thread::available_parallelism().map_or(1, |shares| shares.get());
+    let share = &share;
+    thread::scope(|scope| {
+        let start = |first| scope.spawn(move || share((first as u64..count).step_by(shares)));
+        let started: Vec<_> = (0..shares).map(start).collect();
+        started
+            .into_iter()
+            .map(|share| share.join().expect("a thread that ends"))
+            .sum()
+    })
+}
+
+/// What a program writes when it reads this input.
+fn output_of(program: &[String], input: Vec<u8>) -> Result<Vec<u8>, String> {
+    let (name, arguments) = program.split_first().ok_or("no program named")?;
+    let mut child = Command::new(name)
+        .args(arguments)
+        .stdin(Stdio::piped())
+        .stdout(Stdio::piped())
+        .spawn()
+        .map_err(|error| format!("{name}: {error}"))?;
+    let mut stdin = child.stdin.take().expect("a pipe");
+    let mut output = Vec::new();
+    thread::scope(|scope| {
+        // A program that ends early leaves the pipe broken; its output then shows what is missing.
+        scope.spawn(move || stdin.write_all(&input));
+        child
+            .stdout
+            .take()
+            .expect("a pipe")
+            .read_to_end(&mut output)
+    })
+    .map_err(|error| format!("{name}: {error}"))?;
+    child.wait().map_err(|error| format!("{name}: {error}"))?;
+    Ok(output)
+}
+
+#[cfg(test)]
+mod tests {
+    use super::*;
+    use crate::calls::answer_all;
+
+    const ALL: &str = "OCDRWXL";
+
+    #[test]
+    fn right_answers_pass_and_any_changed_byte_is_named() {
+        let frames = [(3, chosen_calls(ALL, 70, 3)), (4, chosen_calls(ALL, 70, 4))];
+        let calls = frames.iter().flat_map(|(_, calls)| calls);
+        let answers = answer_all(&calls.flat_map(Call::bytes).collect::<Vec<u8>>()).unwrap();
+        let count = frames.iter().map(|(_, calls)| calls.len()).sum();
+        assert_eq!(check_answers(&frames, &answers), Ok(count));
+        let mut random = Random::new(71, 0);
+        for _ in 0..20 {
+            let mut wrong = answers.clone();
+            let at = random.below(wrong.len());
+            wrong[at] ^= 1;
+            assert!(check_answers(&frames, &wrong)
+                .unwrap_err()
+                .starts_with("frame"));
+        }
+        assert!(check_answers(&frames, &answers[1..]).is_err());
+        assert!(check_answers(&frames, &[&answers[..], &[0]].concat()).is_err());
+    }
+
+    #[test]
+    fn letters_choose_the_calls() {
+        let calls = chosen_calls("ODR", 72, 0);
+        assert!(calls.iter().all(|call| b"ODR".contains(&call.letter())));
+        assert!(calls.len() > 64);
+    }
+}
