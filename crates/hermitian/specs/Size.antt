@@ -13,7 +13,7 @@ use native.Mathlib.Nat.{le-trans}
 use native.Mathlib.Decide.{decLe, ℕ-discrete}
 use native.Mathlib.Omega.{arith}
 use lib.ListN.{length}
-use Rattle.lists.specs.Count.{count, count-nil, count-suc, one-more-yes, one-more-no, Chosen, chosen}
+use Rattle.lists.specs.Chosen.{count, count-nil, count-suc, one-more-yes, one-more-no, Chosen, chosen}
 use Rattle.algebra.specs.Field.{Field}
 use Rattle.algebra.specs.Coefficients.{Below, Lead, below-mono, unit, lead-unit}
 use Rattle.algebra.specs.Dimension.{Rising, vanishing-exists}
