@@ -45,17 +45,20 @@ module _ {F : Type 0} (K : Field F) where
     pub member : W c
     pub vanishes : Val c 𝟘
 
-  -- c, of value u, with the multiple of d, of value v, that has the value u too
+  -- the multiple of what has value v that has value u
+  abbrev pub ratio : F → F → F
+  ratio u v = u ⊗ inv v
+
+  -- c, of value u, with the multiple of d, of value v, that has value u too
   abbrev pub cleared : F → F → (ℕ → F) → (ℕ → F) → ℕ → F
-  cleared u v c d = plus K c (scale K (u ⊗ inv v) d)
+  cleared u v c d = plus K c (scale K (ratio u v) d)
 
   -- it keeps its lead, where it is zero already or d leads below it
   pub cleared-lead : {u v : F} {c d : ℕ → F} {l m : ℕ} → Lead K c l → Lead K d m → (u ≢ 𝟘 → m < l) → Lead K (cleared u v c d) l
   cleared-lead {u} {v} {c} {d} {l} {m} p q h = lead-plus K p (small (K .same u 𝟘))
     where
-      small : Dec (u ≡ 𝟘) → Below K (scale K (u ⊗ inv v) d) l
-      small (yes z) =
-          record { zero-from = λ k b. ap (λ x. (x ⊗ inv v) ⊗ d k) z ∙ ap (λ x. x ⊗ d k) (zero-mul K (inv v)) ∙ zero-mul K (d k) }
+      small : Dec (u ≡ 𝟘) → Below K (scale K (ratio u v) d) l
+      small (yes z) = record { zero-from = λ k b. rw z (simp (ring, K)) }
       small (no z) = below-mono K (h z) (below-scale K _ (q .above))
 
   abbrev pub _⊆_ : ((ℕ → F) → Type 0) → ((ℕ → F) → Type 0) → Type 0
