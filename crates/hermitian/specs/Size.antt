@@ -5,6 +5,7 @@
 --   size             more terms of key at most L than samples: some Q through them, not zero, has no key above L
 --   least-size       so the least Q has none,
 --   least-Q          and there is a least Q
+--   least-Q-always   through any n samples there is one, of key at most 2(n + g)
 --   least-parts      where its two parts end then
 use mathlib.Core.Path.{_≡_, refl, ap, _∙_}
 use mathlib.Core.List.{List}
@@ -18,8 +19,8 @@ use Rattle.algebra.specs.Field.{Field}
 use Rattle.algebra.specs.Coefficients.{Below, Lead, below-mono, unit, lead-unit}
 use Rattle.algebra.specs.Dimension.{Rising, vanishing-exists}
 use Rattle.algebra.specs.Least.{Least, least-exists}
-use Rattle.hermitian.specs.Present.{Present, decPresent}
-use Rattle.hermitian.specs.Orders.{rank, isPresent, rank-nil, rank-yes, rank-no}
+use Rattle.hermitian.specs.Present.{Present, decPresent, genus}
+use Rattle.hermitian.specs.Orders.{rank, isPresent, rank-nil, rank-yes, rank-no, rank-least}
 use Rattle.hermitian.specs.Keys.{IsKey, decKey, key-even, even-key, key-odd, odd-key}
 use Rattle.hermitian.specs.Interpolant.{Interpolant, withoutZ, withZ, interpolant-unit, interpolant-space, below-withoutZ, below-withZ}
 use Rattle.hermitian.specs.Interpolation.{Sample, Through, evaluation, through-basis, through-space}
@@ -109,6 +110,15 @@ module _ {F : Type 0} (K : Field F) (w : ℕ) (two : 2 ≤ w) (M : ℕ) {P : Typ
       let b = through-basis K w M two sample L ps in
       let q = least-exists K (b .2) (omega arith) (through-space K w M two sample ps) (t .2) (t .3) (t .4) in
       (q .0, q .1, q .2, least-size L (q .2) h)
+
+  -- without z alone there are enough terms: all orders but g are present
+  pub terms-enough : (n : ℕ) → n < terms w M (suc (2 * (n + genus w)))
+  terms-enough n =
+      let e : suc (suc (2 * (n + genus w))) / 2 ≡ suc (n + genus w) = omega arith in
+      omega (arith, terms-rank w M (suc (2 * (n + genus w))), ap (rank w) e, rank-least w two (suc (n + genus w)))
+
+  pub least-Q-always : (ps : List P) → (c : ℕ → F) × (l : ℕ) × Least K (Through K w M sample ps) c l × (l ≤ 2 * (length ps + genus w))
+  least-Q-always ps = least-Q (2 * (length ps + genus w)) ps (terms-enough (length ps))
 
   pub least-parts : {ps : List P} {c : ℕ → F} {l : ℕ} (L a b : ℕ) → Least K (Through K w M sample ps) c l → length ps < terms w M (suc L)
       → L < 2 * a → L ≤ 2 * (b + M) → Below K (withoutZ K c) a × Below K (withZ K M c) b
