@@ -2,6 +2,7 @@
 --
 --   listed n f       f 0, f 1, …, f (n − 1)
 --   listed-start, listed-turn, listed-end   a loop that stores f i at i: before it, at each turn, after it
+--   listed-store     a turn whose value is f i by an equation
 --   listed-length, listed-at, listed-ext    its length, its entries, equal rules
 --   listed-cons      from the front
 --   listed-getD      every list is listed by its entries
@@ -80,6 +81,11 @@ module _ {ℓ} {A : Type ℓ} where
       ∙ set-at (listed i f) (getD l i d) (drop (suc i) l) (f i) i (listed-length i f)
       ∙ sym (append-assoc (listed i f) (f i ∷ []) (drop (suc i) l))
       ∙ rw (add-one, listed-suc)
+
+  -- the same where what is stored is only known to be f i,
+  pub listed-store : (d : A) (out l : List A) (f : ℕ → A) (i : ℕ) (v : A) → i < length l → v ≡ f i → out ≡ listed i f ++ drop i l
+      → set out i v ≡ listed (i + 1) f ++ drop (i + 1) l
+  listed-store d out l f i v h q e = ap (set out i) q ∙ listed-turn d out l f i h e
 
   -- and after it
   pub listed-end : (out l : List A) (f : ℕ → A) (i : ℕ) → length l ≤ i → out ≡ listed i f ++ drop i l → out ≡ listed i f
