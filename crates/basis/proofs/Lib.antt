@@ -1,0 +1,4 @@
+pub mod Moved
+pub mod Choosing
+pub mod Stored
+pub mod Rowwise

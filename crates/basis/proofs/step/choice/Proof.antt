@@ -1,0 +1,40 @@
+-- The class chosen so far is chosen among the classes passed.
+use mathlib.Core.Path.{_≡_}
+use Prim.Native.Nat.{_≤_, _-_}
+use native.Mathlib.Omega.{arith}
+use borrow.Author.Needs.{needs}
+use Rattle.basis.specs.Choice.{Chosen}
+use Rattle.basis.proofs.Choosing.{chosen-start}
+use Rattle.basis.proofs.step.choice.Statement.{statement}
+use Rattle.basis.proofs.step.choice.Tie as tie
+
+abbrev Inv-loop : tie.InvT-loop
+Inv-loop ds leads best₀ r₀ best r = (r ≤ 8) × Chosen r ds leads best
+
+abbrev μ-loop : tie.MeasureT-loop
+μ-loop ds leads best₀ r₀ best r = 8 - r
+
+loop-holds : tie.Need-loop-holds Inv-loop μ-loop
+loop-holds c = (search needs, chosen-start _ _)
+
+better-requires : tie.Need-better-requires Inv-loop μ-loop
+better-requires c κs = search needs
+
+add-r : tie.Need-add-r Inv-loop μ-loop
+add-r c = search needs
+
+loop-less : tie.Need-loop-less Inv-loop μ-loop
+loop-less c = search needs
+
+loop-again : tie.Need-loop-again Inv-loop μ-loop
+loop-again c = (search needs, c .better .ensures (c .before .before .loop .inv .1))
+
+returns : tie.Need-returns Inv-loop μ-loop
+returns c =
+    let e : c .before .loop .r ≡ 8 = omega arith in
+    rw e at (c .before .loop .inv .1)
+
+pub choice-spec : {M : Type 1} → statement M
+choice-spec =
+    tie.close
+    (tie.spec Inv-loop μ-loop loop-holds better-requires add-r loop-less loop-again returns)

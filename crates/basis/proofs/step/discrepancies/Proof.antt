@@ -1,0 +1,74 @@
+-- Each class passed holds its discrepancy.
+use mathlib.Core.Path.{_≡_}
+use mathlib.Core.List.{_++_}
+use Prim.Native.Nat.{_≤_, _-_}
+use native.Mathlib.Omega.{arith}
+use lib.ListN.{drop, replicate}
+use borrow.Author.Needs.{needs}
+use Rattle.lists.specs.Listed.{listed, listed-start, listed-store, listed-end}
+use Rattle.basis.specs.Choice.{leadAt}
+use Rattle.basis.specs.Step.{rowAt, discrepancyAt}
+use Rattle.basis.proofs.step.discrepancies.Statement.{statement}
+use Rattle.basis.proofs.step.discrepancies.Tie as tie
+
+abbrev Inv-loop : tie.InvT-loop
+Inv-loop limit weights rows leads out₀ r₀ out r = (r ≤ 8) × (out ≡ listed r (discrepancyAt limit leads rows weights) ++ drop r (replicate 8 0))
+
+abbrev μ-loop : tie.MeasureT-loop
+μ-loop limit weights rows leads out₀ r₀ out r = 8 - r
+
+loop-holds : tie.Need-loop-holds Inv-loop μ-loop
+loop-holds c = (search needs, listed-start _ _)
+
+mul-discrepancy : tie.Need-mul-discrepancy Inv-loop μ-loop
+mul-discrepancy c = search needs
+
+array-copy-out-discrepancy : tie.Need-array-copy-out-discrepancy Inv-loop μ-loop
+array-copy-out-discrepancy c = search needs
+
+mul-discrepancy-2 : tie.Need-mul-discrepancy-2 Inv-loop μ-loop
+mul-discrepancy-2 c = search needs
+
+array-read-discrepancy : tie.Need-array-read-discrepancy Inv-loop μ-loop
+array-read-discrepancy c = search needs
+
+discrepancy-requires : tie.Need-discrepancy-requires Inv-loop μ-loop
+discrepancy-requires c κs = search needs
+
+array-write-out : tie.Need-array-write-out Inv-loop μ-loop
+array-write-out c = search needs
+
+add-r : tie.Need-add-r Inv-loop μ-loop
+add-r c = search needs
+
+loop-less : tie.Need-loop-less Inv-loop μ-loop
+loop-less c = search needs
+
+loop-again : tie.Need-loop-again Inv-loop μ-loop
+unfolding discrepancyAt rowAt leadAt
+loop-again c =
+    let a = c .before .before .before .before .args in
+    (search needs, listed-store 0 _ (replicate 8 0) (discrepancyAt (a .limit) (a .t2) (a .t1) (a .weights)) _ _ (search needs) (c .discrepancy .ensures) (c .before .before .before .loop .inv .1))
+
+returns : tie.Need-returns Inv-loop μ-loop
+returns c =
+    let e : c .before .loop .r ≡ 8 = omega arith in
+    rw e at (listed-end _ (replicate 8 0) _ _ (search needs) (c .before .loop .inv .1))
+
+pub discrepancies-spec : {M : Type 1} → statement M
+discrepancies-spec =
+    tie.close
+    (tie.spec
+    Inv-loop
+    μ-loop
+    loop-holds
+    mul-discrepancy
+    array-copy-out-discrepancy
+    mul-discrepancy-2
+    array-read-discrepancy
+    discrepancy-requires
+    array-write-out
+    add-r
+    loop-less
+    loop-again
+    returns)

@@ -1,0 +1,102 @@
+-- Each row passed is cleared; the row of the pivot is then replaced by the raised one.
+use mathlib.Core.Path.{_≡_}
+use mathlib.Core.List.{[]}
+use Prim.Native.Nat.{_≤_, _-_}
+use lib.ListN.{length}
+use borrow.Author.Needs.{needs}
+use Rattle.lists.specs.Passed.{Passed, passed-start, passed-turn, passed-end}
+use Rattle.galois.specs.Gf16.{inverse}
+use Rattle.basis.proofs.Rowwise.{Cleared, cleared-is, next-rows-are}
+use Rattle.basis.proofs.step.next_rows.Statement.{statement}
+use Rattle.basis.proofs.step.next_rows.Tie as tie
+
+abbrev Inv-loop : tie.InvT-loop
+Inv-loop at a rows ds pivot by out₀ r₀ out r = (r ≤ 8) × (length rows ≡ 8) × Passed [] (Cleared at ds rows) 0 r rows out
+
+abbrev μ-loop : tie.MeasureT-loop
+μ-loop at a rows ds pivot by out₀ r₀ out r = 8 - r
+
+mul-pivot : tie.Need-mul-pivot Inv-loop μ-loop
+mul-pivot c = search needs
+
+array-copy-out-pivot : tie.Need-array-copy-out-pivot Inv-loop μ-loop
+array-copy-out-pivot c = search needs
+
+array-read-inverse : tie.Need-array-read-inverse Inv-loop μ-loop
+array-read-inverse c = search needs
+
+inverse-requires : tie.Need-inverse-requires Inv-loop μ-loop
+inverse-requires c κs = search needs
+
+loop-holds : tie.Need-loop-holds Inv-loop μ-loop
+loop-holds c = (search needs, search needs, passed-start _ _ _ _)
+
+mul-next-row : tie.Need-mul-next-row Inv-loop μ-loop
+mul-next-row c = search needs
+
+array-copy-out-next-row : tie.Need-array-copy-out-next-row Inv-loop μ-loop
+array-copy-out-next-row c = search needs
+
+array-read-next-row : tie.Need-array-read-next-row Inv-loop μ-loop
+array-read-next-row c = search needs
+
+next-row-requires : tie.Need-next-row-requires Inv-loop μ-loop
+next-row-requires c κs = search needs
+
+mul-out : tie.Need-mul-out Inv-loop μ-loop
+mul-out c = search needs
+
+array-set-from-out : tie.Need-array-set-from-out Inv-loop μ-loop
+array-set-from-out c = search needs
+
+add-r : tie.Need-add-r Inv-loop μ-loop
+add-r c = search needs
+
+loop-less : tie.Need-loop-less Inv-loop μ-loop
+loop-less c = search needs
+
+loop-again : tie.Need-loop-again Inv-loop μ-loop
+loop-again c =
+    let a = c .before .before .before .before .before .before .args in (
+      search needs,
+      search needs,
+      passed-turn [] _ _ (search needs) (search needs) (cleared-is (a .at) (a .t2) (a .t1) _ _ _ (c .before .before .before .before .inverse .ensures) (c .next-row .ensures)) (c .before .before .before .loop .inv .2),
+    )
+
+raised-requires : tie.Need-raised-requires Inv-loop μ-loop
+raised-requires c κs = search needs
+
+mul-out-2 : tie.Need-mul-out-2 Inv-loop μ-loop
+mul-out-2 c = search needs
+
+array-set-from-out-2 : tie.Need-array-set-from-out-2 Inv-loop μ-loop
+array-set-from-out-2 c = search needs
+
+returns : tie.Need-returns Inv-loop μ-loop
+returns c =
+    next-rows-are _ _ _ _ _ _ (search needs) (search needs) (passed-end _ _ 8 (search needs) (search needs) (c .before .before .loop .inv .2)) (c .raised .ensures)
+
+pub next-rows-spec : {M : Type 1} → statement M
+next-rows-spec =
+    tie.close
+    (tie.spec
+    Inv-loop
+    μ-loop
+    mul-pivot
+    array-copy-out-pivot
+    array-read-inverse
+    inverse-requires
+    loop-holds
+    mul-next-row
+    array-copy-out-next-row
+    array-read-next-row
+    next-row-requires
+    mul-out
+    array-set-from-out
+    add-r
+    loop-less
+    loop-again
+    raised-requires
+    mul-out-2
+    array-set-from-out-2
+    returns)

@@ -1,0 +1,96 @@
+// One step of Kötter's algorithm on the eight rows and their leads.
+ghost use mathlib.Core.Path.{_≡_};
+ghost use Prim.Native.Nat.{_+_, _<_};
+ghost use Rattle.algebra.specs.Coefficients.{plus, scale};
+ghost use Rattle.lists.specs.Listed.{listed};
+ghost use Rattle.galois.specs.Gf16.{times};
+ghost use Rattle.galois.specs.Field16.{K16, toF, value};
+ghost use Rattle.basis.specs.Rows.{coef};
+ghost use Rattle.basis.specs.Choice.{Chosen};
+ghost use Rattle.basis.specs.Step.{discrepancy, discrepancyAt, NextRows};
+use galois::inverse;
+use galois::product;
+
+// The value of a row at the point of the weights; a spent class counts as zero.
+fn discrepancy(row: [u8; 96], lead: usize, limit: usize, weights: [u8; 96]) -> u8
+    ensures { λ r. ⌜ r ≡ value (discrepancy limit lead (coef row) (coef weights)) ⌝ }
+{
+    if limit < lead {
+        return 0;
+    }
+    crate::row::dot(row, weights)
+}
+
+pub fn discrepancies(
+    rows: [[u8; 96]; 8],
+    leads: [usize; 8],
+    limit: usize,
+    weights: [u8; 96],
+) -> [u8; 8]
+    ensures { λ r. ⌜ r ≡ listed 8 (discrepancyAt limit leads rows weights) ⌝ }
+{
+    let mut out = [0u8; 8];
+    let mut r = 0;
+    while r < 8 {
+        out[r] = discrepancy(rows[r], leads[r], limit, weights);
+        r += 1;
+    }
+    out
+}
+
+// The class chosen so far, or class r.
+fn better(ds: [u8; 8], leads: [usize; 8], best: usize, r: usize) -> usize
+    requires { ⌜ r < 8 ⌝ }
+    ensures { λ p. ⌜ (Chosen r ds leads best → Chosen (r + 1) ds leads p) ⌝ }
+{
+    if ds[r] == 0 {
+        return best;
+    }
+    if 8 <= best {
+        return r;
+    }
+    if leads[best] <= leads[r] {
+        return best;
+    }
+    r
+}
+
+// The class of least lead among those of non-zero discrepancy, or 8.
+pub fn choice(ds: [u8; 8], leads: [usize; 8]) -> usize
+    ensures { λ p. ⌜ Chosen 8 ds leads p ⌝ }
+{
+    let mut best = 8;
+    let mut r = 0;
+    while r < 8 {
+        best = better(ds, leads, best, r);
+        r += 1;
+    }
+    best
+}
+
+// A row and the multiple of the pivot's row that takes its discrepancy d away; by is the inverse of the pivot's.
+fn next_row(row: [u8; 96], d: u8, by: u8, pivot: [u8; 96]) -> [u8; 96]
+    ensures { λ r. ⌜ coef r ≡ plus K16 (coef row) (scale K16 (toF (times d by)) (coef pivot)) ⌝ }
+{
+    if d == 0 {
+        return row;
+    }
+    crate::row::added(row, product(d, by), pivot)
+}
+
+// The rows after a step at class `at`, where the point's x is a.
+pub fn next_rows(rows: [[u8; 96]; 8], ds: [u8; 8], at: usize, a: u8) -> [[u8; 96]; 8]
+    requires { ⌜ at < 8 ⌝ }
+    ensures { λ r. ⌜ NextRows at (toF a) ds rows r ⌝ }
+{
+    let pivot = rows[at];
+    let by = inverse(ds[at]);
+    let mut out = rows;
+    let mut r = 0;
+    while r < 8 {
+        out[r] = next_row(rows[r], ds[r], by, pivot);
+        r += 1;
+    }
+    out[at] = crate::row::raised(pivot, a);
+    out
+}
