@@ -2,6 +2,7 @@
 --
 --   Field F     the operations and laws of a field of characteristic 2 over the carrier F, with decidable equality
 --   ring        the rules by which `simp (ring, K)` decides an identity of sums and products
+--   mul-swap    a product of products, factor by factor
 --   add-cancel  a sum that is zero has two equal terms
 --   mul-ne-zero the product of two non-zero elements is not zero
 --   div-mul     a ⊗ inv b, multiplied by b, is a
@@ -84,6 +85,10 @@ module _ {F : Type 0} (K : Field F) where
 
   -- decides identities of sums and products in characteristic 2: both sides come to one sorted sum of sorted products
   pub ruleset ring = (add-assoc, add-comm, add-left-comm, add-zero, zero-add, add-self, add-self-left, mul-assoc, mul-comm, mul-left-comm, mul-one, one-mul, mul-zero, zero-mul, mul-add, add-mul)
+
+  -- a product of products, factor by factor
+  pub mul-swap : (a b c d : F) → (a ⊗ b) ⊗ (c ⊗ d) ≡ (a ⊗ c) ⊗ (b ⊗ d)
+  mul-swap a b c d = simp (mul-assoc, mul-left-comm)
 
   pub add-cancel : (a b : F) → a ⊕ b ≡ 𝟘 → a ≡ b
   add-cancel a b e = sym (add-zero a) ∙ ap (λ x. a ⊕ x) (sym e) ∙ add-self-left a b

@@ -10,3 +10,4 @@ pub mod Power
 pub mod Weighted
 pub mod Distance
 pub mod Dimension
+pub mod Dual

@@ -7,10 +7,11 @@
 --   sum-swap             two sums change places
 --   sum-more             terms that are zero from n on add nothing
 --   sum-append           the first m terms and the n after them
+--   sum-blocks           m·n terms as m sums of n
 --   sum-single           a sum with one term that is not zero is that term
 use mathlib.Core.Path.{_≡_, refl, sym, ap, ap₂, _∙_, fun-ext}
 use mathlib.Core.Logic.{_≢_, ⊎-elim}
-use Prim.Native.Nat.{ℕ, zero, suc, _+_, _-_, _<_, _≤_}
+use Prim.Native.Nat.{ℕ, zero, suc, _+_, _-_, _*_, _<_, _≤_}
 use native.Mathlib.Nat.{le-step, lt-suc-self, eq-or-lt-of-le, le-of-suc-le-suc, add-suc, le-of-lt, add-sub-of-le}
 use native.Mathlib.Nat as Nat
 use native.Mathlib.Decide.{ℕ-discrete}
@@ -78,3 +79,10 @@ module _ {F : Type 0} (K : Field F) where
   sum-single n i f l h =
       sum-more (suc i) n f l (λ k a b. h k b (λ (e : k ≡ i). absurd (omega arith)))
       ∙ sum-suc i f ∙ ap (λ x. x ⊕ f i) (sum-zero i f (λ k b. h k (omega arith) (λ (e : k ≡ i). absurd (omega arith)))) ∙ zero-add K (f i)
+
+  -- m blocks of n terms
+  pub sum-blocks : (m n : ℕ) (f : ℕ → F) → sum (m * n) f ≡ sum m (λ i. sum n (λ j. f (i * n + j)))
+  sum-blocks zero n f = ap (λ k. sum k f) (Nat.zero-mul n) ∙ sum-nil f ∙ sym (sum-nil _)
+  sum-blocks (suc m) n f =
+      ap (λ k. sum k f) (Nat.suc-mul m n) ∙ sum-append (m * n) n f ∙ ap (λ x. x ⊕ sum n (λ j. f (m * n + j))) (sum-blocks m n f)
+      ∙ sym (sum-suc m _)

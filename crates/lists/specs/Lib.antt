@@ -11,3 +11,5 @@ pub mod Distinct
 pub mod Stored
 pub mod Block
 pub mod Member
+pub mod Same
+pub mod XorSum

@@ -1,0 +1,54 @@
+-- What encoding and reading back return and leave in the caller's buffer, for all arguments, in the order of document 01's checks.
+--
+--   Outcome            a number returned and the lent buffer afterwards
+--   checked b n l o    refused with n, the buffer l unchanged, unless the test b passes; else the outcome o
+--   fitsFrame          there are 64 bytes of the frame from the start
+--   placed frame start word   the frame with the word in it from the start; the other bytes stay
+--   encodeCall         encode: rate; message of k bytes and 64 bytes of the frame; symbols
+--   readBackCall       read back: rate; word of 64 and message buffer of k bytes; symbols; codeword
+use mathlib.Core.Bool.{Bool, true, false}
+use mathlib.Core.List.{List, _++_}
+use mathlib.Core.Option.{Option, some, none}
+use Prim.Native.Nat.{ℕ, _+_}
+use lib.Dec.{eqb, leb}
+use lib.ListN.{length, take, drop}
+use Rattle.lists.specs.Every.{both}
+use Rattle.lists.specs.Words.{allBelow}
+use Rattle.code.specs.Encoding.{encodeOf, knownRate, readBackOf}
+use Rattle.refusals.specs.Refusal.{accepted, unknownRate, wrongSize, noSymbol, noCodeword}
+
+pub record Outcome : Type 0 where
+  pub number : ℕ
+  pub buffer : List ℕ
+
+abbrev pub outcome : ℕ → List ℕ → Outcome
+outcome n l = record { number = n; buffer = l }
+
+abbrev pub checked : Bool → ℕ → List ℕ → Outcome → Outcome
+checked true n l o = o
+checked false n l o = outcome n l
+
+unfoldable pub fitsFrame : List ℕ → ℕ → Bool
+fitsFrame frame start = leb (start + 64) (length frame)
+
+unfoldable pub placed : List ℕ → ℕ → List ℕ → List ℕ
+placed frame start word = take start frame ++ (word ++ drop (start + length word) frame)
+
+unfoldable pub encodeCall : ℕ → List ℕ → List ℕ → ℕ → Outcome
+encodeCall rate message frame start =
+    checked (knownRate rate) unknownRate frame
+    (checked (both (eqb (length message) rate) (fitsFrame frame start)) wrongSize frame
+    (checked (allBelow 16 message) noSymbol frame
+    (outcome accepted (placed frame start (encodeOf rate message)))))
+
+-- a message found is written; where there is none the buffer stays
+abbrev pub found : Option (List ℕ) → List ℕ → Outcome
+found none l = outcome noCodeword l
+found (some m) l = outcome accepted m
+
+unfoldable pub readBackCall : ℕ → List ℕ → List ℕ → Outcome
+readBackCall rate word message =
+    checked (knownRate rate) unknownRate message
+    (checked (both (eqb (length word) 64) (eqb (length message) rate)) wrongSize message
+    (checked (allBelow 16 word) noSymbol message
+    (found (readBackOf rate word) message)))

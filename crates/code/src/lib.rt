@@ -1,0 +1,1 @@
+// The code: points of the curve by place, evaluation, encoding and reading back. It knows of no costs, no doubt and no session.
