@@ -13,3 +13,5 @@ pub mod Block
 pub mod Member
 pub mod Same
 pub mod XorSum
+pub mod Count
+pub mod Rank
