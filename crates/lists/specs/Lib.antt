@@ -15,3 +15,4 @@ pub mod Same
 pub mod XorSum
 pub mod Count
 pub mod Rank
+pub mod Padded

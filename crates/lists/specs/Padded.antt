@@ -1,0 +1,52 @@
+-- A list kept in an array of fixed width: its entries from the front, zeros behind them.
+--
+--   padded w l       the first w entries of l, and zeros up to w entries
+--   padded-length    it has w entries
+--   padded-nil       the empty list is all zeros
+--   padded-snoc, padded-full   one entry more is one store, while there is room; without room nothing changes
+--   padded-take      a list with room is read back from the front
+use mathlib.Core.Path.{_≡_, refl, ap}
+use mathlib.Core.List.{List, [], _∷_, _++_}
+use Prim.Native.Nat.{ℕ, zero, suc, _<_, _≤_}
+use native.Mathlib.Nat.{le-of-suc-le-suc}
+use native.Mathlib.Omega.{arith}
+use lib.ListN.{length, set, take, replicate}
+
+unfoldable pub padded : ℕ → List ℕ → List ℕ
+padded zero [] = []
+padded zero (x ∷ l) = []
+padded (suc w) [] = 0 ∷ padded w []
+padded (suc w) (x ∷ l) = x ∷ padded w l
+
+pub padded-length : (w : ℕ) (l : List ℕ) → length (padded w l) ≡ w
+unfolding padded
+padded-length zero [] = refl
+padded-length zero (x ∷ l) = refl
+padded-length (suc w) [] = ap suc (padded-length w [])
+padded-length (suc w) (x ∷ l) = ap suc (padded-length w l)
+
+pub padded-nil : (w : ℕ) → padded w [] ≡ replicate w 0
+unfolding padded
+padded-nil zero = refl
+padded-nil (suc w) = ap (λ (r : List ℕ). 0 ∷ r) (padded-nil w)
+
+pub padded-full : (w : ℕ) (l m : List ℕ) → w ≤ length l → padded w (l ++ m) ≡ padded w l
+unfolding padded
+padded-full zero [] [] h = refl
+padded-full zero [] (y ∷ m) h = refl
+padded-full zero (x ∷ l) m h = refl
+padded-full (suc w) [] m h = absurd (omega arith)
+padded-full (suc w) (x ∷ l) m h = ap (λ (r : List ℕ). x ∷ r) (padded-full w l m (le-of-suc-le-suc h))
+
+pub padded-take : (w : ℕ) (l : List ℕ) → length l ≤ w → take (length l) (padded w l) ≡ l
+unfolding padded
+padded-take zero [] h = refl
+padded-take zero (x ∷ l) h = absurd (omega arith)
+padded-take (suc w) [] h = refl
+padded-take (suc w) (x ∷ l) h = ap (λ (r : List ℕ). x ∷ r) (padded-take w l (le-of-suc-le-suc h))
+
+pub padded-snoc : (w : ℕ) (l : List ℕ) (x : ℕ) → length l < w → set (padded w l) (length l) x ≡ padded w (l ++ (x ∷ []))
+unfolding padded
+padded-snoc zero l x h = absurd (omega arith)
+padded-snoc (suc w) [] x h = refl
+padded-snoc (suc w) (y ∷ l) x h = ap (λ (r : List ℕ). y ∷ r) (padded-snoc w l x (le-of-suc-le-suc h))

@@ -1,0 +1,196 @@
+-- What follows from the definitions of columns, doubt, test words and totals: the laws that later proofs cite.
+--
+--   bestBut-nil, bestBut-suc, betterOf-left, betterOf-next, betterOf-held   the definitions step by step
+--   BestBut column b n r   r is the best of the first n symbols other than b: least cost, and among equals the smallest
+--   bestBut-best           bestBut finds it; bestBut-unique: there is only one
+--   best-best              the best symbol has least cost and, among equal costs, is the smaller one
+--   second-best            the second is the best of the others; it differs from the best
+--   best-below, second-below, gap-cost   they are symbols of the column; best cost and gap make the second cost
+use mathlib.Core.Bool.{Bool, true, false, cond}
+use mathlib.Core.Path.{_≡_, refl, sym, ap, ap₂, _∙_, subst}
+use mathlib.Core.List.{List, [], _∷_, _++_}
+use mathlib.Core.Logic.{_≢_, _⊎_, inl, inr, ⊎-elim}
+use Prim.Native.Nat.{ℕ, zero, suc, _+_, _-_, _*_, _<_, _≤_}
+use native.Mathlib.Nat.{eq-or-lt-of-le, le-of-suc-le-suc, le-antisymm}
+use native.Mathlib.Decide.{decLe, ℕ-discrete}
+use native.Mathlib.Omega.{arith}
+use lib.Dec.{ltb, eqb}
+use lib.ListN.{length, getD, List·getD-eq-default}
+use Rattle.lists.specs.Listed.{listed, listed-length, listed-at}
+use borrow.Author.Tests.{lt-ltb, le-ltb, eq-eqb, ne-eqb}
+use Rattle.soft.specs.Column.{costOf, costAt, columnOf, firstBut, betterOf, betterIn, bestBut, bestOf, secondOf, gapOf}
+
+pub firstBut-zero : (b : ℕ) → b ≡ 0 → firstBut b ≡ 1
+unfolding firstBut
+firstBut-zero b e = simp (eq-eqb b 0 e)
+
+pub firstBut-other : (b : ℕ) → b ≢ 0 → firstBut b ≡ 0
+unfolding firstBut
+firstBut-other b e = simp (ne-eqb b 0 e)
+
+pub betterOf-left : (b held least next cost : ℕ) → next ≡ b → betterOf b held least next cost ≡ held
+unfolding betterOf
+betterOf-left b held least next cost e = simp (eq-eqb next b e)
+
+pub betterOf-next : (b held least next cost : ℕ) → next ≢ b → cost < least → betterOf b held least next cost ≡ next
+unfolding betterOf
+betterOf-next b held least next cost e l = simp (ne-eqb next b e, lt-ltb cost least l)
+
+pub betterOf-held : (b held least next cost : ℕ) → next ≢ b → least ≤ cost → betterOf b held least next cost ≡ held
+unfolding betterOf
+betterOf-held b held least next cost e l = simp (ne-eqb next b e, le-ltb cost least l)
+
+pub bestBut-nil : (column : List ℕ) (b : ℕ) → bestBut column b 0 ≡ firstBut b
+unfolding bestBut
+bestBut-nil column b = refl
+
+pub bestBut-suc : (column : List ℕ) (b n : ℕ) → bestBut column b (suc n) ≡ betterIn column b (bestBut column b n) n
+unfolding bestBut
+bestBut-suc column b n = refl
+
+pub record BestBut (column : List ℕ) (b n r : ℕ) : Type 0 where
+  pub below : r < n
+  pub other : r ≢ b
+  pub least : (s : ℕ) → s < n → s ≢ b → costOf column r ≤ costOf column s
+  pub first : (s : ℕ) → s < n → s ≢ b → costOf column s ≡ costOf column r → r ≤ s
+
+pub bestBut-unique : (column : List ℕ) (b n r t : ℕ) → BestBut column b n r → BestBut column b n t → r ≡ t
+bestBut-unique column b n r t x y =
+    let l : costOf column r ≤ costOf column t = x .least t (y .below) (y .other) in
+    let m : costOf column t ≤ costOf column r = y .least r (x .below) (x .other) in
+    le-antisymm (x .first t (y .below) (y .other) (le-antisymm m l)) (y .first r (x .below) (x .other) (le-antisymm l m))
+
+-- the symbol held after n of them: it may be the first, which is not among them yet
+record Held (column : List ℕ) (b n r : ℕ) : Type 0 where
+  place : r < n ⊎ (r ≡ firstBut b)
+  other : r ≢ b
+  least : (s : ℕ) → s < n → s ≢ b → costOf column r ≤ costOf column s
+  first : (s : ℕ) → s < n → s ≢ b → costOf column s ≡ costOf column r → r ≤ s
+
+first-le : (b n : ℕ) → n ≢ b → firstBut b ≤ n
+first-le b n e = go (ℕ-discrete b 0)
+  where
+    go : Dec (b ≡ 0) → firstBut b ≤ n
+    go (yes z) = omega (arith, firstBut-zero b z)
+    go (no z) = omega (arith, firstBut-other b z)
+
+firstBut-le : (b : ℕ) → firstBut b ≤ 1
+firstBut-le b = go (ℕ-discrete b 0)
+  where
+    go : Dec (b ≡ 0) → firstBut b ≤ 1
+    go (yes z) = omega (arith, firstBut-zero b z)
+    go (no z) = omega (arith, firstBut-other b z)
+
+first-other : (b : ℕ) → firstBut b ≢ b
+first-other b = go (ℕ-discrete b 0)
+  where
+    go : Dec (b ≡ 0) → firstBut b ≢ b
+    go (yes z) e = omega (arith, firstBut-zero b z)
+    go (no z) e = omega (arith, firstBut-other b z)
+
+module _ (column : List ℕ) (b : ℕ) where
+  held-step : (n r : ℕ) → Held column b n r → Held column b (suc n) (betterIn column b r n)
+  held-step n r h = go (ℕ-discrete n b) (decLe (costOf column r) (costOf column n))
+    where
+      -- one symbol more: a fact of the earlier ones and of this one
+      more : {P : ℕ → Type 0} → ((s : ℕ) → s < n → s ≢ b → P s) → (n ≢ b → P n) → (s : ℕ) → s < suc n → s ≢ b → P s
+      more {P} f g s l e =
+          ⊎-elim (λ (q : s ≡ n). subst P (sym q) (g (λ z. e (q ∙ z)))) (λ k. f s k e) (eq-or-lt-of-le (le-of-suc-le-suc l))
+
+      later : r < n ⊎ (r ≡ firstBut b) → r < suc n ⊎ (r ≡ firstBut b)
+      later (inl l) = inl (omega arith)
+      later (inr q) = inr q
+
+      at : n ≢ b → r ≤ n
+      at e = ⊎-elim (λ l. omega arith) (λ (q : r ≡ firstBut b). omega (arith, first-le b n e)) (h .place)
+
+      keep : (n ≢ b → costOf column r ≤ costOf column n) → Held column b (suc n) r
+      keep l =
+          record {
+            place = later (h .place);
+            other = h .other;
+            least = more {P = λ s. costOf column r ≤ costOf column s} (h .least) l;
+            first = more {P = λ s. costOf column s ≡ costOf column r → r ≤ s} (h .first) (λ e q. at e);
+          }
+
+      take : n ≢ b → costOf column n < costOf column r → Held column b (suc n) n
+      take e l =
+          record {
+            place = inl (omega arith);
+            other = e;
+            least =
+                more {P = λ s. costOf column n ≤ costOf column s} (λ s k z. omega (arith, h .least s k z)) (λ z. omega arith);
+            first =
+                more {P = λ s. costOf column s ≡ costOf column n → n ≤ s}
+                (λ s k z q. absurd (omega (arith, h .least s k z)))
+                (λ z q. omega arith);
+          }
+
+      go : Dec (n ≡ b) → Dec (costOf column r ≤ costOf column n) → Held column b (suc n) (betterIn column b r n)
+      go (yes e) d = rw (betterOf-left b r (costOf column r) n (costOf column n) e) (keep (λ z. absurd (z e)))
+      go (no e) (yes l) = rw (betterOf-held b r (costOf column r) n (costOf column n) e l) (keep (λ z. l))
+      go (no e) (no l) =
+          rw (betterOf-next b r (costOf column r) n (costOf column n) e (omega arith)) (take e (omega arith))
+
+  held-all : (n : ℕ) → Held column b n (bestBut column b n)
+  held-all zero =
+      rw bestBut-nil
+      (record { place = inr refl; other = first-other b; least = λ s l. absurd (omega arith); first = λ s l. absurd (omega arith) })
+  held-all (suc n) = rw bestBut-suc (held-step n (bestBut column b n) (held-all n))
+
+  -- in a column of at least two symbols the symbol held is always one of them
+  pub bestBut-below : (n m : ℕ) → n ≤ m → 1 < m → bestBut column b n < m
+  bestBut-below n m l two =
+      ⊎-elim (λ k. omega arith) (λ (q : bestBut column b n ≡ firstBut b). omega (arith, firstBut-le b)) (held-all n .place)
+
+  pub bestBut-best : (n : ℕ) → firstBut b < n → BestBut column b n (bestBut column b n)
+  bestBut-best n l =
+      let h = held-all n in
+      record {
+        below = ⊎-elim (λ k. k) (λ (q : bestBut column b n ≡ firstBut b). omega arith) (h .place);
+        other = h .other;
+        least = h .least;
+        first = h .first;
+      }
+
+module _ (column : List ℕ) (two : 1 < length column) where
+  -- the best symbol: no symbol of the column is left out
+  pub best-best : BestBut column (length column) (length column) (bestOf column)
+  unfolding bestOf
+  best-best = bestBut-best column (length column) (length column) (omega (arith, firstBut-other (length column) (omega arith)))
+
+  pub second-best : BestBut column (bestOf column) (length column) (secondOf column)
+  unfolding secondOf
+  second-best = bestBut-best column (bestOf column) (length column) (omega (arith, firstBut-le (bestOf column)))
+
+  pub best-below : bestOf column < length column
+  best-below = best-best .below
+
+  pub second-below : secondOf column < length column
+  second-below = second-best .below
+
+  pub second-other : secondOf column ≢ bestOf column
+  second-other = second-best .other
+
+  -- every symbol of the column costs at least as much as the best one, and an equal cost is at no smaller symbol
+  pub best-least : (s : ℕ) → s < length column → costOf column (bestOf column) ≤ costOf column s
+  best-least s l = best-best .least s l (omega arith)
+
+  pub best-first : (s : ℕ) → s < length column → costOf column s ≡ costOf column (bestOf column) → bestOf column ≤ s
+  best-first s l e = best-best .first s l (omega arith) e
+
+  pub gap-cost : costOf column (bestOf column) + gapOf column ≡ costOf column (secondOf column)
+  unfolding gapOf
+  gap-cost = let l : costOf column (bestOf column) ≤ costOf column (secondOf column) = best-least (secondOf column) second-below in omega arith
+
+-- a column read off a list of costs has q costs, and its cost of a symbol is the one that stands there
+pub column-length : (q : ℕ) (costs : List ℕ) (p : ℕ) → length (columnOf q costs p) ≡ q
+unfolding columnOf
+column-length q costs p = listed-length q (costAt q costs p)
+
+pub cost-column : (q : ℕ) (costs : List ℕ) (p s : ℕ) → s < q → costOf (columnOf q costs p) s ≡ costAt q costs p s
+unfolding columnOf
+cost-column q costs p s l = listed-at q s (costAt q costs p) 0 l
+
+pub cost-none : (q : ℕ) (costs : List ℕ) (p s : ℕ) → q ≤ s → costOf (columnOf q costs p) s ≡ 0
+cost-none q costs p s l = List·getD-eq-default (columnOf q costs p) 0 (omega (arith, column-length q costs p))

@@ -1,0 +1,27 @@
+-- Test words: a tree in which each doubtful place, lowest first, doubles them, once with its best and once with its second symbol.
+--
+--   bestWord n columns           every place carries its best symbol
+--   expand columns word places   the word, doubled at each of the places in turn: first with the best symbol there, then with the second
+--   testWords n columns doubtful the test words of a list of doubtful places; the other places are settled and carry their best symbol
+use mathlib.Core.List.{List, [], _∷_, _++_}
+use Prim.Native.Nat.{ℕ}
+use lib.ListN.{set}
+use Rattle.lists.specs.Listed.{listed}
+use Rattle.soft.specs.Column.{bestOf, secondOf}
+
+abbrev pub bestAt : (ℕ → List ℕ) → ℕ → ℕ
+bestAt columns p = bestOf (columns p)
+
+abbrev pub secondAt : (ℕ → List ℕ) → ℕ → ℕ
+secondAt columns p = secondOf (columns p)
+
+unfoldable pub bestWord : ℕ → (ℕ → List ℕ) → List ℕ
+bestWord n columns = listed n (bestAt columns)
+
+unfoldable pub expand : (ℕ → List ℕ) → List ℕ → List ℕ → List (List ℕ)
+expand columns word [] = word ∷ []
+expand columns word (p ∷ ps) =
+    expand columns (set word p (bestAt columns p)) ps ++ expand columns (set word p (secondAt columns p)) ps
+
+unfoldable pub testWords : ℕ → (ℕ → List ℕ) → List ℕ → List (List ℕ)
+testWords n columns doubtful = expand columns (bestWord n columns) doubtful

@@ -1,0 +1,55 @@
+-- What a word costs, how it differs, and the report.
+--
+--   symbolAt word p            the symbol of a word at place p
+--   costIn columns word p      what the word's symbol costs at place p
+--   totalOf n columns word     the total: the sum of these costs over n places, a cost at the ceiling summed as it stands
+--   pinnedOf n columns word    the pinned places: how many of these costs are at the ceiling (saturated)
+--   changedOf n columns word   the changed places: where the word's symbol is not the best symbol
+--   agree u v p                the words have equal entries at place p, and neither lacks one
+--   differing n u v            in how many of n places two words differ; a missing entry differs
+--   bytesOf n v                v in n bytes, high byte first
+--   reportOf total tests pinned changed   the report's eight bytes
+use mathlib.Core.Bool.{Bool, not, _&&_}
+use mathlib.Core.List.{List, [], _∷_, _++_}
+use Prim.Native.Nat.{ℕ, zero, suc, _/_, _%_}
+use lib.Dec.{ltb, eqb}
+use lib.ListN.{length, getD}
+use Rattle.lists.specs.Count.{sumOf, count}
+use Rattle.soft.specs.Column.{costOf, bestOf, ceiling}
+
+abbrev pub symbolAt : List ℕ → ℕ → ℕ
+symbolAt word p = getD word p 0
+
+abbrev pub costIn : (ℕ → List ℕ) → List ℕ → ℕ → ℕ
+costIn columns word p = costOf (columns p) (symbolAt word p)
+
+unfoldable pub totalOf : ℕ → (ℕ → List ℕ) → List ℕ → ℕ
+totalOf n columns word = sumOf n (costIn columns word)
+
+abbrev pub pinnedAt : (ℕ → List ℕ) → List ℕ → ℕ → Bool
+pinnedAt columns word p = eqb (costIn columns word p) ceiling
+
+unfoldable pub pinnedOf : ℕ → (ℕ → List ℕ) → List ℕ → ℕ
+pinnedOf n columns word = count n (pinnedAt columns word)
+
+abbrev pub changedAt : (ℕ → List ℕ) → List ℕ → ℕ → Bool
+changedAt columns word p = not (eqb (symbolAt word p) (bestOf (columns p)))
+
+unfoldable pub changedOf : ℕ → (ℕ → List ℕ) → List ℕ → ℕ
+changedOf n columns word = count n (changedAt columns word)
+
+unfoldable pub agree : List ℕ → List ℕ → ℕ → Bool
+agree u v p = ltb p (length u) && (ltb p (length v) && eqb (symbolAt u p) (symbolAt v p))
+
+abbrev pub differAt : List ℕ → List ℕ → ℕ → Bool
+differAt u v p = not (agree u v p)
+
+unfoldable pub differing : ℕ → List ℕ → List ℕ → ℕ
+differing n u v = count n (differAt u v)
+
+unfoldable pub bytesOf : ℕ → ℕ → List ℕ
+bytesOf zero v = []
+bytesOf (suc n) v = bytesOf n (v / 256) ++ (v % 256 ∷ [])
+
+unfoldable pub reportOf : ℕ → ℕ → ℕ → ℕ → List ℕ
+reportOf total tests pinned changed = bytesOf 4 total ++ (bytesOf 2 tests ++ (bytesOf 1 pinned ++ bytesOf 1 changed))

@@ -1,0 +1,12 @@
+// A test as a number, to count what passes without a branch.
+ghost use mathlib.Core.Path.{_≡_};
+ghost use Rattle.lists.specs.Count.{bit};
+
+pub fn bit(test: bool) -> usize
+    ensures { λ r. ⌜ r ≡ bit test ⌝ }
+{
+    if test {
+        return 1;
+    }
+    0
+}
