@@ -7,6 +7,7 @@
 --   Rising l         each entry of l is below every later one
 --   sumOf-ext, sumOf-mono, sumOf-strict, sumOf-bound, sumOf-plus   equal, smaller, bounded and added terms
 --   count-ext, count-le, count-none, count-mono, count-strict   the same of tests
+--   sumOf-turn, count-turn   one turn of a loop that adds up
 --   kept-length, kept-member, kept-passes, kept-rising, kept-ext   how many are kept, which, and in which order
 use mathlib.Core.Bool.{Bool, true, false, cond, not, _&&_, _||_}
 use mathlib.Core.Path.{_≡_, refl, sym, ap, ap₂, _∙_, subst, subst₂}
@@ -203,3 +204,11 @@ kept-rising (suc n) f = rw kept-suc (step (f n) (kept-rising n f))
     step : (b : Bool) → Rising (kept n f) → Rising (kept n f ++ cond b (n ∷ []) [])
     step true r = rising-snoc (kept n f) n r (λ k m. kept-passes n f k m .0)
     step false r = rw append-nil r
+
+-- a loop that adds up: what it holds after one turn more
+pub sumOf-turn : (n : ℕ) (f : ℕ → ℕ) (held v : ℕ) → held ≡ sumOf n f → v ≡ f n → held + v ≡ sumOf (n + 1) f
+sumOf-turn n f held v e q = ap₂ (λ x y. x + y) e q ∙ sym (sumOf-suc n f) ∙ ap (λ k. sumOf k f) (sym (add-one n))
+
+pub count-turn : (n : ℕ) (f : ℕ → Bool) (held v : ℕ) → held ≡ count n f → v ≡ bit (f n) → held + v ≡ count (n + 1) f
+unfolding count
+count-turn n f held v e q = sumOf-turn n (λ k. bit (f k)) held v e q

@@ -4,13 +4,17 @@
 --   padded-length    it has w entries
 --   padded-nil       the empty list is all zeros
 --   padded-snoc, padded-full   one entry more is one store, while there is room; without room nothing changes
+--   padded-if        one entry more or none, by a test
 --   padded-take      a list with room is read back from the front
-use mathlib.Core.Path.{_≡_, refl, ap}
-use mathlib.Core.List.{List, [], _∷_, _++_}
+use mathlib.Core.Bool.{Bool, true, false, cond}
+use mathlib.Core.Path.{_≡_, refl, sym, ap, _∙_}
+use mathlib.Core.List.{List, [], _∷_, _++_, append-nil}
 use Prim.Native.Nat.{ℕ, zero, suc, _<_, _≤_}
 use native.Mathlib.Nat.{le-of-suc-le-suc}
+use native.Mathlib.Decide.{decLe}
 use native.Mathlib.Omega.{arith}
 use lib.ListN.{length, set, take, replicate}
+use lib.Seq.{set-out}
 
 unfoldable pub padded : ℕ → List ℕ → List ℕ
 padded zero [] = []
@@ -50,3 +54,12 @@ unfolding padded
 padded-snoc zero l x h = absurd (omega arith)
 padded-snoc (suc w) [] x h = refl
 padded-snoc (suc w) (y ∷ l) x h = ap (λ (r : List ℕ). y ∷ r) (padded-snoc w l x (le-of-suc-le-suc h))
+
+-- one entry more or none, by a test: a store or none, and beyond the width a store changes nothing
+pub padded-if : (w : ℕ) (l : List ℕ) (x at : ℕ) (b : Bool) → at ≡ length l → cond b (set (padded w l) at x) (padded w l) ≡ padded w (l ++ cond b (x ∷ []) [])
+padded-if w l x at false e = ap (padded w) (sym (append-nil l))
+padded-if w l x at true e = go (decLe w at)
+  where
+    go : Dec (w ≤ at) → set (padded w l) at x ≡ padded w (l ++ (x ∷ []))
+    go (yes h) = set-out (padded w l) at x (omega (arith, padded-length w l)) ∙ sym (padded-full w l (x ∷ []) (omega arith))
+    go (no h) = ap (λ n. set (padded w l) n x) e ∙ padded-snoc w l x (omega arith)

@@ -18,6 +18,8 @@ use lib.Dec.{ltb, eqb}
 use lib.ListN.{length, getD, List·getD-eq-default}
 use Rattle.lists.specs.Listed.{listed, listed-length, listed-at}
 use borrow.Author.Tests.{lt-ltb, le-ltb, eq-eqb, ne-eqb}
+use Rattle.lists.specs.Count.{bit, count, count-ext, count-le, kept, kept-ext, kept-length, kept-member, kept-passes, kept-rising, Rising}
+use Rattle.soft.specs.Doubt.{ahead, aheadBy, aheadOf, fewAhead, smallest, gapAt, doubtfulOf}
 use Rattle.soft.specs.Column.{costOf, costAt, columnOf, firstBut, betterOf, betterIn, bestBut, bestOf, secondOf, gapOf}
 
 pub firstBut-zero : (b : ℕ) → b ≡ 0 → firstBut b ≡ 1
@@ -194,3 +196,18 @@ cost-column q costs p s l = listed-at q s (costAt q costs p) 0 l
 
 pub cost-none : (q : ℕ) (costs : List ℕ) (p s : ℕ) → q ≤ s → costOf (columnOf q costs p) s ≡ 0
 cost-none q costs p s l = List·getD-eq-default (columnOf q costs p) 0 (omega (arith, column-length q costs p))
+
+-- only the gaps of the n places matter
+pub aheadOf-ext : (n : ℕ) (g h : ℕ → ℕ) → ((p : ℕ) → p < n → g p ≡ h p) → (q : ℕ) → q < n → aheadOf n g q ≡ aheadOf n h q
+unfolding aheadOf
+aheadOf-ext n g h e q l =
+    count-ext n (λ p. ahead g p q) (λ p. ahead h p q) (λ p k. ap₂ (λ x y. aheadBy x p y q) (e p k) (e q l))
+
+pub smallest-ext : (n d : ℕ) (g h : ℕ → ℕ) → ((p : ℕ) → p < n → g p ≡ h p) → smallest n d g ≡ smallest n d h
+unfolding smallest
+smallest-ext n d g h e =
+    kept-ext n (fewAhead n d g) (fewAhead n d h) (λ q l. ap (λ r. ltb r d) (aheadOf-ext n g h e q l))
+
+pub doubtful-ext : (n d : ℕ) (c e : ℕ → List ℕ) → ((p : ℕ) → p < n → c p ≡ e p) → doubtfulOf n d c ≡ doubtfulOf n d e
+unfolding doubtfulOf
+doubtful-ext n d c e h = smallest-ext n d (gapAt c) (gapAt e) (λ p l. ap gapOf (h p l))

@@ -1,9 +1,10 @@
 // A test as a number, to count what passes without a branch.
 ghost use mathlib.Core.Path.{_≡_};
+ghost use Prim.Native.Nat.{_≤_};
 ghost use Rattle.lists.specs.Count.{bit};
 
 pub fn bit(test: bool) -> usize
-    ensures { λ r. ⌜ r ≡ bit test ⌝ }
+    ensures { λ r. ⌜ (r ≡ bit test) × (r ≤ 1) ⌝ }
 {
     if test {
         return 1;

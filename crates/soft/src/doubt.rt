@@ -1,0 +1,89 @@
+// The doubtful places of a table, and the word of best symbols.
+use crate::bit;
+use crate::column;
+use crate::costs;
+ghost use mathlib.Core.Path.{_≡_};
+ghost use mathlib.Core.Bool.{cond};
+ghost use Prim.Native.Nat.{_<_};
+ghost use lib.ListN.{getD, set};
+ghost use Rattle.lists.specs.Listed.{listed};
+ghost use Rattle.lists.specs.Padded.{padded};
+ghost use Rattle.soft.specs.Column.{places, symbols, columnOf};
+ghost use Rattle.soft.specs.Doubt.{aheadBy, aheadOf, gapAt, doubtfulOf, entryOf};
+ghost use Rattle.soft.specs.TestWord.{bestWord};
+
+// Is the place with this gap ahead of another place with its gap?
+fn ahead(gap: u16, place: usize, wide: u16, other: usize) -> bool
+    ensures { λ r. ⌜ r ≡ aheadBy gap place wide other ⌝ }
+{
+    if gap < wide {
+        return true;
+    }
+    if wide < gap {
+        return false;
+    }
+    place < other
+}
+
+fn gaps_of(costs: &[u16]) -> [u16; 64]
+    ensures { λ r. ⌜ r ≡ listed places (gapAt (columnOf symbols (now (costs .entry)))) ⌝ }
+{
+    let mut out = [0u16; 64];
+    for place in 0..64 {
+        out[place] = column::gap(costs::column_of(costs, place));
+    }
+    out
+}
+
+// How many places are ahead of one.
+fn ahead_of(gaps: [u16; 64], other: usize) -> usize
+    requires { ⌜ other < places ⌝ }
+    ensures { λ r. ⌜ r ≡ aheadOf places (entryOf gaps) other ⌝ }
+{
+    let mut n = 0;
+    for place in 0..64 {
+        n += bit::bit(ahead(gaps[place], place, gaps[other], other));
+    }
+    n
+}
+
+// One place more, if it is chosen and there is room.
+fn with_place(list: [u8; 8], at: usize, place: u8, chosen: bool) -> [u8; 8]
+    ensures { λ r. ⌜ r ≡ cond chosen (set list at place) list ⌝ }
+{
+    let mut out = list;
+    if chosen {
+        if at < 8 {
+            out[at] = place;
+        }
+    }
+    out
+}
+
+// The doubtful places, rising, from the front of an array; a doubt of at most 8 finds room for all.
+pub fn doubtful(costs: &[u16], doubt: usize) -> [u8; 8]
+    ensures { λ r. ⌜ r ≡ padded 8 (doubtfulOf places doubt (columnOf symbols (now (costs .entry)))) ⌝ }
+{
+    let gaps = gaps_of(costs);
+    let mut out = [0u8; 8];
+    let mut found = 0;
+    for place in 0..64 {
+        let rank = ahead_of(gaps, place);
+        let chosen = rank < doubt;
+        let longer = with_place(out, found, place as u8, chosen);
+        out = longer;
+        found += bit::bit(chosen);
+    }
+    out
+}
+
+// The word that carries the best symbol at every place.
+pub fn best_word(costs: &[u16]) -> [u8; 64]
+    ensures { λ r. ⌜ r ≡ bestWord places (columnOf symbols (now (costs .entry))) ⌝ }
+{
+    let mut out = [0u8; 64];
+    for place in 0..64 {
+        out[place] = column::best(costs::column_of(costs, place));
+    }
+    out
+}

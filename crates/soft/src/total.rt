@@ -1,0 +1,62 @@
+// What a word costs over 64 places, and where it differs.
+use crate::bit;
+use crate::column;
+use crate::costs;
+ghost use mathlib.Core.Path.{_≡_};
+ghost use Prim.Native.Nat.{_<_};
+ghost use Rattle.soft.specs.Column.{places, symbols, columnOf};
+ghost use Rattle.soft.specs.Total.{totalOf, pinnedOf, changedOf, agree, differing, pinnedAt, changedAt, differAt};
+
+// A cost at the ceiling is summed as it stands.
+pub fn total(costs: &[u16], word: &[u8]) -> u32
+    ensures { λ r. ⌜ r ≡ totalOf places (columnOf symbols (now (costs .entry))) (now (word .entry)) ⌝ }
+{
+    let mut sum: u32 = 0;
+    for place in 0..64 {
+        sum += costs::cost_of(costs, place, costs::byte_at(word, place)) as u32;
+    }
+    sum
+}
+
+pub fn pinned(costs: &[u16], word: &[u8]) -> u8
+    ensures { λ r. ⌜ r ≡ pinnedOf places (columnOf symbols (now (costs .entry))) (now (word .entry)) ⌝ }
+{
+    let mut n: usize = 0;
+    for place in 0..64 {
+        n += bit::bit(costs::cost_of(costs, place, costs::byte_at(word, place)) == 65535);
+    }
+    n as u8
+}
+
+pub fn changed(costs: &[u16], word: &[u8]) -> u8
+    ensures { λ r. ⌜ r ≡ changedOf places (columnOf symbols (now (costs .entry))) (now (word .entry)) ⌝ }
+{
+    let mut n: usize = 0;
+    for place in 0..64 {
+        n += bit::bit(costs::byte_at(word, place) != column::best(costs::column_of(costs, place)));
+    }
+    n as u8
+}
+
+// Two words have an entry at a place, and it is the same.
+fn agreeing(u: &[u8], v: &[u8], place: usize) -> bool
+    ensures { λ r. ⌜ r ≡ agree (now (u .entry)) (now (v .entry)) place ⌝ }
+{
+    if u.len() <= place {
+        return false;
+    }
+    if v.len() <= place {
+        return false;
+    }
+    u[place] == v[place]
+}
+
+pub fn differing(u: &[u8], v: &[u8]) -> usize
+    ensures { λ r. ⌜ r ≡ differing places (now (u .entry)) (now (v .entry)) ⌝ }
+{
+    let mut n: usize = 0;
+    for place in 0..64 {
+        n += bit::bit(!agreeing(u, v, place));
+    }
+    n
+}
