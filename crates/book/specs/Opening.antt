@@ -2,7 +2,8 @@
 --
 --   knownRate rate       39 or 49
 --   rising list          strictly rising: each number is at least one more than the number before it
---   fitDoubt list        a doubtful list of at most 8 places, none above 63, strictly rising
+--   fitPlaces list       no place is above 63, and they are strictly rising
+--   fitDoubt list        a doubtful list of at most 8 such places
 --   refusedOpening n     refused with the number n: a new book of rate 39 with an empty list
 --   openOf rate list     what opening answers: 1 or 4 if refused, else a new book of that rate and list
 use mathlib.Core.Bool.{Bool, true, cond, _&&_, _||_}
@@ -25,8 +26,11 @@ risingFrom n (p ∷ list) = leb n p && risingFrom (suc p) list
 unfoldable pub rising : List ℕ → Bool
 rising list = risingFrom 0 list
 
+unfoldable pub fitPlaces : List ℕ → Bool
+fitPlaces list = below places list && rising list
+
 unfoldable pub fitDoubt : List ℕ → Bool
-fitDoubt list = leb (length list) 8 && (below places list && rising list)
+fitDoubt list = leb (length list) 8 && fitPlaces list
 
 unfoldable pub refusedOpening : ℕ → Outcome
 refusedOpening n = record { number = n; book = newBook 39 [] }

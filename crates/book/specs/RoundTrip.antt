@@ -8,7 +8,7 @@
 --   write-then-open      so writing, where it is accepted, and then opening gives the book again
 --   written-opened       the capture of the book that an accepted capture opens as is that capture
 --   open-then-write      so opening an accepted capture and then writing gives its bytes again
-use mathlib.Core.Bool.{Bool, true, false, not, _&&_}
+use mathlib.Core.Bool.{Bool, true, false, not}
 use mathlib.Core.Path.{_≡_, refl, sym, ap, ap₂, _∙_}
 use mathlib.Core.List.{List, [], _∷_, _++_}
 use Prim.Native.Nat.{ℕ, suc, _+_, _/_, _%_, _<_, _≤_}
@@ -20,7 +20,7 @@ use borrow.Author.Tests.{eqb-true, eqb-false, eq-eqb, ne-eqb, le-leb, leb-true, 
 use Rattle.refusals.specs.Refusal.{accepted, wrongSize, placeMissing}
 use Rattle.lists.specs.Distinct.{below, below-drop, below-at, distinct-bound, and-left, and-right, and-both}
 use Rattle.book.specs.Book.{places, Book, newBook, someMissing, Outcome}
-use Rattle.book.specs.Opening.{rising, fitDoubt}
+use Rattle.book.specs.Opening.{fitPlaces, fitDoubt}
 use Rattle.book.specs.Capture.{bodyLength, captureLength, rowBytes, recordsOf, captureOf}
 use Rattle.book.specs.Writing.{Filled, writeOf}
 use Rattle.book.specs.CaptureOpening.{rateIn, doubtIn, listIn, recordsIn, sizeFits, versionFits, lengthIn, lengthFits, openWith, openCaptureOf}
@@ -41,7 +41,7 @@ full-row book proper m =
 
 pub list-short : (list : List ℕ) → fitDoubt list ≡ true → length list ≤ 8
 unfolding fitDoubt
-list-short list f = leb-true (length list) 8 (and-left (leb (length list) 8) (below places list && rising list) f)
+list-short list f = leb-true (length list) 8 (and-left (leb (length list) 8) (fitPlaces list) f)
 
 pub capture-length : (book : Book) → Proper book → someMissing (book .row) ≡ false
     → length (captureOf book) ≡ captureLength (length (book .doubtful))

@@ -4,6 +4,7 @@
 --   wide row             every column of the row has sixteen costs
 --   Proper book          what every book has that opening and deliveries lead to: a known rate, a fit list, distinct places below 64, columns of sixteen costs
 --   taken-among          a place is taken exactly if it is among the row's places
+--   column-append, column-one   the columns of one row after another, and of one entry
 --   missing-some, some-missing   a place is missing exactly if one of the 64 is not in the row
 --   missing-count        of distinct places below 64 one is missing exactly if there are fewer than 64
 --   open-refused-rate, open-refused-list, open-accepted      the three cases of opening
@@ -72,6 +73,21 @@ taken-among (e ∷ row) p = go (eqb (e .place) p) (taken-among row p)
         → present (cond b (some (e .column)) (columnOf row p)) ≡ (b || among p (placesOf row))
     go true ih = refl
     go false ih = ih
+
+pub column-append : (a b : List Entry) (p : ℕ) → columnOf (a ++ b) p ≡ cond (taken a p) (columnOf a p) (columnOf b p)
+unfolding taken columnOf
+column-append [] b p = refl
+column-append (e ∷ a) b p = go (eqb (e .place) p) (column-append a b p)
+  where
+    go : (t : Bool) → columnOf (a ++ b) p ≡ cond (present (columnOf a p)) (columnOf a p) (columnOf b p)
+        → cond t (some (e .column)) (columnOf (a ++ b) p)
+        ≡ cond (present (cond t (some (e .column)) (columnOf a p))) (cond t (some (e .column)) (columnOf a p)) (columnOf b p)
+    go true ih = refl
+    go false ih = ih
+
+pub column-one : (e : Entry) → columnOf (e ∷ []) (e .place) ≡ some (e .column)
+unfolding columnOf
+column-one e = rw (eq-eqb (e .place) (e .place) refl)
 
 -- ---- a missing place
 

@@ -76,6 +76,10 @@ pub among-cons : (p x : ℕ) (l : List ℕ) → among p (x ∷ l) ≡ (eqb x p |
 unfolding among
 among-cons p x l = refl
 
+pub among-one : (p x : ℕ) → among p (x ∷ []) ≡ true → x ≡ p
+unfolding among
+among-one p x a = eqb-true x p (sym (or-false (eqb x p)) ∙ a)
+
 pub among-append : (p : ℕ) (l m : List ℕ) → among p (l ++ m) ≡ (among p l || among p m)
 unfolding among
 among-append p [] m = refl
@@ -111,9 +115,9 @@ below-drop n k l b =
     and-right (below n (take k l)) (below n (drop k l)) (sym (below-append n (take k l) (drop k l)) ∙ ap (below n) (take-append-drop k l) ∙ b)
 
 -- two tests neither of which is true
-apart : (a b : Bool) → (a || b) ≡ false → (a ≡ false) × (b ≡ false)
-apart true b e = absurd (false≢true (sym e))
-apart false b e = (refl, e)
+pub or-none : (a b : Bool) → (a || b) ≡ false → (a ≡ false) × (b ≡ false)
+or-none true b e = absurd (false≢true (sym e))
+or-none false b e = (refl, e)
 
 eqb-flip : (x y : ℕ) → eqb x y ≡ false → eqb y x ≡ false
 eqb-flip x y e = ne-eqb y x (λ q. eqb-false x y e (sym q))
@@ -123,7 +127,7 @@ pub distinct-snoc : (l : List ℕ) (x : ℕ) → distinct l ≡ true → among x
 unfolding distinct among
 distinct-snoc [] x d a = refl
 distinct-snoc (y ∷ l) x d a =
-    let e : (eqb y x ≡ false) × (among x l ≡ false) = apart (eqb y x) (among x l) a in
+    let e : (eqb y x ≡ false) × (among x l ≡ false) = or-none (eqb y x) (among x l) a in
     and-both (not (among y (l ++ (x ∷ [])))) (distinct (l ++ (x ∷ [])))
     (ap not
     (among-append y l (x ∷ [])
@@ -136,7 +140,7 @@ unfolding distinct among
 distinct-before [] x m d = refl
 distinct-before (y ∷ l) x m d =
     let e : among y (l ++ (x ∷ m)) ≡ false = not-true (among y (l ++ (x ∷ m))) (and-left (not (among y (l ++ (x ∷ m)))) (distinct (l ++ (x ∷ m))) d) in
-    let f : eqb x y ≡ false = apart (eqb x y) (among y m) (apart (among y l) (among y (x ∷ m)) (sym (among-append y l (x ∷ m)) ∙ e) .1) .0 in
+    let f : eqb x y ≡ false = or-none (eqb x y) (among y m) (or-none (among y l) (among y (x ∷ m)) (sym (among-append y l (x ∷ m)) ∙ e) .1) .0 in
     ap₂ (λ b c. b || c) (eqb-flip x y f) (distinct-before l x m (and-right (not (among y (l ++ (x ∷ m)))) (distinct (l ++ (x ∷ m))) d))
 
 pub among-snoc : (l : List ℕ) (x : ℕ) → among x (l ++ (x ∷ [])) ≡ true

@@ -1,0 +1,43 @@
+-- What opening and delivery answer.
+--
+--   refusedWith n            a refused opening: its number, and a new session of rate 39 with an empty list
+--   openedOf rate list       opening: 1 or 4 if refused, else 0 and a new session of that rate and list
+--   declinedWith n s         a refused delivery: its number, and the session that was given
+--   Opening o r              an opening that answers as the book does: the number and the book are those of o, and the session is good
+--   Delivery s p column r    delivery of a place and its column to the session s: of a good session the number and the book are the book's, and it
+--                            stays good; a refused one is the session that was given, whatever that was
+use mathlib.Core.Bool.{cond}
+use mathlib.Core.Path.{_≡_}
+use mathlib.Core.List.{List, []}
+use Prim.Native.Nat.{ℕ}
+use Rattle.refusals.specs.Refusal.{accepted, unknownRate, wrongDoubt}
+use Rattle.book.specs.Book.{Outcome}
+use Rattle.book.specs.Opening.{knownRate, fitDoubt}
+use Rattle.book.specs.Delivery.{deliverOf}
+use Rattle.session.specs.declared.Session.{Session}
+use Rattle.session.specs.declared.Opened.{Opened}
+use Rattle.session.specs.declared.Delivered.{Delivered}
+use Rattle.session.specs.View.{newSession, bookOf, Good}
+
+unfoldable pub refusedWith : ℕ → Opened
+refusedWith n = record { refusal = n; session = newSession 39 [] }
+
+unfoldable pub openedOf : ℕ → List ℕ → Opened
+openedOf rate list =
+    cond (knownRate rate)
+    (cond (fitDoubt list) (record { refusal = accepted; session = newSession rate list }) (refusedWith wrongDoubt))
+    (refusedWith unknownRate)
+
+unfoldable pub declinedWith : ℕ → Session → Delivered
+declinedWith n s = record { refusal = n; session = s }
+
+pub record Opening (o : Outcome) (r : Opened) : Type 0 where
+  pub number : r .refusal ≡ o .number
+  pub book : bookOf (r .session) ≡ o .book
+  pub good : Good (r .session)
+
+pub record Delivery (s : Session) (p : ℕ) (column : List ℕ) (r : Delivered) : Type 0 where
+  pub number : Good s → r .refusal ≡ deliverOf (bookOf s) p column .number
+  pub book : Good s → bookOf (r .session) ≡ deliverOf (bookOf s) p column .book
+  pub good : Good s → Good (r .session)
+  pub kept : (r .refusal ≡ accepted → ⊥) → r .session ≡ s

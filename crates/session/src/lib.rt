@@ -1,0 +1,196 @@
+// A session by value: opening one, and delivering one place and its column of sixteen costs.
+// It keeps what was delivered, in the order of arrival, and nothing that could be recomputed from it.
+// It knows of no codeword and no interpolant; what a session stands for is its book (specs/View.antt).
+ghost use mathlib.Core.Path.{_≡_};
+ghost use Prim.Native.Nat.{_<_, _≤_};
+ghost use lib.ListN.{length};
+ghost use Rattle.lists.specs.Distinct.{among, below};
+ghost use Rattle.lists.specs.Block.{putBlock};
+ghost use Rattle.book.specs.Book.{places, width};
+ghost use Rattle.book.specs.Opening.{knownRate, fitPlaces};
+ghost use Rattle.session.specs.View.{padded, newSession};
+ghost use Rattle.session.specs.Calls.{refusedWith, openedOf, declinedWith, Delivery};
+
+pub struct Session {
+    pub rate: u8,
+    pub doubt: usize,
+    pub doubtful: [u8; 8],
+    pub taken: usize,
+    pub arrival: [u8; 64],
+    pub costs: [u16; 1024],
+}
+
+// What an opening answers: 0 or the refusal's number, and the session.
+pub struct Opened {
+    pub refusal: u8,
+    pub session: Session,
+}
+
+// What a delivery answers: 0 or the refusal's number, and the session.
+pub struct Delivered {
+    pub refusal: u8,
+    pub session: Session,
+}
+
+fn known_rate(rate: usize) -> bool
+    ensures { λ r. ⌜ r ≡ knownRate rate ⌝ }
+{
+    if rate == 39 {
+        return true;
+    }
+    rate == 49
+}
+
+// Whether no place is above 63 and each is above the one before it.
+fn fit_places(list: &[u8]) -> bool
+    ensures { λ r. ⌜ r ≡ fitPlaces (now (list .entry)) ⌝ }
+{
+    let mut least: usize = 0;
+    let mut i = 0;
+    while i < list.len() {
+        let place = list[i] as usize;
+        if 63 < place {
+            return false;
+        }
+        if place < least {
+            return false;
+        }
+        least = place + 1;
+        i += 1;
+    }
+    true
+}
+
+// A list of at most eight places, with zeros behind them.
+fn padded_list(list: &[u8]) -> [u8; 8]
+    requires { ⌜ length (now list) ≤ 8 ⌝ }
+    ensures { λ r. ⌜ r ≡ padded (now (list .entry)) ⌝ }
+{
+    let mut out = [0u8; 8];
+    let mut i = 0;
+    while i < list.len() {
+        out[i] = list[i];
+        i += 1;
+    }
+    out
+}
+
+// A new session holds 1,024 costs of zero and no place taken.
+fn new_session(rate: u8, list: &[u8]) -> Session
+    requires { ⌜ length (now list) ≤ 8 ⌝ }
+    ensures { λ r. ⌜ r ≡ newSession rate (now (list .entry)) ⌝ }
+{
+    let doubtful = padded_list(list);
+    let arrival = [0u8; 64];
+    let costs = [0u16; 1024];
+    Session {
+        rate: rate,
+        doubt: list.len(),
+        doubtful: doubtful,
+        taken: 0,
+        arrival: arrival,
+        costs: costs,
+    }
+}
+
+// A refused opening hands back a new session of rate 39 with an empty doubtful list.
+pub fn refused(number: u8) -> Opened
+    ensures { λ r. ⌜ r ≡ refusedWith number ⌝ }
+{
+    let fresh = new_session(39, b"");
+    Opened {
+        refusal: number,
+        session: fresh,
+    }
+}
+
+pub fn open(rate: usize, doubtful: &[u8]) -> Opened
+    ensures { λ r. ⌜ r ≡ openedOf rate (now (doubtful .entry)) ⌝ }
+{
+    if !known_rate(rate) {
+        return refused(refusals::UNKNOWN_RATE);
+    }
+    if 8 < doubtful.len() {
+        return refused(refusals::WRONG_DOUBT);
+    }
+    if !fit_places(doubtful) {
+        return refused(refusals::WRONG_DOUBT);
+    }
+    let fresh = new_session(rate as u8, doubtful);
+    Opened {
+        refusal: refusals::ACCEPTED,
+        session: fresh,
+    }
+}
+
+fn is_among(place: usize, list: &[u8]) -> bool
+    ensures { λ r. ⌜ r ≡ among place (now (list .entry)) ⌝ }
+{
+    let mut i = 0;
+    while i < list.len() {
+        if list[i] as usize == place {
+            return true;
+        }
+        i += 1;
+    }
+    false
+}
+
+// The table of costs with the column of one place.
+fn with_column(costs: [u16; 1024], place: usize, column: [u16; 16]) -> [u16; 1024]
+    requires { ⌜ place < places ⌝ }
+    ensures { λ r. ⌜ r ≡ putBlock width place column costs ⌝ }
+{
+    let mut out = costs;
+    let mut j = 0;
+    while j < 16 {
+        out[16 * place + j] = column[j];
+        j += 1;
+    }
+    out
+}
+
+// A refused delivery hands back the session that was given.
+fn declined(number: u8, session: Session) -> Delivered
+    ensures { λ r. ⌜ r ≡ declinedWith number session ⌝ }
+{
+    Delivered {
+        refusal: number,
+        session: session,
+    }
+}
+
+// The test of `taken` keeps a session record that was built by hand from running past the row; no session from opening meets it
+// before every place is taken.
+pub fn deliver(session: Session, place: usize, column: [u16; 16]) -> Delivered
+    ensures { λ r. ⌜ Delivery session place column r ⌝ }
+{
+    if 63 < place {
+        return declined(refusals::NO_PLACE, session);
+    }
+    let taken = session.taken;
+    let arrival = session.arrival;
+    if 63 < taken {
+        return declined(refusals::PLACE_TAKEN, session);
+    }
+    if is_among(place, &arrival[..taken]) {
+        return declined(refusals::PLACE_TAKEN, session);
+    }
+    let doubtful = session.doubtful;
+    let table = session.costs;
+    let costs = with_column(table, place, column);
+    let mut order = arrival;
+    order[taken] = place as u8;
+    let left = Session {
+        rate: session.rate,
+        doubt: session.doubt,
+        doubtful: doubtful,
+        taken: taken + 1,
+        arrival: order,
+        costs: costs,
+    };
+    Delivered {
+        refusal: refusals::ACCEPTED,
+        session: left,
+    }
+}
