@@ -14,3 +14,4 @@ pub mod Interpolation
 pub mod Size
 pub mod Repair
 pub mod Example
+pub mod Message

@@ -1,0 +1,112 @@
+-- A message as a function on the curve: what nearness of words says in the theory.
+--
+--   symbolsOf word       a word as elements of the field, by place
+--   functionOf k m       the function of a message
+--   functionOf-fn, functionOf-order, encode-val   it is a function of order at most M, and the codeword holds its values
+--   functionOf-injective  two messages of one function are equal
+--   differing-le         words differ, as elements, in no more places than as numbers: equal numbers are equal elements
+--   near-function        a near codeword's function is near in the theory's sense
+--   near-one             at most one message has its codeword within T of a word
+use mathlib.Core.Bool.{Bool, true, false, not, _&&_}
+use mathlib.Core.Path.{_≡_, refl, sym, ap, ap₂, _∙_, subst}
+use mathlib.Core.List.{List}
+use Prim.Native.Nat.{ℕ, zero, suc, _+_, _<_, _≤_}
+use native.Mathlib.Omega.{arith}
+use lib.Dec.{T, leb→le, eqb, ltb}
+use lib.ListN.{length, getD}
+use lib.Seq.{ext-getD}
+use borrow.Author.Tests.{eqb-true}
+use Rattle.lists.specs.Count.{bit, count, count-nil, count-suc}
+use Rattle.lists.specs.Distinct.{and-right}
+use Rattle.lists.specs.Listed.{listed, listed-at}
+use Rattle.lists.specs.Words.{Word, allBelow-at}
+use Rattle.lists.specs.Answers.{Found}
+use Rattle.algebra.specs.Field.{Field}
+use Rattle.algebra.specs.Coefficients.{Below}
+use Rattle.algebra.specs.Weighted.{weighted-is}
+use Rattle.algebra.specs.Distance as Distance
+use Rattle.galois.specs.Field16.{GF, K16, toF, toF-injective}
+use Rattle.hermitian.specs.Ring.{Fn}
+use Rattle.hermitian.specs.Value.{Val}
+use Rattle.hermitian.specs.Decoding.{Near, near-unique}
+use Rattle.hermitian.specs.Message.{messageFn, message-fn, message-order, message-val, message-injective}
+use Rattle.code.specs.Encoding.{encodeOf, valueAt}
+use Rattle.code.specs.Bridge.{px, py, toF-value}
+use Rattle.soft.specs.Total.{agree, differAt, differing}
+use Rattle.near.specs.Near.{mOf, reachOf, nearTo}
+use Rattle.near.specs.Reach.{Workable, ranks, radius}
+use Rattle.near.specs.Places.{points}
+
+unfoldable pub symbolsOf : List ℕ → ℕ → GF
+symbolsOf word p = toF (getD word p 0)
+
+pub symbolsOf-at : (word : List ℕ) (p : ℕ) → symbolsOf word p ≡ toF (getD word p 0)
+unfolding symbolsOf
+symbolsOf-at word p = refl
+
+unfoldable pub functionOf : ℕ → List ℕ → ℕ → GF
+functionOf k m = messageFn K16 4 k (symbolsOf m)
+
+module _ {k : ℕ} (rate : Workable k) (m : List ℕ) where
+  pub functionOf-fn : Fn K16 4 (functionOf k m)
+  unfolding functionOf
+  functionOf-fn = message-fn K16 4 k (symbolsOf m) (mOf k) (ranks rate)
+
+  pub functionOf-order : Below K16 (functionOf k m) (suc (mOf k))
+  unfolding functionOf
+  functionOf-order = message-order K16 4 k (symbolsOf m) (mOf k) (ranks rate)
+
+  -- the codeword holds the function's values
+  pub encode-val : (p : ℕ) → p < 64 → Val K16 4 (px p) (py p) (functionOf k m) (symbolsOf (encodeOf k m) p)
+  unfolding functionOf encodeOf symbolsOf
+  encode-val p h =
+      weighted-is K16 (sym (ap toF (listed-at 64 p (valueAt k m) 0 h) ∙ toF-value k m p))
+      (message-val K16 4 k (symbolsOf m) (omega arith) (mOf k) (ranks rate) (px p) (py p))
+
+pub functionOf-injective : {k : ℕ} {m n : List ℕ} → Word 16 k m → Word 16 k n → functionOf k m ≡ functionOf k n → m ≡ n
+unfolding functionOf symbolsOf
+functionOf-injective {k} {m} {n} a b e =
+    ext-getD 0 m n (a .size ∙ sym (b .size))
+    (λ t h.
+    toF-injective (getD m t 0) (getD n t 0) (allBelow-at 16 m (a .symbols) t h) (allBelow-at 16 n (b .symbols) t (omega (arith, a .size, b .size)))
+    (message-injective K16 4 (omega arith) k (symbolsOf m) (symbolsOf n) e t (omega (arith, a .size))))
+
+agree-equal : (u v : List ℕ) (p : ℕ) → agree u v p ≡ true → symbolsOf u p ≡ symbolsOf v p
+unfolding agree symbolsOf
+agree-equal u v p e =
+    ap toF
+    (eqb-true (getD u p 0) (getD v p 0)
+    (and-right (ltb p (length v)) (eqb (getD u p 0) (getD v p 0))
+    (and-right (ltb p (length u)) (ltb p (length v) && eqb (getD u p 0) (getD v p 0)) e)))
+
+pub differing-le : (n : ℕ) (u v : List ℕ) → Distance.differing K16 n (symbolsOf u) (symbolsOf v) ≤ differing n u v
+unfolding differing
+differing-le zero u v = omega (arith, Distance.differing-nil K16 (symbolsOf u) (symbolsOf v))
+differing-le (suc n) u v = go (agree u v n) refl (differing-le n u v)
+  where
+    before : Distance.differing K16 n (symbolsOf u) (symbolsOf v) ≤ count n (differAt u v) → (b : Bool) → agree u v n ≡ b
+        → count (suc n) (differAt u v) ≡ count n (differAt u v) + bit (not b)
+    before ih b e = count-suc n (differAt u v) ∙ ap (λ a. count n (differAt u v) + bit (not a)) e
+
+    go : (b : Bool) → agree u v n ≡ b → Distance.differing K16 n (symbolsOf u) (symbolsOf v) ≤ count n (differAt u v)
+        → Distance.differing K16 (suc n) (symbolsOf u) (symbolsOf v) ≤ count (suc n) (differAt u v)
+    go true e ih =
+        omega (arith, before ih true e, Distance.differing-suc-same K16 n (symbolsOf u) (symbolsOf v) (agree-equal u v n e))
+    go false e ih = omega (arith, before ih false e, Distance.differing-suc-le-suc K16 n (symbolsOf u) (symbolsOf v))
+
+module _ {k : ℕ} (rate : Workable k) (word : List ℕ) where
+  pub near-function : (m : List ℕ) → T (nearTo k word m) → Near K16 4 (mOf k) (reachOf k) 64 px py (symbolsOf word) (functionOf k m)
+  unfolding nearTo
+  near-function m t =
+      record {
+        fn = functionOf-fn rate m;
+        order = functionOf-order rate m;
+        value = symbolsOf (encodeOf k m);
+        val = encode-val rate m;
+        few = omega (arith, leb→le (differing 64 (encodeOf k m) word) (reachOf k) t, differing-le 64 (encodeOf k m) word);
+      }
+
+  pub near-one : {m n : List ℕ} → Found 16 k (nearTo k word) m → Found 16 k (nearTo k word) n → m ≡ n
+  near-one {m} {n} a b =
+      functionOf-injective (a .word) (b .word)
+      (near-unique K16 4 (omega arith) points (near-function m (a .passed)) (radius rate) (near-function n (b .passed)))

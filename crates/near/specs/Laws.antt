@@ -1,0 +1,166 @@
+-- The laws of nearness, of the count of test words and of the answer.
+--
+--   near-answers        the answer in the sense of `lists`: it has a near codeword and beats every other such message; or there is none
+--   near-nil, near-cons, near-append, near-member     near some test word of a list
+--   tests-nil, tests-cons, tests-append, tests-none   the count of a list of test words
+--   answer-append       the answer of two lists is the better of their answers
+--   answer-one          the answer of one test word is the message within T of it, whatever the costs
+--   answer-none, codeword-none   where no codeword is near
+--   expand-nil, expand-cons   the tree of test words, level by level
+--   tests-leaf, tests-branch, answer-leaf, answer-branch   count and answer of the tree
+use mathlib.Core.Bool.{Bool, true, false, _||_}
+use mathlib.Core.Path.{_≡_, refl, sym, ap, ap₂, _∙_, subst}
+use mathlib.Core.List.{List, [], _∷_, _++_, List·Memᴰ, List·Memᴰ·head, List·Memᴰ·tail}
+use mathlib.Core.Logic.{_↔_, _⊎_, inl, inr, ⊎-elim}
+use mathlib.Core.Option.{Option, some, none}
+use Prim.Native.Nat.{ℕ, _+_}
+use native.Mathlib.Omega.{arith}
+use lib.Dec.{T}
+use lib.ListN.{set}
+use Rattle.lists.specs.Count.{bit}
+use Rattle.lists.specs.Answers.{Answers, Found, answers-unique, answers-iff, answers-single, nobody, better, better-answers, free, firstThat-words, firstThat-none, cheapest-words}
+use Rattle.soft.specs.TestWord.{bestAt, secondAt, expand}
+use Rattle.near.specs.Near.{nearTo, codewordNear, near, isSome, testsNear, messageCost, answerOf}
+use Rattle.near.specs.Reach.{Workable}
+use Rattle.near.specs.Codeword.{near-one}
+
+-- ---- near some test word
+
+pub near-nil : (k : ℕ) (m : List ℕ) → near k [] m ≡ false
+unfolding near
+near-nil k m = refl
+
+pub near-cons : (k : ℕ) (t : List ℕ) (ts : List (List ℕ)) (m : List ℕ) → near k (t ∷ ts) m ≡ (nearTo k t m || near k ts m)
+unfolding near
+near-cons k t ts m = refl
+
+either : (a b : Bool) → T (a || b) → T a ⊎ T b
+either true b t = inl tt
+either false b t = inr t
+
+or-left : (a b : Bool) → T a → T (a || b)
+or-left true b t = tt
+or-left false b t = absurd t
+
+or-right : (a b : Bool) → T b → T (a || b)
+or-right true b t = tt
+or-right false b t = t
+
+or-assoc : (a b c : Bool) → (a || b || c) ≡ (a || (b || c))
+or-assoc true b c = refl
+or-assoc false b c = refl
+
+pub near-append : (k : ℕ) (ts us : List (List ℕ)) (m : List ℕ) → near k (ts ++ us) m ≡ (near k ts m || near k us m)
+unfolding near
+near-append k [] us m = refl
+near-append k (t ∷ ts) us m = ap (λ b. nearTo k t m || b) (near-append k ts us m) ∙ sym (or-assoc (nearTo k t m) (near k ts m) (near k us m))
+
+-- near a list is near one of its test words
+pub near-member : (k : ℕ) (ts : List (List ℕ)) (m : List ℕ) → T (near k ts m) → (t : List ℕ) × List·Memᴰ t ts × T (nearTo k t m)
+unfolding near
+near-member k [] m h = absurd h
+near-member k (t ∷ ts) m h = go (either (nearTo k t m) (near k ts m) h) (near-member k ts m)
+  where
+    go : T (nearTo k t m) ⊎ T (near k ts m) → (T (near k ts m) → (u : List ℕ) × List·Memᴰ u ts × T (nearTo k u m))
+        → (u : List ℕ) × List·Memᴰ u (t ∷ ts) × T (nearTo k u m)
+    go (inl a) ih = (t, List·Memᴰ·head refl, a)
+    go (inr a) ih = let r = ih a in (r .0, List·Memᴰ·tail (r .1), r .2)
+
+-- ---- the answer
+
+pub near-answers : (k : ℕ) (columns : ℕ → List ℕ) (ts : List (List ℕ)) → Answers (messageCost k columns) (Found 16 k (near k ts)) (answerOf k columns ts)
+unfolding answerOf
+near-answers k columns ts = cheapest-words 16 k (messageCost k columns) (near k ts)
+
+pub word-answers : (k : ℕ) (word : List ℕ) → Answers free (Found 16 k (nearTo k word)) (codewordNear k word)
+unfolding codewordNear
+word-answers k word = firstThat-words 16 k (nearTo k word)
+
+found-append : (k : ℕ) (ts us : List (List ℕ)) (m : List ℕ) → (Found 16 k (near k ts) m ⊎ Found 16 k (near k us) m) ↔ Found 16 k (near k (ts ++ us)) m
+found-append k ts us m = (into, from)
+  where
+    into : Found 16 k (near k ts) m ⊎ Found 16 k (near k us) m → Found 16 k (near k (ts ++ us)) m
+    into (inl f) = record { word = f .word; passed = subst T (sym (near-append k ts us m)) (or-left (near k ts m) (near k us m) (f .passed)) }
+    into (inr f) = record { word = f .word; passed = subst T (sym (near-append k ts us m)) (or-right (near k ts m) (near k us m) (f .passed)) }
+
+    from : Found 16 k (near k (ts ++ us)) m → Found 16 k (near k ts) m ⊎ Found 16 k (near k us) m
+    from f =
+        ⊎-elim (λ a. inl (record { word = f .word; passed = a })) (λ a. inr (record { word = f .word; passed = a }))
+        (either (near k ts m) (near k us m) (subst T (near-append k ts us m) (f .passed)))
+
+pub answer-append : (k : ℕ) (columns : ℕ → List ℕ) (ts us : List (List ℕ))
+    → answerOf k columns (ts ++ us) ≡ better (messageCost k columns) (answerOf k columns ts) (answerOf k columns us)
+answer-append k columns ts us =
+    answers-unique (near-answers k columns (ts ++ us))
+    (answers-iff (found-append k ts us) (better-answers (near-answers k columns ts) (near-answers k columns us)))
+
+or-false : (b : Bool) → (b || false) ≡ b
+or-false true = refl
+or-false false = refl
+
+found-one : (k : ℕ) (t : List ℕ) (m : List ℕ) → Found 16 k (nearTo k t) m ↔ Found 16 k (near k (t ∷ [])) m
+found-one k t m =
+    let e : near k (t ∷ []) m ≡ nearTo k t m = near-cons k t [] m ∙ ap (λ b. nearTo k t m || b) (near-nil k m) ∙ or-false (nearTo k t m) in (
+      λ f. record { word = f .word; passed = subst T (sym e) (f .passed) },
+      λ f. record { word = f .word; passed = subst T e (f .passed) },
+    )
+
+pub answer-one : {k : ℕ} → Workable k → (columns : ℕ → List ℕ) (t : List ℕ) → answerOf k columns (t ∷ []) ≡ codewordNear k t
+answer-one {k} rate columns t =
+    answers-unique (near-answers k columns (t ∷ []))
+    (answers-iff (found-one k t) (answers-single (λ m n p q. near-one rate t q p) (word-answers k t)))
+
+pub answer-none : (k : ℕ) (columns : ℕ → List ℕ) (ts : List (List ℕ)) → ((m : List ℕ) → Found 16 k (near k ts) m → ⊥) → answerOf k columns ts ≡ none
+answer-none k columns ts f = answers-unique (near-answers k columns ts) (nobody f)
+
+pub codeword-none : (k : ℕ) (word : List ℕ) → ((m : List ℕ) → Found 16 k (nearTo k word) m → ⊥) → codewordNear k word ≡ none
+codeword-none k word f = answers-unique (word-answers k word) (nobody f)
+
+-- ---- the count
+
+pub tests-nil : (k : ℕ) → testsNear k [] ≡ 0
+unfolding testsNear
+tests-nil k = refl
+
+pub tests-cons : (k : ℕ) (t : List ℕ) (ts : List (List ℕ)) → testsNear k (t ∷ ts) ≡ bit (isSome (codewordNear k t)) + testsNear k ts
+unfolding testsNear
+tests-cons k t ts = refl
+
+pub tests-append : (k : ℕ) (ts us : List (List ℕ)) → testsNear k (ts ++ us) ≡ testsNear k ts + testsNear k us
+tests-append k [] us = omega (arith, tests-nil k)
+tests-append k (t ∷ ts) us = omega (arith, tests-cons k t (ts ++ us), tests-cons k t ts, tests-append k ts us)
+
+pub tests-none : (k : ℕ) (ts : List (List ℕ)) → ((t : List ℕ) → List·Memᴰ t ts → codewordNear k t ≡ none) → testsNear k ts ≡ 0
+tests-none k [] h = tests-nil k
+tests-none k (t ∷ ts) h =
+    omega
+    (arith, tests-cons k t ts, ap (λ o. bit (isSome o)) (h t (List·Memᴰ·head refl)), tests-none k ts (λ u m. h u (List·Memᴰ·tail m)))
+
+-- ---- the tree
+
+module _ (columns : ℕ → List ℕ) (word : List ℕ) where
+  pub expand-nil : expand columns word [] ≡ word ∷ []
+  unfolding expand
+  expand-nil = refl
+
+  pub expand-cons : (p : ℕ) (ps : List ℕ)
+      → expand columns word (p ∷ ps) ≡ expand columns (set word p (bestAt columns p)) ps ++ expand columns (set word p (secondAt columns p)) ps
+  unfolding expand
+  expand-cons p ps = refl
+
+  pub tests-leaf : (k : ℕ) → testsNear k (expand columns word []) ≡ bit (isSome (codewordNear k word))
+  tests-leaf k = ap (testsNear k) expand-nil ∙ tests-cons k word [] ∙ omega (arith, tests-nil k)
+
+  pub answer-leaf : {k : ℕ} → Workable k → answerOf k columns (expand columns word []) ≡ codewordNear k word
+  answer-leaf {k} rate = ap (answerOf k columns) expand-nil ∙ answer-one rate columns word
+
+  pub tests-branch : (k p : ℕ) (ps : List ℕ)
+      → testsNear k (expand columns word (p ∷ ps))
+      ≡ testsNear k (expand columns (set word p (bestAt columns p)) ps) + testsNear k (expand columns (set word p (secondAt columns p)) ps)
+  tests-branch k p ps = ap (testsNear k) (expand-cons p ps) ∙ tests-append k _ _
+
+  pub answer-branch : (k p : ℕ) (ps : List ℕ)
+      → answerOf k columns (expand columns word (p ∷ ps))
+      ≡ better (messageCost k columns) (answerOf k columns (expand columns (set word p (bestAt columns p)) ps))
+      (answerOf k columns (expand columns (set word p (secondAt columns p)) ps))
+  answer-branch k p ps = ap (answerOf k columns) (expand-cons p ps) ∙ answer-append k columns _ _

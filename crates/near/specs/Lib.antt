@@ -1,0 +1,5 @@
+pub mod Near
+pub mod Reach
+pub mod Places
+pub mod Codeword
+pub mod Laws
