@@ -7,9 +7,11 @@
 --   differing-comm, differing-triangle    a metric
 --   differing-nil, differing-suc-same, differing-suc-other   no place; one place more: the same, or one more
 --   differing-suc-le, differing-suc-le-suc    never less, and at most one more
+--   differing-ext      only the first n places matter
 use mathlib.Core.Path.{_≡_, sym, _∙_}
 use mathlib.Core.Logic.{_≢_}
 use Prim.Native.Nat.{ℕ, zero, suc, _+_, _<_, _≤_}
+use native.Mathlib.Nat.{le-step, lt-suc-self}
 use native.Mathlib.Omega.{arith}
 use Rattle.lists.specs.Chosen.{count, count-nil, count-suc, count-opposite, one-more-yes, one-more-no, decNot, chosen}
 use Rattle.algebra.specs.Field.{Field}
@@ -93,3 +95,18 @@ module _ {F : Type 0} (K : Field F) where
           omega (arith, ih, differing-suc-same n a c (e ∙ h), differing-suc-same n a b e, differing-suc-same n b c h)
       go (no e) d ih = omega (arith, ih, differing-suc-le-suc n a c, differing-suc-other n a b e, differing-suc-le n b c)
       go (yes e) (no h) ih = omega (arith, ih, differing-suc-le-suc n a c, differing-suc-le n a b, differing-suc-other n b c h)
+
+  pub differing-ext : (n : ℕ) (a b c d : ℕ → F) → ((i : ℕ) → i < n → a i ≡ c i) → ((i : ℕ) → i < n → b i ≡ d i) → differing n a b ≡ differing n c d
+  differing-ext zero a b c d p q = differing-nil a b ∙ sym (differing-nil c d)
+  differing-ext (suc n) a b c d p q =
+      go (K .same (a n) (b n)) (differing-ext n a b c d (λ i l. p i (le-step l)) (λ i l. q i (le-step l)))
+    where
+      here : a n ≡ c n
+      here = p n (lt-suc-self n)
+
+      there : b n ≡ d n
+      there = q n (lt-suc-self n)
+
+      go : Dec (a n ≡ b n) → differing n a b ≡ differing n c d → differing (suc n) a b ≡ differing (suc n) c d
+      go (yes e) ih = differing-suc-same n a b e ∙ ih ∙ sym (differing-suc-same n c d (sym here ∙ e ∙ there))
+      go (no e) ih = omega (arith, ih, differing-suc-other n a b e, differing-suc-other n c d (λ h. e (here ∙ h ∙ sym there)))

@@ -5,7 +5,6 @@
 --   message-fn            it is a function on the curve,
 --   message-order         of order at most M, where k orders up to M are present
 --   message-val           its value at a point is the sum of the symbols times their monomials
---   message-injective     two messages of one function have the same symbols
 use mathlib.Core.Path.{_≡_, sym, ap, ap₂, _∙_}
 use Prim.Native.Nat.{ℕ, zero, suc, _<_, _≤_}
 use native.Mathlib.Decide.{decLt}
@@ -85,7 +84,3 @@ module _ {F : Type 0} (K : Field F) (w : ℕ) where
                 ranked-sum (monomial K w px py) (suc M) (omega (arith, all))
                 ∙ ap (λ r. sum K r (λ t. s t ⊗ monomial K w px py (orderOf w t))) all;
           }
-
-  pub message-injective : 2 ≤ w → (k : ℕ) (s u : ℕ → F) → messageFn k s ≡ messageFn k u → (t : ℕ) → t < k → s t ≡ u t
-  message-injective two k s u e t h =
-      sym (message-at k s two t h) ∙ ap (λ f. f (orderOf w t)) e ∙ message-at k u two t h

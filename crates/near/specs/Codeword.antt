@@ -3,7 +3,9 @@
 --   symbolsOf word       a word as elements of the field, by place
 --   functionOf k m       the function of a message
 --   functionOf-fn, functionOf-order, encode-val   it is a function of order at most M, and the codeword holds its values
---   functionOf-injective  two messages of one function are equal
+--   functionOf-at         its coefficient at the t-th present order is symbol t
+--   messageFrom k f      the message read off a function's coefficients; messageFrom-word: k symbols
+--   messageFrom-function  it is the message again
 --   differing-le         words differ, as elements, in no more places than as numbers: equal numbers are equal elements
 --   near-function        a near codeword's function is near in the theory's sense
 --   near-one             at most one message has its codeword within T of a word
@@ -11,25 +13,26 @@ use mathlib.Core.Bool.{Bool, true, false, not, _&&_}
 use mathlib.Core.Path.{_≡_, refl, sym, ap, ap₂, _∙_, subst}
 use mathlib.Core.List.{List}
 use Prim.Native.Nat.{ℕ, zero, suc, _+_, _<_, _≤_}
+use native.Mathlib.Nat.{mod-eq-of-lt}
 use native.Mathlib.Omega.{arith}
 use lib.Dec.{T, leb→le, eqb, ltb}
 use lib.ListN.{length, getD}
-use lib.Seq.{ext-getD}
 use borrow.Author.Tests.{eqb-true}
 use Rattle.lists.specs.Count.{bit, count, count-nil, count-suc}
 use Rattle.lists.specs.Distinct.{and-right}
-use Rattle.lists.specs.Listed.{listed, listed-at}
-use Rattle.lists.specs.Words.{Word, allBelow-at}
+use Rattle.lists.specs.Listed.{listed, listed-length, listed-at, listed-ext, listed-getD}
+use Rattle.lists.specs.Words.{Word, allBelow-at, allBelow-from}
 use Rattle.lists.specs.Answers.{Found}
 use Rattle.algebra.specs.Field.{Field}
 use Rattle.algebra.specs.Coefficients.{Below}
 use Rattle.algebra.specs.Weighted.{weighted-is}
 use Rattle.algebra.specs.Distance as Distance
-use Rattle.galois.specs.Field16.{GF, K16, toF, toF-injective}
+use Rattle.galois.specs.Field16.{GF, K16, toF, value, value-lt, value-toF}
 use Rattle.hermitian.specs.Ring.{Fn}
 use Rattle.hermitian.specs.Value.{Val}
 use Rattle.hermitian.specs.Decoding.{Near, near-unique}
-use Rattle.hermitian.specs.Message.{messageFn, message-fn, message-order, message-val, message-injective}
+use Rattle.hermitian.specs.Orders.{orderOf}
+use Rattle.hermitian.specs.Message.{messageFn, message-at, message-fn, message-order, message-val}
 use Rattle.code.specs.Encoding.{encodeOf, valueAt}
 use Rattle.code.specs.Bridge.{px, py, toF-value}
 use Rattle.soft.specs.Total.{agree, differAt, differing}
@@ -63,13 +66,35 @@ module _ {k : ℕ} (rate : Workable k) (m : List ℕ) where
       weighted-is K16 (sym (ap toF (listed-at 64 p (valueAt k m) 0 h) ∙ toF-value k m p))
       (message-val K16 4 k (symbolsOf m) (omega arith) (mOf k) (ranks rate) (px p) (py p))
 
-pub functionOf-injective : {k : ℕ} {m n : List ℕ} → Word 16 k m → Word 16 k n → functionOf k m ≡ functionOf k n → m ≡ n
+pub functionOf-at : (k : ℕ) (m : List ℕ) (t : ℕ) → t < k → functionOf k m (orderOf 4 t) ≡ toF (getD m t 0)
 unfolding functionOf symbolsOf
-functionOf-injective {k} {m} {n} a b e =
-    ext-getD 0 m n (a .size ∙ sym (b .size))
+functionOf-at k m t h = message-at K16 4 k (symbolsOf m) (omega arith) t h
+
+-- symbol t from its coefficient
+unfoldable pub symbolFrom : (ℕ → GF) → ℕ → ℕ
+symbolFrom f t = value (f (orderOf 4 t))
+
+unfoldable pub messageFrom : ℕ → (ℕ → GF) → List ℕ
+messageFrom k f = listed k (symbolFrom f)
+
+pub messageFrom-word : (k : ℕ) (f : ℕ → GF) → Word 16 k (messageFrom k f)
+unfolding messageFrom symbolFrom
+messageFrom-word k f =
+    record {
+      size = listed-length k (symbolFrom f);
+      symbols =
+          allBelow-from 16 (listed k (symbolFrom f))
+          (λ t h. subst (λ s. s < 16) (sym (listed-at k t (symbolFrom f) 0 (omega (arith, listed-length k (symbolFrom f))))) (value-lt (f (orderOf 4 t))));
+    }
+
+pub messageFrom-function : {k : ℕ} {m : List ℕ} → Word 16 k m → messageFrom k (functionOf k m) ≡ m
+unfolding messageFrom symbolFrom
+messageFrom-function {k} {m} w =
+    listed-ext k (symbolFrom (functionOf k m)) (λ t. getD m t 0)
     (λ t h.
-    toF-injective (getD m t 0) (getD n t 0) (allBelow-at 16 m (a .symbols) t h) (allBelow-at 16 n (b .symbols) t (omega (arith, a .size, b .size)))
-    (message-injective K16 4 (omega arith) k (symbolsOf m) (symbolsOf n) e t (omega (arith, a .size))))
+    ap value (functionOf-at k m t h) ∙ value-toF (getD m t 0)
+    ∙ mod-eq-of-lt (allBelow-at 16 m (w .symbols) t (omega (arith, w .size))))
+    ∙ ap (λ n. listed n (λ t. getD m t 0)) (sym (w .size)) ∙ listed-getD m 0
 
 agree-equal : (u v : List ℕ) (p : ℕ) → agree u v p ≡ true → symbolsOf u p ≡ symbolsOf v p
 unfolding agree symbolsOf
@@ -108,5 +133,6 @@ module _ {k : ℕ} (rate : Workable k) (word : List ℕ) where
 
   pub near-one : {m n : List ℕ} → Found 16 k (nearTo k word) m → Found 16 k (nearTo k word) n → m ≡ n
   near-one {m} {n} a b =
-      functionOf-injective (a .word) (b .word)
-      (near-unique K16 4 (omega arith) points (near-function m (a .passed)) (radius rate) (near-function n (b .passed)))
+      sym (messageFrom-function (a .word))
+      ∙ ap (messageFrom k) (near-unique K16 4 (omega arith) points (near-function m (a .passed)) (radius rate) (near-function n (b .passed)))
+      ∙ messageFrom-function (b .word)

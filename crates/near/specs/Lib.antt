@@ -3,3 +3,4 @@ pub mod Reach
 pub mod Places
 pub mod Codeword
 pub mod Laws
+pub mod Interpolated
