@@ -6,9 +6,9 @@
 --   kept n f         the numbers below n that pass it, rising
 --   Rising l         each entry of l is below every later one
 --   sumOf-ext, sumOf-mono, sumOf-strict, sumOf-bound, sumOf-plus   equal, smaller, bounded and added terms
---   count-ext, count-le, count-none, count-mono, count-strict   the same of tests
+--   count-ext, count-le, count-none, count-zero, count-mono, count-strict   the same of tests
 --   sumOf-turn, count-turn   one turn of a loop that adds up
---   kept-length, kept-member, kept-passes, kept-rising, kept-ext   how many are kept, which, and in which order
+--   kept-length, kept-member, kept-passes, kept-rising, kept-none, kept-ext   how many are kept, which, and in which order
 use mathlib.Core.Bool.{Bool, true, false, cond, not, _&&_, _||_}
 use mathlib.Core.Path.{_≡_, refl, sym, ap, ap₂, _∙_, subst, subst₂}
 use mathlib.Core.List.{List, [], _∷_, _++_, append-nil, List·Memᴰ, List·Memᴰ·head, List·Memᴰ·tail, List·Memᴰ·append-cases, Memᴰ·append-left, Memᴰ·append-right, List·Memᴰ·eq-of-singleton, List·Memᴰ·not-nil}
@@ -94,6 +94,17 @@ pub count-none : (n : ℕ) (f : ℕ → Bool) → ((k : ℕ) → k < n → f k �
 unfolding count
 count-none n f h = omega (arith, sumOf-bound n 0 (λ k. bit (f k)) (λ k l. rw (h k l) (le-refl 0)))
 
+bit-zero : (b : Bool) → bit b ≡ 0 → b ≡ false
+bit-zero true e = absurd (omega arith)
+bit-zero false e = refl
+
+-- a count of zero: no number passes
+pub count-zero : (n : ℕ) (f : ℕ → Bool) → count n f ≡ 0 → (k : ℕ) → k < n → f k ≡ false
+count-zero zero f e k l = absurd (omega arith)
+count-zero (suc n) f e k l =
+    let s : count n f + bit (f n) ≡ 0 = sym (count-suc n f) ∙ e in
+    ⊎-elim (λ (q : k ≡ n). ap f q ∙ bit-zero (f n) (omega arith)) (λ b. count-zero n f (omega arith) k b) (eq-or-lt-of-le (le-of-suc-le-suc l))
+
 bit-of : (a b : Bool) → (T a → T b) → bit a ≤ bit b
 bit-of true true h = le-refl 1
 bit-of true false h = absurd (h tt)
@@ -143,6 +154,12 @@ kept-length zero f = ap length (kept-nil f) ∙ sym (count-nil f)
 kept-length (suc n) f =
     ap length (kept-suc n f) ∙ length-append (kept n f) (cond (f n) (n ∷ []) [])
     ∙ ap₂ (λ x y. x + y) (kept-length n f) (length-if (f n) n) ∙ sym (count-suc n f)
+
+pub kept-none : (n : ℕ) (f : ℕ → Bool) → ((k : ℕ) → k < n → f k ≡ false) → kept n f ≡ []
+unfolding kept
+kept-none zero f h = refl
+kept-none (suc n) f h =
+    ap₂ (λ (l : List ℕ) b. l ++ cond b (n ∷ []) []) (kept-none n f (λ k l. h k (le-step l))) (h n (lt-suc-self n))
 
 -- what is kept is below the bound and passes,
 pub kept-passes : (n : ℕ) (f : ℕ → Bool) (k : ℕ) → List·Memᴰ k (kept n f) → (k < n) × T (f k)

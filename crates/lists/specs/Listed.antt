@@ -6,6 +6,7 @@
 --   listed-length, listed-at, listed-ext    its length, its entries, equal rules
 --   listed-cons      from the front
 --   listed-getD      every list is listed by its entries
+--   sets-all         stores written out one after the other, of all entries
 use mathlib.Core.Path.{_≡_, refl, sym, ap, ap₂, _∙_}
 use mathlib.Core.List.{List, [], _∷_, _++_, append-assoc, append-nil}
 use mathlib.Core.Logic.{⊎-elim}
@@ -14,7 +15,7 @@ use native.Mathlib.Nat.{le-step, lt-suc-self, eq-or-lt-of-le, le-of-suc-le-suc}
 use native.Mathlib.Numerals.{add-one}
 use native.Mathlib.Omega.{arith}
 use lib.ListN.{length, getD, set, take, drop, length-append, List·getD-append, drop-of-length-le}
-use lib.Seq.{drop-cons, set-at, getD-at, take-suc, take-length}
+use lib.Seq.{drop-cons, set-at, getD-at, take-suc, take-length, sets, sets-eq}
 
 module _ {ℓ} {A : Type ℓ} where
   unfoldable pub listed : ℕ → (ℕ → A) → List A
@@ -90,3 +91,8 @@ module _ {ℓ} {A : Type ℓ} where
   -- and after it
   pub listed-end : (out l : List A) (f : ℕ → A) (i : ℕ) → length l ≤ i → out ≡ listed i f ++ drop i l → out ≡ listed i f
   listed-end out l f i h e = e ∙ ap (λ r. listed i f ++ r) (drop-of-length-le l h) ∙ append-nil (listed i f)
+
+  -- stores of as many entries as there are, from the front, leave nothing of what was there
+  pub sets-all : (vs l : List A) → length l ≡ length vs → sets l 0 vs ≡ vs
+  sets-all vs l n =
+      sets-eq vs l 0 (omega arith) ∙ ap (λ r. vs ++ r) (drop-of-length-le l {i = 0 + length vs} (omega arith)) ∙ append-nil vs

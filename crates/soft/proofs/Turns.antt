@@ -1,21 +1,26 @@
--- One turn of each loop, over plain lists and numbers.
+-- Single steps of the functions, over plain lists and numbers.
 --
---   bestBut-turn, bestBut-end   the best symbol so far
+--   bestBut-turn, bestBut-small   the best symbol so far, one symbol more; in a column of sixteen it is below 16
+--   best-of, second-of, gap-fits, gap-of   best, second and gap of a column of sixteen
+--   pair-missing           two bytes past the end
+--   cost-in                what a word's symbol costs, from the symbol and the list of costs
+--   report-bytes           the bytes of a report
+--   places-start, places-turn, doubtful-end, doubtful-skipped   the doubtful places so far, in an array of w
 use mathlib.Core.Bool.{Bool, cond}
 use mathlib.Core.Path.{_≡_, sym, ap, ap₂, _∙_, subst, subst₂}
-use mathlib.Core.List.{List, [], _∷_, _++_, append-nil}
+use mathlib.Core.List.{List, [], _∷_}
 use Prim.Native.Nat.{ℕ, _+_, _-_, _*_, _/_, _%_, _≤_, _<_}
 use native.Mathlib.Numerals.{add-one}
 use native.Mathlib.Omega.{arith}
-use lib.Seq.{sets, sets-eq}
-use Rattle.lists.specs.Listed.{listed, listed-at}
+use lib.ListN.{length, getD, set, replicate, List·getD-eq-default}
 use Rattle.lists.specs.Count.{count, kept, kept-nil, kept-suc, kept-length}
+use Rattle.lists.specs.Listed.{listed, listed-at}
 use Rattle.lists.specs.Padded.{padded, padded-nil, padded-if}
-use lib.ListN.{length, set, replicate, drop-of-length-le, getD, List·getD-eq-default}
-use Rattle.soft.specs.Column.{costOf, pairAt, costAt, columnOf, symbols, bestBut, betterIn, bestOf, secondOf, gapOf}
-use Rattle.soft.specs.Total.{symbolAt, costIn, bytesOf, reportOf}
+use Rattle.soft.specs.Column.{costOf, pairAt, columnOf, symbols, bestBut, betterIn, bestOf, secondOf, gapOf}
 use Rattle.soft.specs.Doubt.{fewAhead, entryOf, gapAt, smallest, doubtfulOf}
-use Rattle.soft.specs.Laws.{smallest-ext, bestBut-suc, bestBut-below, best-least, second-below}
+use Rattle.soft.specs.Total.{symbolAt, costIn, bytesOf, reportOf}
+use Rattle.soft.specs.ColumnLaws.{bestBut-suc, bestBut-below, best-least, second-below}
+use Rattle.soft.specs.DoubtLaws.{smallest-ext, doubtful-none}
 
 pub bestBut-turn : (column : List ℕ) (b n held r : ℕ) → held ≡ bestBut column b n → r ≡ betterIn column b held n → r ≡ bestBut column b (n + 1)
 bestBut-turn column b n held r e f =
@@ -54,11 +59,7 @@ pair-missing bytes i h =
 pub cost-in : (costs word : List ℕ) (p s r : ℕ) → s ≡ symbolAt word p → r ≡ costOf (columnOf symbols costs p) s → r ≡ costIn (columnOf symbols costs) word p
 cost-in costs word p s r e f = f ∙ ap (λ x. costOf (columnOf symbols costs p) x) e
 
--- stores from the front into as many bytes leave nothing of what was there
-pub sets-all : (vs l : List ℕ) → length l ≡ length vs → sets l 0 vs ≡ vs
-sets-all vs l n =
-    sets-eq vs l 0 (omega arith) ∙ ap (λ r. vs ++ r) (drop-of-length-le l {i = 0 + length vs} (omega arith)) ∙ append-nil vs
-
+-- the eight bytes of a report, each as the code divides it out of numbers that fit
 pub report-bytes : (total tests pinned changed : ℕ) → total < 4294967296 → tests < 65536 → pinned < 256 → changed < 256
     → total / 16777216 ∷ total / 65536 % 256 ∷ total / 256 % 256 ∷ total % 256 ∷ tests / 256 ∷ tests % 256 ∷ pinned ∷ changed ∷ [] ≡ reportOf total tests pinned changed
 unfolding reportOf bytesOf
@@ -70,22 +71,27 @@ report-bytes total tests pinned changed ht hs hp hc =
     let e7 : changed ≡ changed % 256 = omega arith in
     cc
 
--- the doubtful places so far
-module _ (f : ℕ → Bool) where
-  pub places-start : replicate 8 0 ≡ padded 8 (kept 0 f)
-  places-start = sym (ap (padded 8) (kept-nil f) ∙ padded-nil 8)
+-- the doubtful places in an array of w
+module _ (w : ℕ) where
+  pub places-start : (f : ℕ → Bool) → replicate w 0 ≡ padded w (kept 0 f)
+  places-start f = sym (ap (padded w) (kept-nil f) ∙ padded-nil w)
 
-  pub places-turn : (out r : List ℕ) (p found : ℕ) (b : Bool) → out ≡ padded 8 (kept p f) → found ≡ count p f → b ≡ f p
-      → r ≡ cond b (set out found p) out → r ≡ padded 8 (kept (p + 1) f)
-  places-turn out r p found b eo ef eb er =
-      er ∙ ap₂ (λ t o. cond t (set o found p) o) eb eo ∙ padded-if 8 (kept p f) p found (f p) (ef ∙ sym (kept-length p f))
-      ∙ ap (padded 8) (sym (kept-suc p f) ∙ ap (λ n. kept n f) (sym (add-one p)))
+  pub places-turn : (f : ℕ → Bool) (out r : List ℕ) (p found : ℕ) (b : Bool) → out ≡ padded w (kept p f) → found ≡ count p f → b ≡ f p
+      → r ≡ cond b (set out found p) out → r ≡ padded w (kept (p + 1) f)
+  places-turn f out r p found b eo ef eb er =
+      er ∙ ap₂ (λ t o. cond t (set o found p) o) eb eo ∙ padded-if w (kept p f) p found (f p) (ef ∙ sym (kept-length p f))
+      ∙ ap (padded w) (sym (kept-suc p f) ∙ ap (λ n. kept n f) (sym (add-one p)))
 
-pub doubtful-end : (d : ℕ) (columns : ℕ → List ℕ) (gaps out : List ℕ) → gaps ≡ listed 64 (gapAt columns)
-    → out ≡ padded 8 (kept 64 (fewAhead 64 d (entryOf gaps))) → out ≡ padded 8 (doubtfulOf 64 d columns)
-unfolding smallest doubtfulOf
-doubtful-end d columns gaps out eg eo =
-    eo
-    ∙ ap (padded 8)
-    (smallest-ext 64 d (entryOf gaps) (gapAt columns)
-    (λ p l. ap (λ g. getD g p 0) eg ∙ listed-at 64 p (gapAt columns) 0 l))
+  module _ (n d : ℕ) (columns : ℕ → List ℕ) where
+    pub doubtful-end : (gaps out : List ℕ) → gaps ≡ listed n (gapAt columns)
+        → out ≡ padded w (kept n (fewAhead n d (entryOf gaps))) → out ≡ padded w (doubtfulOf n d columns)
+    unfolding smallest doubtfulOf
+    doubtful-end gaps out eg eo =
+        eo
+        ∙ ap (padded w)
+        (smallest-ext n d (entryOf gaps) (gapAt columns)
+        (λ p l. ap (λ g. getD g p 0) eg ∙ listed-at n p (gapAt columns) 0 l))
+
+    pub doubtful-skipped : d ≡ 0 → replicate w 0 ≡ padded w (doubtfulOf n d columns)
+    doubtful-skipped e =
+        sym (ap (λ k. padded w (doubtfulOf n k columns)) e ∙ ap (padded w) (doubtful-none n columns) ∙ padded-nil w)

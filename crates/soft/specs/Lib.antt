@@ -2,5 +2,8 @@ pub mod Column
 pub mod Doubt
 pub mod TestWord
 pub mod Total
-pub mod Laws
+pub mod ColumnLaws
+pub mod DoubtLaws
+pub mod TestWordLaws
+pub mod TotalLaws
 pub mod Bench

@@ -13,7 +13,7 @@ ghost use Rattle.soft.specs.Doubt.{aheadBy, aheadOf, gapAt, doubtfulOf, 
 ghost use Rattle.soft.specs.TestWord.{bestWord};
 
 // Is the place with this gap ahead of another place with its gap?
-fn ahead(gap: u16, place: usize, wide: u16, other: usize) -> bool
+fn ahead(gap: u16, place: u16, wide: u16, other: u16) -> bool
     ensures { λ r. ⌜ r ≡ aheadBy gap place wide other ⌝ }
 {
     if gap < wide {
@@ -36,13 +36,13 @@ fn gaps_of(costs: &[u16]) -> [u16; 64]
 }
 
 // How many places are ahead of one.
-fn ahead_of(gaps: [u16; 64], other: usize) -> usize
+fn ahead_of(gaps: [u16; 64], other: usize) -> u16
     requires { ⌜ other < places ⌝ }
     ensures { λ r. ⌜ r ≡ aheadOf places (entryOf gaps) other ⌝ }
 {
-    let mut n = 0;
+    let mut n = 0u16;
     for place in 0..64 {
-        n += bit::bit(ahead(gaps[place], place, gaps[other], other));
+        n += bit::bit(ahead(gaps[place], place as u16, gaps[other], other as u16));
     }
     n
 }
@@ -64,15 +64,18 @@ fn with_place(list: [u8; 8], at: usize, place: u8, chosen: bool) -> [u8; 8]
 pub fn doubtful(costs: &[u16], doubt: usize) -> [u8; 8]
     ensures { λ r. ⌜ r ≡ padded 8 (doubtfulOf places doubt (columnOf symbols (now (costs .entry)))) ⌝ }
 {
+    if doubt == 0 {
+        return [0u8; 8];
+    }
     let gaps = gaps_of(costs);
     let mut out = [0u8; 8];
     let mut found = 0;
     for place in 0..64 {
         let rank = ahead_of(gaps, place);
-        let chosen = rank < doubt;
+        let chosen = (rank as usize) < doubt;
         let longer = with_place(out, found, place as u8, chosen);
         out = longer;
-        found += bit::bit(chosen);
+        found += bit::bit(chosen) as usize;
     }
     out
 }

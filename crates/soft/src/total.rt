@@ -21,7 +21,7 @@ pub fn total(costs: &[u16], word: &[u8]) -> u32
 pub fn pinned(costs: &[u16], word: &[u8]) -> u8
     ensures { λ r. ⌜ r ≡ pinnedOf places (columnOf symbols (now (costs .entry))) (now (word .entry)) ⌝ }
 {
-    let mut n: usize = 0;
+    let mut n = 0u16;
     for place in 0..64 {
         n += bit::bit(costs::cost_of(costs, place, costs::byte_at(word, place)) == 65535);
     }
@@ -31,7 +31,7 @@ pub fn pinned(costs: &[u16], word: &[u8]) -> u8
 pub fn changed(costs: &[u16], word: &[u8]) -> u8
     ensures { λ r. ⌜ r ≡ changedOf places (columnOf symbols (now (costs .entry))) (now (word .entry)) ⌝ }
 {
-    let mut n: usize = 0;
+    let mut n = 0u16;
     for place in 0..64 {
         n += bit::bit(costs::byte_at(word, place) != column::best(costs::column_of(costs, place)));
     }
@@ -51,10 +51,10 @@ fn agreeing(u: &[u8], v: &[u8], place: usize) -> bool
     u[place] == v[place]
 }
 
-pub fn differing(u: &[u8], v: &[u8]) -> usize
+pub fn differing(u: &[u8], v: &[u8]) -> u16
     ensures { λ r. ⌜ r ≡ differing places (now (u .entry)) (now (v .entry)) ⌝ }
 {
-    let mut n: usize = 0;
+    let mut n = 0u16;
     for place in 0..64 {
         n += bit::bit(!agreeing(u, v, place));
     }

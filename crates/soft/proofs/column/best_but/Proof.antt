@@ -4,7 +4,7 @@ use Prim.Native.Nat.{_≤_, _<_, _-_}
 use native.Mathlib.Omega.{arith}
 use borrow.Author.Needs.{needs}
 use Rattle.soft.specs.Column.{bestBut}
-use Rattle.soft.specs.Laws.{bestBut-nil, bestBut-below}
+use Rattle.soft.specs.ColumnLaws.{bestBut-nil, bestBut-below}
 use Rattle.soft.proofs.Turns.{bestBut-turn}
 use Rattle.soft.proofs.column.best_but.Statement.{statement}
 use Rattle.soft.proofs.column.best_but.Tie as tie

@@ -1,6 +1,6 @@
 -- `soft::column::better` meets its contract: one equation for each return.
 use mathlib.Core.Path.{sym}
-use Rattle.soft.specs.Laws.{betterOf-left, betterOf-next, betterOf-held}
+use Rattle.soft.specs.ColumnLaws.{betterOf-left, betterOf-next, betterOf-held}
 use Rattle.soft.proofs.column.better.Statement.{statement}
 use Rattle.soft.proofs.column.better.Tie as tie
 

@@ -1,6 +1,6 @@
 -- `soft::column::first_but` meets its contract: one equation for each return.
 use mathlib.Core.Path.{sym}
-use Rattle.soft.specs.Laws.{firstBut-zero, firstBut-other}
+use Rattle.soft.specs.ColumnLaws.{firstBut-zero, firstBut-other}
 use Rattle.soft.proofs.column.first_but.Statement.{statement}
 use Rattle.soft.proofs.column.first_but.Tie as tie
 

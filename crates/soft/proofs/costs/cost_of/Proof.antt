@@ -2,7 +2,7 @@
 use mathlib.Core.Path.{sym, _∙_}
 use native.Mathlib.Omega.{arith}
 use borrow.Author.Needs.{needs}
-use Rattle.soft.specs.Laws.{cost-column, cost-none}
+use Rattle.soft.specs.ColumnLaws.{cost-column, cost-none}
 use Rattle.soft.proofs.costs.cost_of.Statement.{statement}
 use Rattle.soft.proofs.costs.cost_of.Tie as tie
 

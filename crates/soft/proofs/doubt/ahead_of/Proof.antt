@@ -24,11 +24,17 @@ mul-ahead c = search needs
 array-read-ahead : tie.Need-array-read-ahead Inv-loop μ-loop
 array-read-ahead c = search needs
 
+cast-ahead : tie.Need-cast-ahead Inv-loop μ-loop
+cast-ahead c = search needs
+
 mul-ahead-2 : tie.Need-mul-ahead-2 Inv-loop μ-loop
 mul-ahead-2 c = search needs
 
 array-read-ahead-2 : tie.Need-array-read-ahead-2 Inv-loop μ-loop
 array-read-ahead-2 c = search needs
+
+cast-ahead-2 : tie.Need-cast-ahead-2 Inv-loop μ-loop
+cast-ahead-2 c = search needs
 
 ahead-requires : tie.Need-ahead-requires Inv-loop μ-loop
 ahead-requires c κs = search needs
@@ -67,8 +73,10 @@ ahead-of-spec =
     loop-holds
     mul-ahead
     array-read-ahead
+    cast-ahead
     mul-ahead-2
     array-read-ahead-2
+    cast-ahead-2
     ahead-requires
     bit-requires
     add-n

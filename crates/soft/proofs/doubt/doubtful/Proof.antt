@@ -7,7 +7,7 @@ use borrow.Author.Needs.{needs}
 use Rattle.lists.specs.Count.{bit, count, count-nil, count-turn, kept}
 use Rattle.lists.specs.Padded.{padded}
 use Rattle.soft.specs.Doubt.{fewAhead, entryOf}
-use Rattle.soft.proofs.Turns.{places-start, places-turn, doubtful-end}
+use Rattle.soft.proofs.Turns.{places-start, places-turn, doubtful-skipped, doubtful-end}
 use Rattle.soft.proofs.doubt.doubtful.Statement.{statement}
 use Rattle.soft.proofs.doubt.doubtful.Tie as tie
 
@@ -19,14 +19,20 @@ Inv-loop costs doubt gaps out₀ found₀ place₀ out found place =
 abbrev μ-loop : tie.MeasureT-loop
 μ-loop costs doubt gaps out₀ found₀ place₀ out found place = 64 - place
 
+returns : tie.Need-returns Inv-loop μ-loop
+returns c = doubtful-skipped 8 _ _ _ (c .if1 .taken)
+
 gaps-of-requires : tie.Need-gaps-of-requires Inv-loop μ-loop
 gaps-of-requires c κs = search needs
 
 loop-holds : tie.Need-loop-holds Inv-loop μ-loop
-loop-holds c = (omega arith, omega arith, sym (count-nil _), places-start _)
+loop-holds c = (omega arith, omega arith, sym (count-nil _), places-start 8 _)
 
 ahead-of-requires : tie.Need-ahead-of-requires Inv-loop μ-loop
 ahead-of-requires c κs = search needs
+
+cast-chosen : tie.Need-cast-chosen Inv-loop μ-loop
+cast-chosen c = search needs
 
 cast-with-place : tie.Need-cast-with-place Inv-loop μ-loop
 cast-with-place c = search needs
@@ -36,6 +42,9 @@ with-place-requires c κs = search needs
 
 bit-requires : tie.Need-bit-requires Inv-loop μ-loop
 bit-requires c κs = search needs
+
+cast-found : tie.Need-cast-found Inv-loop μ-loop
+cast-found c = search needs
 
 add-found : tie.Need-add-found Inv-loop μ-loop
 add-found c = search needs
@@ -49,17 +58,17 @@ loop-less c = search needs
 loop-again : tie.Need-loop-again Inv-loop μ-loop
 loop-again c =
     let i = c .before .before .before .before .loop .inv in
-    let few = ap (λ r. ltb r (c .before .before .before .before .before .before .before .args .doubt)) (c .before .before .ahead-of .ensures) in (
+    let few = ap (λ r. ltb r (c .before .before .before .before .before .before .before .before .args .doubt)) (c .before .before .ahead-of .ensures) in (
       omega arith,
       omega arith,
       count-turn _ _ _ _ (i .2) (c .bit .ensures .0 ∙ ap bit few),
-      places-turn _ _ _ _ _ _ (i .3) (i .2) few (c .before .with-place .ensures),
+      places-turn 8 _ _ _ _ _ _ (i .3) (i .2) few (c .before .with-place .ensures),
     )
 
-returns : tie.Need-returns Inv-loop μ-loop
-returns c =
+returns-2 : tie.Need-returns-2 Inv-loop μ-loop
+returns-2 c =
     let e : c .before .loop .place ≡ 64 = omega arith in
-    doubtful-end _ _ _ _ (c .before .before .gaps-of .ensures) (rw e at (c .before .loop .inv .3))
+    doubtful-end 8 _ _ _ _ _ (c .before .before .gaps-of .ensures) (rw e at (c .before .loop .inv .3))
 
 pub doubtful-spec : {M : Type 1} → statement M
 doubtful-spec =
@@ -67,14 +76,17 @@ doubtful-spec =
     (tie.spec
     Inv-loop
     μ-loop
+    returns
     gaps-of-requires
     loop-holds
     ahead-of-requires
+    cast-chosen
     cast-with-place
     with-place-requires
     bit-requires
+    cast-found
     add-found
     add-place
     loop-less
     loop-again
-    returns)
+    returns-2)

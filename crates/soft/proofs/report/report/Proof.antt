@@ -5,7 +5,8 @@ use Prim.Native.Nat.{_/_, _%_}
 use native.Mathlib.Omega.{arith}
 use lib.ListN.{length-set}
 use borrow.Author.Needs.{needs}
-use Rattle.soft.proofs.Turns.{sets-all, report-bytes}
+use Rattle.lists.specs.Listed.{sets-all}
+use Rattle.soft.proofs.Turns.{report-bytes}
 use Rattle.soft.proofs.report.report.Statement.{statement}
 use Rattle.soft.proofs.report.report.Tie as tie
 

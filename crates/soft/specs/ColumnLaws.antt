@@ -1,26 +1,28 @@
--- What follows from the definitions of columns, doubt, test words and totals: the laws that later proofs cite.
+-- Laws of a column's best symbol, second symbol and gap.
 --
---   bestBut-nil, bestBut-suc, betterOf-left, betterOf-next, betterOf-held   the definitions step by step
---   BestBut column b n r   r is the best of the first n symbols other than b: least cost, and among equals the smallest
---   bestBut-best           bestBut finds it; bestBut-unique: there is only one
---   best-best              the best symbol has least cost and, among equal costs, is the smaller one
---   second-best            the second is the best of the others; it differs from the best
---   best-below, second-below, gap-cost   they are symbols of the column; best cost and gap make the second cost
-use mathlib.Core.Bool.{Bool, true, false, cond}
+--   firstBut-zero, firstBut-other, betterOf-left, betterOf-next, betterOf-held, bestBut-nil, bestBut-suc   the definitions step by step
+--   BestBut column b n r   r is the best of the first n symbols other than b: least cost, and among equal costs the smallest
+--   bestBut-best           bestBut finds it
+--   bestBut-unique         there is only one
+--   bestBut-below          it is a symbol of the column
+--   best-best              the best symbol is the best with none left out; best-least, best-first: its cost is least, equal costs are at no smaller symbol
+--   second-best            the second symbol is the best of the others; second-other: it differs from the best
+--   best-below, second-below   both are symbols of the column
+--   gap-cost               best cost and gap make the second cost
+--   column-length, cost-column, cost-none   a column read off a list of costs: how long it is, and what it holds
+--   table-column           a column of a table of bytes is read from its own bytes
 use mathlib.Core.Path.{_≡_, refl, sym, ap, ap₂, _∙_, subst}
-use mathlib.Core.List.{List, [], _∷_, _++_}
+use mathlib.Core.List.{List}
 use mathlib.Core.Logic.{_≢_, _⊎_, inl, inr, ⊎-elim}
 use Prim.Native.Nat.{ℕ, zero, suc, _+_, _-_, _*_, _<_, _≤_}
-use native.Mathlib.Nat.{eq-or-lt-of-le, le-of-suc-le-suc, le-antisymm}
+use native.Mathlib.Nat.{eq-or-lt-of-le, le-of-suc-le-suc, le-antisymm, mul-le-mul-right, suc-mul}
 use native.Mathlib.Decide.{decLe, ℕ-discrete}
 use native.Mathlib.Omega.{arith}
-use lib.Dec.{ltb, eqb}
-use lib.ListN.{length, getD, List·getD-eq-default}
-use Rattle.lists.specs.Listed.{listed, listed-length, listed-at}
+use lib.ListN.{length, getD, take, drop, List·getD-eq-default}
+use lib.Seq.{getD-take, getD-drop}
 use borrow.Author.Tests.{lt-ltb, le-ltb, eq-eqb, ne-eqb}
-use Rattle.lists.specs.Count.{bit, count, count-ext, count-le, kept, kept-ext, kept-length, kept-member, kept-passes, kept-rising, Rising}
-use Rattle.soft.specs.Doubt.{ahead, aheadBy, aheadOf, fewAhead, smallest, gapAt, doubtfulOf}
-use Rattle.soft.specs.Column.{costOf, costAt, columnOf, firstBut, betterOf, betterIn, bestBut, bestOf, secondOf, gapOf}
+use Rattle.lists.specs.Listed.{listed, listed-length, listed-at, listed-ext}
+use Rattle.soft.specs.Column.{costOf, costFrom, costsFrom, costAt, columnOf, firstBut, betterOf, betterIn, bestBut, bestOf, secondOf, gapOf}
 
 pub firstBut-zero : (b : ℕ) → b ≡ 0 → firstBut b ≡ 1
 unfolding firstBut
@@ -197,17 +199,23 @@ cost-column q costs p s l = listed-at q s (costAt q costs p) 0 l
 pub cost-none : (q : ℕ) (costs : List ℕ) (p s : ℕ) → q ≤ s → costOf (columnOf q costs p) s ≡ 0
 cost-none q costs p s l = List·getD-eq-default (columnOf q costs p) 0 (omega (arith, column-length q costs p))
 
--- only the gaps of the n places matter
-pub aheadOf-ext : (n : ℕ) (g h : ℕ → ℕ) → ((p : ℕ) → p < n → g p ≡ h p) → (q : ℕ) → q < n → aheadOf n g q ≡ aheadOf n h q
-unfolding aheadOf
-aheadOf-ext n g h e q l =
-    count-ext n (λ p. ahead g p q) (λ p. ahead h p q) (λ p k. ap₂ (λ x y. aheadBy x p y q) (e p k) (e q l))
+pub costs-length : (n : ℕ) (bytes : List ℕ) → length (costsFrom n bytes) ≡ n
+unfolding costsFrom
+costs-length n bytes = listed-length n (costFrom bytes)
 
-pub smallest-ext : (n d : ℕ) (g h : ℕ → ℕ) → ((p : ℕ) → p < n → g p ≡ h p) → smallest n d g ≡ smallest n d h
-unfolding smallest
-smallest-ext n d g h e =
-    kept-ext n (fewAhead n d g) (fewAhead n d h) (λ q l. ap (λ r. ltb r d) (aheadOf-ext n g h e q l))
+-- n columns of q costs, two bytes each, one after the other
+pub table-column : (n q : ℕ) (bytes : List ℕ) (p : ℕ) → p < n
+    → columnOf q (costsFrom (n * q) bytes) p ≡ costsFrom q (take (q * 2) (drop (p * q * 2) bytes))
+unfolding columnOf costsFrom
+table-column n q bytes p l =
+    listed-ext q (costAt q (costsFrom (n * q) bytes) p) (costFrom (take (q * 2) (drop (p * q * 2) bytes))) (λ s k. at s k)
+  where
+    byte : (i : ℕ) → i < q * 2 → (j : ℕ) → p * q * 2 + i ≡ j → getD (take (q * 2) (drop (p * q * 2) bytes)) i 0 ≡ getD bytes j 0
+    byte i b j e =
+        getD-take (q * 2) (drop (p * q * 2) bytes) i 0 b ∙ getD-drop (p * q * 2) bytes i 0 ∙ ap (λ x. getD bytes x 0) e
 
-pub doubtful-ext : (n d : ℕ) (c e : ℕ → List ℕ) → ((p : ℕ) → p < n → c p ≡ e p) → doubtfulOf n d c ≡ doubtfulOf n d e
-unfolding doubtfulOf
-doubtful-ext n d c e h = smallest-ext n d (gapAt c) (gapAt e) (λ p l. ap gapOf (h p l))
+    at : (s : ℕ) → s < q → getD (listed (n * q) (costFrom bytes)) (p * q + s) 0 ≡ costFrom (take (q * 2) (drop (p * q * 2) bytes)) s
+    at s k =
+        let m : suc p * q ≤ n * q = mul-le-mul-right q l in
+        listed-at (n * q) (p * q + s) (costFrom bytes) 0 (omega (arith, suc-mul p q))
+        ∙ ap₂ (λ x y. x * 256 + y) (sym (byte (s * 2) (omega arith) ((p * q + s) * 2) (omega arith))) (sym (byte (s * 2 + 1) (omega arith) ((p * q + s) * 2 + 1) (omega arith)))

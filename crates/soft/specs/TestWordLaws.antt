@@ -1,0 +1,167 @@
+-- Laws of the test words.
+--
+--   expand-nil, expand-cons   the definition step by step
+--   expand-count, testWords-count     d doubtful places make 2 ^ d test words
+--   expand-length, testWords-length   each has as many places as the word that it is made of
+--   testWords-settled      each carries the best symbol at every settled place,
+--   testWords-symbol     and the best or the second symbol at every place
+--   testWords-first        the first carries the best symbol everywhere
+--   bestWord-length, bestWord-at   the word of best symbols
+--   bestWord-ext, expand-ext, testWords-ext   only the columns of the places matter
+use mathlib.Core.Path.{_≡_, refl, sym, ap, ap₂, _∙_, subst}
+use mathlib.Core.List.{List, [], _∷_, _++_, List·Memᴰ, List·Memᴰ·head, List·Memᴰ·tail, List·Memᴰ·append-cases, List·Memᴰ·eq-of-singleton}
+use mathlib.Core.Logic.{_≢_, _⊎_, inl, inr, ⊎-elim}
+use Prim.Native.Nat.{ℕ, zero, suc, _+_, _*_, _^_, _<_, _≤_}
+use native.Mathlib.Nat.{pow-suc}
+use native.Mathlib.Decide.{decLe, ℕ-discrete}
+use native.Mathlib.Omega.{arith}
+use lib.ListN.{length, getD, set, length-append, length-set}
+use lib.Seq.{getD-set-same, getD-set-other, set-getD, set-out}
+use Rattle.lists.specs.Listed.{listed, listed-length, listed-at, listed-ext}
+use Rattle.soft.specs.Column.{bestOf, secondOf}
+use Rattle.soft.specs.TestWord.{bestAt, secondAt, bestWord, expand, testWords}
+
+module _ (columns : ℕ → List ℕ) where
+  pub expand-nil : (word : List ℕ) → expand columns word [] ≡ word ∷ []
+  unfolding expand
+  expand-nil word = refl
+
+  pub expand-cons : (word : List ℕ) (p : ℕ) (ps : List ℕ)
+      → expand columns word (p ∷ ps) ≡ expand columns (set word p (bestAt columns p)) ps ++ expand columns (set word p (secondAt columns p)) ps
+  unfolding expand
+  expand-cons word p ps = refl
+
+  pub expand-count : (word ps : List ℕ) → length (expand columns word ps) ≡ 2 ^ length ps
+  expand-count word [] = ap length (expand-nil word)
+  expand-count word (p ∷ ps) =
+      ap length (expand-cons word p ps)
+      ∙ length-append (expand columns (set word p (bestAt columns p)) ps) (expand columns (set word p (secondAt columns p)) ps)
+      ∙ omega (arith, expand-count (set word p (bestAt columns p)) ps, expand-count (set word p (secondAt columns p)) ps, pow-suc 2 (length ps))
+
+  -- a member is made of the first branch or of the second
+  expand-cases : (word : List ℕ) (p : ℕ) (ps t : List ℕ) → List·Memᴰ t (expand columns word (p ∷ ps))
+      → List·Memᴰ t (expand columns (set word p (bestAt columns p)) ps) ⊎ List·Memᴰ t (expand columns (set word p (secondAt columns p)) ps)
+  unfolding expand
+  expand-cases word p ps t m = List·Memᴰ·append-cases (expand columns (set word p (bestAt columns p)) ps) m
+
+  expand-single : (word t : List ℕ) → List·Memᴰ t (expand columns word []) → t ≡ word
+  unfolding expand
+  expand-single word t m = List·Memᴰ·eq-of-singleton m
+
+  pub expand-length : (word ps t : List ℕ) → List·Memᴰ t (expand columns word ps) → length t ≡ length word
+  expand-length word [] t m = ap length (expand-single word t m)
+  expand-length word (p ∷ ps) t m =
+      ⊎-elim (λ a. expand-length (set word p (bestAt columns p)) ps t a ∙ length-set word p (bestAt columns p))
+      (λ a. expand-length (set word p (secondAt columns p)) ps t a ∙ length-set word p (secondAt columns p))
+      (expand-cases word p ps t m)
+
+  -- what is not doubled stays
+  pub expand-settled : (word ps t : List ℕ) → List·Memᴰ t (expand columns word ps) → (k : ℕ) → (List·Memᴰ k ps → ⊥) → getD t k 0 ≡ getD word k 0
+  expand-settled word [] t m k out = ap (λ (w : List ℕ). getD w k 0) (expand-single word t m)
+  expand-settled word (p ∷ ps) t m k out =
+      let other : k ≢ p = λ e. out (List·Memᴰ·head e) in
+      let rest : List·Memᴰ k ps → ⊥ = λ a. out (List·Memᴰ·tail a) in
+      ⊎-elim
+      (λ a. expand-settled (set word p (bestAt columns p)) ps t a k rest ∙ getD-set-other word p k (bestAt columns p) 0 other)
+      (λ a. expand-settled (set word p (secondAt columns p)) ps t a k rest ∙ getD-set-other word p k (secondAt columns p) 0 other)
+      (expand-cases word p ps t m)
+
+  -- at each place below the length: what the word has there, or the best or the second symbol
+  Either : ℕ → ℕ → Type 0
+  Either k x = (x ≡ bestAt columns k) ⊎ (x ≡ secondAt columns k)
+
+  set-either : (word : List ℕ) (p k x : ℕ) → k < length word → ((k ≡ p) → Either k x) → Either k (getD word k 0) → Either k (getD (set word p x) k 0)
+  set-either word p k x l new old = go (ℕ-discrete k p)
+    where
+      go : Dec (k ≡ p) → Either k (getD (set word p x) k 0)
+      go (yes e) =
+          subst (λ (y : ℕ). Either k y)
+          (sym (ap (λ j. getD (set word p x) j 0) e ∙ getD-set-same word p x 0 (subst (λ j. j < length word) e l))) (new e)
+      go (no e) = subst (λ (y : ℕ). Either k y) (sym (getD-set-other word p k x 0 e)) old
+
+  expand-either : (word ps t : List ℕ) → List·Memᴰ t (expand columns word ps) → (k : ℕ) → k < length word → Either k (getD word k 0) → Either k (getD t k 0)
+  unfolding Either
+  expand-either word [] t m k l e = subst (λ (w : List ℕ). Either k (getD w k 0)) (sym (expand-single word t m)) e
+  expand-either word (p ∷ ps) t m k l e =
+      ⊎-elim
+      (λ a.
+      expand-either (set word p (bestAt columns p)) ps t a k (rw length-set l)
+      (set-either word p k (bestAt columns p) l (λ q. inl (ap (bestAt columns) (sym q))) e))
+      (λ a.
+      expand-either (set word p (secondAt columns p)) ps t a k (rw length-set l)
+      (set-either word p k (secondAt columns p) l (λ q. inr (ap (secondAt columns) (sym q))) e))
+      (expand-cases word p ps t m)
+
+pub bestWord-length : (n : ℕ) (columns : ℕ → List ℕ) → length (bestWord n columns) ≡ n
+unfolding bestWord
+bestWord-length n columns = listed-length n (bestAt columns)
+
+pub bestWord-at : (n : ℕ) (columns : ℕ → List ℕ) (p : ℕ) → p < n → getD (bestWord n columns) p 0 ≡ bestAt columns p
+unfolding bestWord
+bestWord-at n columns p l = listed-at n p (bestAt columns) 0 l
+
+-- the best symbol, where it stands already, changes nothing
+best-again : (n : ℕ) (columns : ℕ → List ℕ) (p : ℕ) → set (bestWord n columns) p (bestAt columns p) ≡ bestWord n columns
+best-again n columns p = go (decLe n p)
+  where
+    go : Dec (n ≤ p) → set (bestWord n columns) p (bestAt columns p) ≡ bestWord n columns
+    go (yes l) = set-out (bestWord n columns) p (bestAt columns p) (omega (arith, bestWord-length n columns))
+    go (no l) =
+        ap (λ x. set (bestWord n columns) p x) (sym (bestWord-at n columns p (omega arith))) ∙ set-getD (bestWord n columns) p 0
+
+expand-first : (n : ℕ) (columns : ℕ → List ℕ) (ps : List ℕ)
+    → (rest : List (List ℕ)) × (expand columns (bestWord n columns) ps ≡ bestWord n columns ∷ rest)
+expand-first n columns [] = ([], expand-nil columns (bestWord n columns))
+expand-first n columns (p ∷ ps) =
+    let r = expand-first n columns ps in
+    let second = expand columns (set (bestWord n columns) p (secondAt columns p)) ps in (
+      r .0 ++ second,
+      expand-cons columns (bestWord n columns) p ps
+          ∙ ap (λ (w : List ℕ). expand columns w ps ++ second) (best-again n columns p)
+          ∙ ap (λ (l : List (List ℕ)). l ++ second) (r .1),
+    )
+
+module _ (n : ℕ) (columns : ℕ → List ℕ) (doubtful : List ℕ) where
+  pub testWords-count : length (testWords n columns doubtful) ≡ 2 ^ length doubtful
+  unfolding testWords
+  testWords-count = expand-count columns (bestWord n columns) doubtful
+
+  pub testWords-first : (rest : List (List ℕ)) × (testWords n columns doubtful ≡ bestWord n columns ∷ rest)
+  unfolding testWords
+  testWords-first = expand-first n columns doubtful
+
+  module _ (t : List ℕ) (m : List·Memᴰ t (testWords n columns doubtful)) where
+    pub testWords-length : length t ≡ n
+    unfolding testWords
+    testWords-length = expand-length columns (bestWord n columns) doubtful t m ∙ bestWord-length n columns
+
+    pub testWords-settled : (p : ℕ) → p < n → (List·Memᴰ p doubtful → ⊥) → getD t p 0 ≡ bestAt columns p
+    unfolding testWords
+    testWords-settled p l out =
+        expand-settled columns (bestWord n columns) doubtful t m p out ∙ bestWord-at n columns p l
+
+    pub testWords-symbol : (p : ℕ) → p < n → (getD t p 0 ≡ bestAt columns p) ⊎ (getD t p 0 ≡ secondAt columns p)
+    unfolding testWords Either
+    testWords-symbol p l =
+        expand-either columns (bestWord n columns) doubtful t m p (omega (arith, bestWord-length n columns)) (inl (bestWord-at n columns p l))
+
+-- only the columns of the places matter
+pub bestWord-ext : (n : ℕ) (c e : ℕ → List ℕ) → ((p : ℕ) → p < n → c p ≡ e p) → bestWord n c ≡ bestWord n e
+unfolding bestWord
+bestWord-ext n c e h = listed-ext n (bestAt c) (bestAt e) (λ p l. ap bestOf (h p l))
+
+pub expand-ext : (c e : ℕ → List ℕ) (word ps : List ℕ) → ((p : ℕ) → List·Memᴰ p ps → c p ≡ e p) → expand c word ps ≡ expand e word ps
+expand-ext c e word [] h = expand-nil c word ∙ sym (expand-nil e word)
+expand-ext c e word (p ∷ ps) h =
+    let q : c p ≡ e p = h p (List·Memᴰ·head refl) in
+    expand-cons c word p ps
+    ∙ ap₂ (λ (u v : List (List ℕ)). u ++ v)
+    (expand-ext c e (set word p (bestAt c p)) ps (λ k m. h k (List·Memᴰ·tail m)) ∙ ap (λ x. expand e (set word p (bestOf x)) ps) q)
+    (expand-ext c e (set word p (secondAt c p)) ps (λ k m. h k (List·Memᴰ·tail m)) ∙ ap (λ x. expand e (set word p (secondOf x)) ps) q)
+    ∙ sym (expand-cons e word p ps)
+
+pub testWords-ext : (n : ℕ) (c e : ℕ → List ℕ) (doubtful : List ℕ) → ((p : ℕ) → p < n → c p ≡ e p) → ((p : ℕ) → List·Memᴰ p doubtful → p < n)
+    → testWords n c doubtful ≡ testWords n e doubtful
+unfolding testWords
+testWords-ext n c e doubtful h b =
+    expand-ext c e (bestWord n c) doubtful (λ p m. h p (b p m)) ∙ ap (λ w. expand e w doubtful) (bestWord-ext n c e h)

@@ -1,0 +1,210 @@
+-- Laws of a word's total, pinned and changed places, of the places in which two words differ, and of the report.
+--
+--   totalOf-suc, pinnedOf-suc, changedOf-suc   one place more
+--   pinned-summed          a cost at the ceiling is summed as it stands, and counted as pinned
+--   pinned-total           the pinned places alone cost the ceiling each
+--   total-bound            n costs of at most b cost at most n * b
+--   totalOf-ext, pinnedOf-ext, changedOf-ext   only the columns of the places matter
+--   differing-le, differing-self, differing-comm, differing-triangle, differing-none   differing is a distance of words of n places
+--   changed-differing      the changed places are those in which a word differs from the word of best symbols
+--   bytesOf-length, reportOf-length   a report has eight bytes
+use mathlib.Core.Bool.{Bool, true, false, not, _&&_}
+use mathlib.Core.Path.{_≡_, refl, sym, ap, ap₂, _∙_, subst}
+use mathlib.Core.List.{List, [], _∷_, _++_}
+use mathlib.Core.Logic.{_≢_, _⊎_, inl, inr, ⊎-elim}
+use Prim.Native.Nat.{ℕ, zero, suc, _+_, _*_, _/_, _%_, _<_, _≤_}
+use native.Mathlib.Numerals.{add-one}
+use native.Mathlib.Decide.{decLe, ℕ-discrete}
+use native.Mathlib.Omega.{arith}
+use lib.Dec.{T, ltb, eqb, ltb→lt, eqb→eq}
+use lib.ListN.{length, getD, length-append}
+use lib.Seq.{ext-getD}
+use borrow.Author.Tests.{lt-ltb, eq-eqb, ne-eqb, not-false}
+use Rattle.lists.specs.Count.{bit, bit-le, sumOf, sumOf-nil, sumOf-suc, sumOf-ext, sumOf-mono, sumOf-plus, sumOf-bound, count, count-nil, count-suc, count-ext, count-le, count-none, count-zero}
+use Rattle.soft.specs.Column.{costOf, bestOf, ceiling}
+use Rattle.soft.specs.TestWord.{bestAt, bestWord}
+use Rattle.soft.specs.Total.{symbolAt, costIn, totalOf, pinnedAt, pinnedOf, changedAt, changedOf, agree, differAt, differing, bytesOf, reportOf}
+use Rattle.soft.specs.TestWordLaws.{bestWord-length, bestWord-at}
+
+module _ (columns : ℕ → List ℕ) (word : List ℕ) where
+  pub totalOf-suc : (n : ℕ) → totalOf (suc n) columns word ≡ totalOf n columns word + costIn columns word n
+  unfolding totalOf
+  totalOf-suc n = sumOf-suc n (costIn columns word)
+
+  pub pinnedOf-suc : (n : ℕ) → pinnedOf (suc n) columns word ≡ pinnedOf n columns word + bit (pinnedAt columns word n)
+  unfolding pinnedOf
+  pinnedOf-suc n = count-suc n (pinnedAt columns word)
+
+  pub changedOf-suc : (n : ℕ) → changedOf (suc n) columns word ≡ changedOf n columns word + bit (changedAt columns word n)
+  unfolding changedOf
+  changedOf-suc n = count-suc n (changedAt columns word)
+
+  pub pinned-summed : (n : ℕ) → costIn columns word n ≡ ceiling
+      → (totalOf (suc n) columns word ≡ totalOf n columns word + ceiling) × (pinnedOf (suc n) columns word ≡ suc (pinnedOf n columns word))
+  pinned-summed n e = (
+    totalOf-suc n ∙ ap (λ x. totalOf n columns word + x) e,
+    pinnedOf-suc n ∙ ap (λ t. pinnedOf n columns word + bit t) (eq-eqb (costIn columns word n) ceiling e) ∙ add-one (pinnedOf n columns word),
+  )
+
+  pub pinned-total : (n : ℕ) → pinnedOf n columns word * ceiling ≤ totalOf n columns word
+  unfolding totalOf pinnedOf
+  pinned-total zero = omega (arith, count-nil (pinnedAt columns word))
+  pinned-total (suc n) = go (ℕ-discrete (costIn columns word n) ceiling) (pinned-total n)
+    where
+      go : Dec (costIn columns word n ≡ ceiling) → pinnedOf n columns word * ceiling ≤ totalOf n columns word
+          → pinnedOf (suc n) columns word * ceiling ≤ totalOf (suc n) columns word
+      go (yes e) ih = omega (arith, pinned-summed n e .0, pinned-summed n e .1)
+      go (no e) ih =
+          omega
+          (arith, totalOf-suc n, pinnedOf-suc n ∙ ap (λ t. pinnedOf n columns word + bit t) (ne-eqb (costIn columns word n) ceiling e))
+
+  pub total-bound : (n b : ℕ) → ((p : ℕ) → p < n → costIn columns word p ≤ b) → totalOf n columns word ≤ n * b
+  unfolding totalOf
+  total-bound n b h = sumOf-bound n b (costIn columns word) h
+
+  pub pinned-le : (n : ℕ) → pinnedOf n columns word ≤ n
+  unfolding pinnedOf
+  pinned-le n = count-le n (pinnedAt columns word)
+
+  pub changed-le : (n : ℕ) → changedOf n columns word ≤ n
+  unfolding changedOf
+  changed-le n = count-le n (changedAt columns word)
+
+module _ (n : ℕ) (c e : ℕ → List ℕ) (word : List ℕ) (h : (p : ℕ) → p < n → c p ≡ e p) where
+  pub totalOf-ext : totalOf n c word ≡ totalOf n e word
+  unfolding totalOf
+  totalOf-ext = sumOf-ext n (costIn c word) (costIn e word) (λ p l. ap (λ x. costOf x (symbolAt word p)) (h p l))
+
+  pub pinnedOf-ext : pinnedOf n c word ≡ pinnedOf n e word
+  unfolding pinnedOf
+  pinnedOf-ext = count-ext n (pinnedAt c word) (pinnedAt e word) (λ p l. ap (λ x. eqb (costOf x (symbolAt word p)) ceiling) (h p l))
+
+  pub changedOf-ext : changedOf n c word ≡ changedOf n e word
+  unfolding changedOf
+  changedOf-ext = count-ext n (changedAt c word) (changedAt e word) (λ p l. ap (λ x. not (eqb (symbolAt word p) (bestOf x))) (h p l))
+
+-- two words agree at a place exactly if both have an entry there and it is the same
+pub agree-true : (u v : List ℕ) (p : ℕ) → p < length u → p < length v → symbolAt u p ≡ symbolAt v p → agree u v p ≡ true
+unfolding agree
+agree-true u v p lu lv e = simp (lt-ltb p (length u) lu, lt-ltb p (length v) lv, eq-eqb (symbolAt u p) (symbolAt v p) e)
+
+pub agree-false : (u v : List ℕ) (p : ℕ) → p < length u → p < length v → symbolAt u p ≢ symbolAt v p → agree u v p ≡ false
+unfolding agree
+agree-false u v p lu lv e = simp (lt-ltb p (length u) lu, lt-ltb p (length v) lv, ne-eqb (symbolAt u p) (symbolAt v p) e)
+
+pub differing-le : (n : ℕ) (u v : List ℕ) → differing n u v ≤ n
+unfolding differing
+differing-le n u v = count-le n (differAt u v)
+
+both-true : (a b : Bool) → T (a && b) → T a × T b
+both-true true b t = (tt, t)
+both-true false b t = absurd t
+
+pub record Agree (u v : List ℕ) (p : ℕ) : Type 0 where
+  pub left : p < length u
+  pub right : p < length v
+  pub same : symbolAt u p ≡ symbolAt v p
+
+pub agree-facts : (u v : List ℕ) (p : ℕ) → T (agree u v p) → Agree u v p
+unfolding agree
+agree-facts u v p t =
+    let a = both-true (ltb p (length u)) (ltb p (length v) && eqb (symbolAt u p) (symbolAt v p)) t in
+    let b = both-true (ltb p (length v)) (eqb (symbolAt u p) (symbolAt v p)) (a .1) in
+    record {
+      left = ltb→lt p (length u) (a .0);
+      right = ltb→lt p (length v) (b .0);
+      same = eqb→eq (symbolAt u p) (symbolAt v p) (b .1);
+    }
+
+pub facts-agree : (u v : List ℕ) (p : ℕ) → Agree u v p → agree u v p ≡ true
+facts-agree u v p a = agree-true u v p (a .left) (a .right) (a .same)
+
+agree-sym : (u v : List ℕ) (p : ℕ) → Agree u v p → Agree v u p
+agree-sym u v p a = record { left = a .right; right = a .left; same = sym (a .same) }
+
+agree-trans : (u v w : List ℕ) (p : ℕ) → Agree u v p → Agree v w p → Agree u w p
+agree-trans u v w p a b = record { left = a .left; right = b .right; same = a .same ∙ b .same }
+
+-- what holds of a test, by what it is
+decide : (b : Bool) → (T b → ⊥) ⊎ T b
+decide true = inr tt
+decide false = inl (λ t. t)
+
+is-true : (b : Bool) → T b → b ≡ true
+is-true true t = refl
+is-true false t = absurd t
+
+is-false : (b : Bool) → (T b → ⊥) → b ≡ false
+is-false true t = absurd (t tt)
+is-false false t = refl
+
+agree-comm : (u v : List ℕ) (p : ℕ) → agree u v p ≡ agree v u p
+agree-comm u v p =
+    ⊎-elim
+    (λ no-uv. is-false (agree u v p) no-uv ∙ sym (is-false (agree v u p) (λ t. no-uv (subst T (sym (facts-agree u v p (agree-sym v u p (agree-facts v u p t)))) tt))))
+    (λ t. is-true (agree u v p) t ∙ sym (facts-agree v u p (agree-sym u v p (agree-facts u v p t))))
+    (decide (agree u v p))
+
+pub differing-self : (n : ℕ) (u : List ℕ) → n ≤ length u → differing n u u ≡ 0
+unfolding differing
+differing-self n u l = count-none n (differAt u u) (λ p k. ap not (agree-true u u p (omega arith) (omega arith) refl))
+
+pub differing-comm : (n : ℕ) (u v : List ℕ) → differing n u v ≡ differing n v u
+unfolding differing
+differing-comm n u v = count-ext n (differAt u v) (differAt v u) (λ p l. ap not (agree-comm u v p))
+
+pub differing-triangle : (n : ℕ) (u v w : List ℕ) → differing n u w ≤ differing n u v + differing n v w
+unfolding differing count
+differing-triangle n u v w =
+    let m = sumOf-mono n (λ p. bit (differAt u w p)) (λ p. bit (differAt u v p) + bit (differAt v w p)) (λ p l. at p) in
+    omega (arith, m, sumOf-plus n (λ p. bit (differAt u v p)) (λ p. bit (differAt v w p)))
+  where
+    third : (a b c : Bool) → (T a → T b → T c) → bit (not c) ≤ bit (not a) + bit (not b)
+    third a b true h = omega arith
+    third true true false h = absurd (h tt tt)
+    third true false false h = omega arith
+    third false b false h = omega arith
+
+    at : (p : ℕ) → bit (differAt u w p) ≤ bit (differAt u v p) + bit (differAt v w p)
+    at p =
+        third (agree u v p) (agree v w p) (agree u w p)
+        (λ a b. subst T (sym (facts-agree u w p (agree-trans u v w p (agree-facts u v p a) (agree-facts v w p b)))) tt)
+
+-- words of n places that differ nowhere are equal
+pub differing-none : (n : ℕ) (u v : List ℕ) → length u ≡ n → length v ≡ n → differing n u v ≡ 0 → u ≡ v
+unfolding differing
+differing-none n u v lu lv e =
+    ext-getD 0 u v (lu ∙ sym lv)
+    (λ p l. agree-facts u v p (subst T (sym (not-false (agree u v p) (count-zero n (differAt u v) e p (omega arith)))) tt) .same)
+
+-- the changed places of a word of n places are those in which it differs from the word of best symbols
+pub changed-differing : (n : ℕ) (columns : ℕ → List ℕ) (word : List ℕ) → length word ≡ n
+    → changedOf n columns word ≡ differing n word (bestWord n columns)
+unfolding changedOf differing
+changed-differing n columns word l = count-ext n (changedAt columns word) (differAt word (bestWord n columns)) (λ p k. ap not (at p k))
+  where
+    best : (p : ℕ) → p < n → bestAt columns p ≡ symbolAt (bestWord n columns) p
+    best p k = sym (bestWord-at n columns p k)
+
+    at : (p : ℕ) → p < n → eqb (symbolAt word p) (bestAt columns p) ≡ agree word (bestWord n columns) p
+    at p k = go (ℕ-discrete (symbolAt word p) (bestAt columns p))
+      where
+        long : p < length (bestWord n columns)
+        long = omega (arith, bestWord-length n columns)
+
+        go : Dec (symbolAt word p ≡ bestAt columns p) → eqb (symbolAt word p) (bestAt columns p) ≡ agree word (bestWord n columns) p
+        go (yes e) =
+            eq-eqb (symbolAt word p) (bestAt columns p) e ∙ sym (agree-true word (bestWord n columns) p (omega arith) long (e ∙ best p k))
+        go (no e) =
+            ne-eqb (symbolAt word p) (bestAt columns p) e
+            ∙ sym (agree-false word (bestWord n columns) p (omega arith) long (λ q. e (q ∙ sym (best p k))))
+
+pub bytesOf-length : (n v : ℕ) → length (bytesOf n v) ≡ n
+unfolding bytesOf
+bytesOf-length zero v = refl
+bytesOf-length (suc n) v =
+    length-append (bytesOf n (v / 256)) (v % 256 ∷ []) ∙ ap (λ k. k + 1) (bytesOf-length n (v / 256)) ∙ add-one n
+
+pub reportOf-length : (total tests pinned changed : ℕ) → length (reportOf total tests pinned changed) ≡ 8
+unfolding reportOf bytesOf
+reportOf-length total tests pinned changed = refl
