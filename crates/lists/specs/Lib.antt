@@ -16,3 +16,4 @@ pub mod XorSum
 pub mod Count
 pub mod Rank
 pub mod Padded
+pub mod Falling
