@@ -12,6 +12,7 @@ pub mod Keys
 pub mod Interpolant
 pub mod Interpolation
 pub mod Size
+pub mod Frobenius
 pub mod Repair
 pub mod Example
 pub mod Message
