@@ -17,3 +17,4 @@ pub mod Count
 pub mod Rank
 pub mod Padded
 pub mod Falling
+pub mod Filled

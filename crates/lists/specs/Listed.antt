@@ -3,6 +3,7 @@
 --   listed n f       f 0, f 1, …, f (n − 1)
 --   listed-start, listed-turn, listed-end   a loop that stores f i at i: before it, at each turn, after it
 --   listed-store     a turn whose value is f i by an equation
+--   listed-read      what it has stored so far can be read
 --   listed-length, listed-at, listed-ext    its length, its entries, equal rules
 --   listed-cons      from the front
 --   listed-getD      every list is listed by its entries
@@ -87,6 +88,11 @@ module _ {ℓ} {A : Type ℓ} where
   pub listed-store : (d : A) (out l : List A) (f : ℕ → A) (i : ℕ) (v : A) → i < length l → v ≡ f i → out ≡ listed i f ++ drop i l
       → set out i v ≡ listed (i + 1) f ++ drop (i + 1) l
   listed-store d out l f i v h q e = ap (set out i) q ∙ listed-turn d out l f i h e
+
+  -- what is stored so far,
+  pub listed-read : (out rest : List A) (f : ℕ → A) (i k : ℕ) (d : A) → k < i → out ≡ listed i f ++ rest → getD out k d ≡ f k
+  listed-read out rest f i k d h e =
+      ap (λ (l : List A). getD l k d) e ∙ List·getD-append (listed i f) rest d k (rw listed-length h) ∙ listed-at i k f d h
 
   -- and after it
   pub listed-end : (out l : List A) (f : ℕ → A) (i : ℕ) → length l ≤ i → out ≡ listed i f ++ drop i l → out ≡ listed i f

@@ -1,0 +1,6 @@
+pub mod Monomials
+pub mod Summed
+pub mod Ranks
+pub mod Symbols
+pub mod Codeword
+pub mod Answers

@@ -1,0 +1,16 @@
+-- `known_rate` meets its contract, by its two tests.
+use borrow.Author.Tests.{eq-eqb, ne-eqb}
+use Rattle.code.specs.Encoding.{knownRate}
+use Rattle.code.proofs.encoding.known_rate.Statement.{statement}
+use Rattle.code.proofs.encoding.known_rate.Tie as tie
+
+returns : tie.Need-returns
+unfolding knownRate
+returns c = simp (eq-eqb _ _ (c .if1 .taken))
+
+returns-2 : tie.Need-returns-2
+unfolding knownRate
+returns-2 c = simp (ne-eqb _ _ (c .if1 .left))
+
+pub known-rate-spec : {M : Type 1} → statement M
+known-rate-spec = tie.close (tie.spec returns returns-2)

@@ -1,0 +1,56 @@
+-- `write_codeword` meets its contract: each place passed holds the message's value there.
+use Prim.Native.Nat.{_-_}
+use native.Mathlib.Omega.{arith}
+use Rattle.code.proofs.Codeword.{Writing, writing-start, writing-length, writing-turn, writing-end}
+use borrow.Author.Needs.{needs}
+use Rattle.code.proofs.encoding.write_codeword.Statement.{statement}
+use Rattle.code.proofs.encoding.write_codeword.Tie as tie
+
+abbrev Inv-loop : tie.InvT-loop
+Inv-loop message part₀ function place₀ part place = Writing message part₀ function place part
+
+abbrev μ-loop : tie.MeasureT-loop
+μ-loop message part₀ function place₀ part place = 64 - place
+
+function-of-requires : tie.Need-function-of-requires Inv-loop μ-loop
+function-of-requires c κs = search needs
+
+loop-holds : tie.Need-loop-holds Inv-loop μ-loop
+loop-holds c = writing-start _ _ _ (search needs) (search needs) (c .function-of .ensures)
+
+value-at-requires : tie.Need-value-at-requires Inv-loop μ-loop
+value-at-requires c κs = search needs
+
+slice-write-part : tie.Need-slice-write-part Inv-loop μ-loop
+slice-write-part c = omega (arith, writing-length (c .before .before .loop .inv))
+
+add-place : tie.Need-add-place Inv-loop μ-loop
+add-place c = search needs
+
+loop-less : tie.Need-loop-less Inv-loop μ-loop
+loop-less c = search needs
+
+loop-again : tie.Need-loop-again Inv-loop μ-loop
+loop-again c = writing-turn (c .before .before .loop .inv) _ (c .before .loop-test .taken) (c .value-at .ensures)
+
+same-length : tie.Need-same-length Inv-loop μ-loop
+same-length c = omega (arith, writing-length (c .before .loop .inv), c .before .loop .inv .sized)
+
+returns : tie.Need-returns Inv-loop μ-loop
+returns c = writing-end (c .before .loop .inv) (c .loop-test .left)
+
+pub write-codeword-spec : {M : Type 1} → statement M
+write-codeword-spec =
+    tie.close
+    (tie.spec
+    Inv-loop
+    μ-loop
+    function-of-requires
+    loop-holds
+    value-at-requires
+    slice-write-part
+    add-place
+    loop-less
+    loop-again
+    same-length
+    returns)
