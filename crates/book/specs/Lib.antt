@@ -10,3 +10,6 @@ pub mod CaptureLaws
 pub mod CaptureCases
 pub mod RoundTrip
 pub mod LookUpLaws
+pub mod Columns
+pub mod Closing
+pub mod ClosingLaws

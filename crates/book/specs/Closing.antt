@@ -1,0 +1,58 @@
+-- Closing: buffer sizes, then missing places, then nearness.
+--
+--   Closed               what closing answers: 0 or the refusal's number, and the two lent buffers after the call
+--   refusedClosing n message report   refused with the number n: the buffers as they were
+--   reportFor k columns doubtful m    the report of the message m: total, test words with a codeword within T, pinned and changed places
+--   decodeOf k columns doubtful message report   9 if no codeword is near, the buffers as they were; else 0, the answer's message and its report
+--   closeOf book message report   2 if a buffer has the wrong size, 7 if a place is missing; else what decoding by the row's columns and the doubtful list answers
+use mathlib.Core.Bool.{Bool, cond, _&&_}
+use mathlib.Core.List.{List}
+use mathlib.Core.Option.{Option, none, some}
+use Prim.Native.Nat.{ℕ}
+use lib.Dec.{eqb}
+use lib.ListN.{length}
+use Rattle.refusals.specs.Refusal.{accepted, wrongSize, placeMissing, noneNear}
+use Rattle.soft.specs.TestWord.{testWords}
+use Rattle.soft.specs.Total.{totalOf, pinnedOf, changedOf, reportOf}
+use Rattle.code.specs.Encoding.{encodeOf}
+use Rattle.near.specs.Near.{testsNear, answerOf}
+use Rattle.book.specs.Book.{places, Book, someMissing}
+use Rattle.book.specs.Columns.{columnsOf}
+
+abbrev pub reportLength : ℕ
+reportLength = 8
+
+pub record Closed : Type 0 where
+  pub number : ℕ
+  pub message : List ℕ
+  pub report : List ℕ
+
+unfoldable pub refusedClosing : ℕ → List ℕ → List ℕ → Closed
+refusedClosing n message report = record { number = n; message = message; report = report }
+
+unfoldable pub reportFor : ℕ → (ℕ → List ℕ) → List ℕ → List ℕ → List ℕ
+reportFor k columns doubtful m =
+    reportOf (totalOf places columns (encodeOf k m)) (testsNear k (testWords places columns doubtful))
+    (pinnedOf places columns (encodeOf k m)) (changedOf places columns (encodeOf k m))
+
+-- by the answer's message, if there is one
+unfoldable pub answered : ℕ → (ℕ → List ℕ) → List ℕ → Option (List ℕ) → List ℕ → List ℕ → Closed
+answered k columns doubtful none message report = refusedClosing noneNear message report
+answered k columns doubtful (some m) message report =
+    record { number = accepted; message = m; report = reportFor k columns doubtful m }
+
+unfoldable pub decodeOf : ℕ → (ℕ → List ℕ) → List ℕ → List ℕ → List ℕ → Closed
+decodeOf k columns doubtful message report =
+    answered k columns doubtful (answerOf k columns (testWords places columns doubtful)) message report
+
+-- a message of k symbols, where k is the rate, and a report of 8 bytes
+unfoldable pub closingFits : Book → List ℕ → List ℕ → Bool
+closingFits book message report = eqb (length message) (book .rate) && eqb (length report) reportLength
+
+unfoldable pub closeOf : Book → List ℕ → List ℕ → Closed
+closeOf book message report =
+    cond (closingFits book message report)
+    (cond (someMissing (book .row))
+    (refusedClosing placeMissing message report)
+    (decodeOf (book .rate) (columnsOf (book .row)) (book .doubtful) message report))
+    (refusedClosing wrongSize message report)

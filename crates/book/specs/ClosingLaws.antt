@@ -1,0 +1,94 @@
+-- Closing, case by case.
+--
+--   fits-both, fits-of   the size check passes exactly if the message buffer has k bytes and the report 8
+--   close-size, close-missing, close-decoded   the three cases of closing
+--   decode-none, decode-some                   the two cases of decoding
+--   decode-kept, close-kept   a refused call leaves its buffers as they were
+use mathlib.Core.Bool.{Bool, true, false, cond, _&&_}
+use mathlib.Core.Path.{_≡_, refl, sym, ap, _∙_}
+use mathlib.Core.List.{List}
+use mathlib.Core.Option.{Option, none, some}
+use Prim.Native.Nat.{ℕ}
+use lib.Dec.{eqb}
+use lib.ListN.{length}
+use borrow.Author.Tests.{eqb-true, eq-eqb}
+use Rattle.lists.specs.Distinct.{and-left, and-right, and-both}
+use Rattle.refusals.specs.Refusal.{accepted, wrongSize, placeMissing, noneNear}
+use Rattle.soft.specs.TestWord.{testWords}
+use Rattle.near.specs.Near.{answerOf}
+use Rattle.book.specs.Book.{places, Book, someMissing}
+use Rattle.book.specs.Columns.{columnsOf}
+use Rattle.book.specs.Closing.{reportLength, Closed, refusedClosing, reportFor, answered, decodeOf, closingFits, closeOf}
+
+-- the buffers of a closing that is refused
+pub record Kept (message report : List ℕ) (c : Closed) : Type 0 where
+  pub message-kept : c .message ≡ message
+  pub report-kept : c .report ≡ report
+
+pub refused-number : (n : ℕ) (message report : List ℕ) → refusedClosing n message report .number ≡ n
+unfolding refusedClosing
+refused-number n message report = refl
+
+pub refused-kept : (n : ℕ) (message report : List ℕ) → Kept message report (refusedClosing n message report)
+unfolding refusedClosing
+refused-kept n message report = record { message-kept = refl; report-kept = refl }
+
+module _ (k : ℕ) (columns : ℕ → List ℕ) (doubtful message report : List ℕ) where
+  pub decode-none : answerOf k columns (testWords places columns doubtful) ≡ none
+      → decodeOf k columns doubtful message report ≡ refusedClosing noneNear message report
+  unfolding decodeOf answered
+  decode-none e = rw e
+
+  pub decode-some : {m : List ℕ} → answerOf k columns (testWords places columns doubtful) ≡ some m
+      → decodeOf k columns doubtful message report ≡ record { number = accepted; message = m; report = reportFor k columns doubtful m }
+  unfolding decodeOf answered
+  decode-some e = rw e
+
+  pub decode-kept : (decodeOf k columns doubtful message report .number ≡ accepted → ⊥)
+      → Kept message report (decodeOf k columns doubtful message report)
+  decode-kept n = go (answerOf k columns (testWords places columns doubtful)) refl
+    where
+      go : (o : Option (List ℕ)) → answerOf k columns (testWords places columns doubtful) ≡ o
+          → Kept message report (decodeOf k columns doubtful message report)
+      go none e = rw (decode-none e) (refused-kept noneNear message report)
+      go (some m) e = absurd (n (ap (λ (c : Closed). c .number) (decode-some e)))
+
+module _ (book : Book) (message report : List ℕ) where
+  pub fits-both : closingFits book message report ≡ true → (length message ≡ book .rate) × (length report ≡ reportLength)
+  unfolding closingFits
+  fits-both e =
+      let a = eqb (length message) (book .rate) in
+      let b = eqb (length report) reportLength in
+      (eqb-true (length message) (book .rate) (and-left a b e), eqb-true (length report) reportLength (and-right a b e))
+
+  pub fits-of : length message ≡ book .rate → length report ≡ reportLength → closingFits book message report ≡ true
+  unfolding closingFits
+  fits-of e f =
+      and-both (eqb (length message) (book .rate)) (eqb (length report) reportLength) (eq-eqb (length message) (book .rate) e)
+      (eq-eqb (length report) reportLength f)
+
+  pub close-size : closingFits book message report ≡ false → closeOf book message report ≡ refusedClosing wrongSize message report
+  unfolding closeOf
+  close-size e = rw e
+
+  pub close-missing : closingFits book message report ≡ true → someMissing (book .row) ≡ true
+      → closeOf book message report ≡ refusedClosing placeMissing message report
+  unfolding closeOf
+  close-missing e m = rw (e, m)
+
+  pub close-decoded : closingFits book message report ≡ true → someMissing (book .row) ≡ false
+      → closeOf book message report ≡ decodeOf (book .rate) (columnsOf (book .row)) (book .doubtful) message report
+  unfolding closeOf
+  close-decoded e m = rw (e, m)
+
+  pub close-kept : (closeOf book message report .number ≡ accepted → ⊥) → Kept message report (closeOf book message report)
+  close-kept n = go (closingFits book message report) refl (someMissing (book .row)) refl
+    where
+      go : (a : Bool) → closingFits book message report ≡ a → (b : Bool) → someMissing (book .row) ≡ b
+          → Kept message report (closeOf book message report)
+      go false e b m = rw (close-size e) (refused-kept wrongSize message report)
+      go true e true m = rw (close-missing e m) (refused-kept placeMissing message report)
+      go true e false m =
+          rw (close-decoded e m)
+          (decode-kept (book .rate) (columnsOf (book .row)) (book .doubtful) message report
+          (λ q. n (ap (λ (c : Closed). c .number) (close-decoded e m) ∙ q)))
