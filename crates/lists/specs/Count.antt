@@ -9,10 +9,10 @@
 --   count-ext, count-le, count-none, count-zero, count-mono, count-strict   the same of tests
 --   sumOf-turn, count-turn   one turn of a loop that adds up
 --   kept-length, kept-member, kept-passes, kept-rising, kept-none, kept-ext   how many are kept, which, and in which order
-use mathlib.Core.Bool.{Bool, true, false, cond, not, _&&_, _||_}
+use mathlib.Core.Bool.{Bool, true, false, cond}
 use mathlib.Core.Path.{_≡_, refl, sym, ap, ap₂, _∙_, subst, subst₂}
-use mathlib.Core.List.{List, [], _∷_, _++_, append-nil, List·Memᴰ, List·Memᴰ·head, List·Memᴰ·tail, List·Memᴰ·append-cases, Memᴰ·append-left, Memᴰ·append-right, List·Memᴰ·eq-of-singleton, List·Memᴰ·not-nil}
-use mathlib.Core.Logic.{⊎-elim, _⊎_, inl, inr}
+use mathlib.Core.List.{List, [], _∷_, _++_, append-nil, List·Memᴰ, List·Memᴰ·head, List·Memᴰ·append-cases, Memᴰ·append-left, Memᴰ·append-right, List·Memᴰ·eq-of-singleton, List·Memᴰ·not-nil}
+use mathlib.Core.Logic.{⊎-elim}
 use Prim.Native.Nat.{ℕ, zero, suc, _+_, _*_, _<_, _≤_}
 use native.Mathlib.Nat.{le-step, lt-suc-self, eq-or-lt-of-le, le-of-suc-le-suc, le-refl, suc-mul}
 use native.Mathlib.Numerals.{add-one}
@@ -20,6 +20,7 @@ use native.Mathlib.Omega.{arith}
 use lib.Dec.{T}
 use lib.ListN.{length, getD, length-append, List·getD-append}
 use lib.Seq.{getD-at}
+use Rattle.lists.specs.Member.{member-at}
 
 abbrev pub bit : Bool → ℕ
 bit true = 1
@@ -190,12 +191,6 @@ kept-member (suc n) f k l t = rw kept-suc (⊎-elim last (λ b. Memᴰ·append-l
 pub record Rising (l : List ℕ) : Type 0 where
   pub rises : (i j : ℕ) → i < j → j < length l → getD l i 0 < getD l j 0
 
--- what stands at an index is a member
-pub getD-member : (l : List ℕ) (i : ℕ) → i < length l → List·Memᴰ (getD l i 0) l
-getD-member [] i h = absurd (omega arith)
-getD-member (x ∷ xs) zero h = List·Memᴰ·head refl
-getD-member (x ∷ xs) (suc i) h = List·Memᴰ·tail (getD-member xs i (le-of-suc-le-suc h))
-
 -- a rising list, and one entry more that is above all of it
 pub rising-snoc : (l : List ℕ) (x : ℕ) → Rising l → ((k : ℕ) → List·Memᴰ k l → k < x) → Rising (l ++ (x ∷ []))
 rising-snoc l x r above = record { rises = rises }
@@ -207,7 +202,7 @@ rising-snoc l x r above = record { rises = rises }
     last : (i j : ℕ) → i < j → j ≡ length l → getD (l ++ (x ∷ [])) i 0 < getD (l ++ (x ∷ [])) j 0
     last i j a e =
         subst₂ (λ u v. u < v) (sym (List·getD-append l (x ∷ []) 0 i (omega arith))) (sym (getD-at l x [] 0 j (sym e)))
-        (above (getD l i 0) (getD-member l i (omega arith)))
+        (above (getD l i 0) (member-at l 0 i (omega arith)))
 
     rises : (i j : ℕ) → i < j → j < length (l ++ (x ∷ [])) → getD (l ++ (x ∷ [])) i 0 < getD (l ++ (x ∷ [])) j 0
     rises i j a b =

@@ -10,17 +10,20 @@
 --   best-below, second-below   both are symbols of the column
 --   gap-cost               best cost and gap make the second cost
 --   column-length, cost-column, cost-none   a column read off a list of costs: how long it is, and what it holds
+--   column-block           it is the row of the table that the list is
+--   costs-length           how many costs are read from bytes
 --   table-column           a column of a table of bytes is read from its own bytes
 use mathlib.Core.Path.{_≡_, refl, sym, ap, ap₂, _∙_, subst}
 use mathlib.Core.List.{List}
 use mathlib.Core.Logic.{_≢_, _⊎_, inl, inr, ⊎-elim}
 use Prim.Native.Nat.{ℕ, zero, suc, _+_, _-_, _*_, _<_, _≤_}
-use native.Mathlib.Nat.{eq-or-lt-of-le, le-of-suc-le-suc, le-antisymm, mul-le-mul-right, suc-mul}
+use native.Mathlib.Nat.{eq-or-lt-of-le, le-of-suc-le-suc, le-antisymm, mul-le-mul-right, suc-mul, mul-comm}
 use native.Mathlib.Decide.{decLe, ℕ-discrete}
 use native.Mathlib.Omega.{arith}
 use lib.ListN.{length, getD, take, drop, List·getD-eq-default}
-use lib.Seq.{getD-take, getD-drop}
+use lib.Seq.{getD-take, getD-drop, ext-getD}
 use borrow.Author.Tests.{lt-ltb, le-ltb, eq-eqb, ne-eqb}
+use Rattle.lists.specs.Block.{block, block-length, block-at}
 use Rattle.lists.specs.Listed.{listed, listed-length, listed-at, listed-ext}
 use Rattle.soft.specs.Column.{costOf, costFrom, costsFrom, costAt, columnOf, firstBut, betterOf, betterIn, bestBut, bestOf, secondOf, gapOf}
 
@@ -198,6 +201,15 @@ cost-column q costs p s l = listed-at q s (costAt q costs p) 0 l
 
 pub cost-none : (q : ℕ) (costs : List ℕ) (p s : ℕ) → q ≤ s → costOf (columnOf q costs p) s ≡ 0
 cost-none q costs p s l = List·getD-eq-default (columnOf q costs p) 0 (omega (arith, column-length q costs p))
+
+-- where the list is long enough, a column is its row number p
+pub column-block : (q : ℕ) (costs : List ℕ) (p : ℕ) → q * p + q ≤ length costs → columnOf q costs p ≡ block q p costs
+column-block q costs p h =
+    let e : length (block q p costs) ≡ q = block-length q p costs h in
+    ext-getD 0 (columnOf q costs p) (block q p costs) (column-length q costs p ∙ sym e)
+    (λ s l.
+    let k : s < q = omega (arith, column-length q costs p) in
+    cost-column q costs p s k ∙ ap (λ j. getD costs (j + s) 0) (mul-comm p q) ∙ sym (block-at q p costs s 0 k))
 
 pub costs-length : (n : ℕ) (bytes : List ℕ) → length (costsFrom n bytes) ≡ n
 unfolding costsFrom

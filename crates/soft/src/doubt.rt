@@ -71,8 +71,8 @@ pub fn doubtful(costs: &[u16], doubt: usize) -> [u8; 8]
     let mut out = [0u8; 8];
     let mut found = 0;
     for place in 0..64 {
-        let rank = ahead_of(gaps, place);
-        let chosen = (rank as usize) < doubt;
+        let rank = ahead_of(gaps, place) as usize;
+        let chosen = rank < doubt;
         let longer = with_place(out, found, place as u8, chosen);
         out = longer;
         found += bit::bit(chosen) as usize;

@@ -31,8 +31,8 @@ loop-holds c = (omega arith, omega arith, sym (count-nil _), places-start 8 _)
 ahead-of-requires : tie.Need-ahead-of-requires Inv-loop μ-loop
 ahead-of-requires c κs = search needs
 
-cast-chosen : tie.Need-cast-chosen Inv-loop μ-loop
-cast-chosen c = search needs
+cast-rank : tie.Need-cast-rank Inv-loop μ-loop
+cast-rank c = search needs
 
 cast-with-place : tie.Need-cast-with-place Inv-loop μ-loop
 cast-with-place c = search needs
@@ -80,7 +80,7 @@ doubtful-spec =
     gaps-of-requires
     loop-holds
     ahead-of-requires
-    cast-chosen
+    cast-rank
     cast-with-place
     with-place-requires
     bit-requires

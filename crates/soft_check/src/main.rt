@@ -1,0 +1,50 @@
+// Prints what the bench sheet's columns C9 and C10 read, the three doubtful places of a small table, and what the zero word costs there.
+use io::print_decimal;
+use libc::STDOUT_FILENO;
+use soft::column;
+use soft::costs;
+use soft::doubt;
+use soft::total;
+
+fn show(n: u64) {
+    print_decimal(STDOUT_FILENO, n);
+    io::write_all(STDOUT_FILENO, b" ");
+}
+
+fn show_place(place: u8) {
+    show(place as u64);
+}
+
+fn end_line() {
+    io::write_all(STDOUT_FILENO, b"\n");
+}
+
+fn show_column(c: [u16; 16]) {
+    show(column::best(c) as u64);
+    show(column::second(c) as u64);
+    show(column::gap(c) as u64);
+    end_line();
+}
+
+fn main() {
+    let mut nine = [7u16; 16];
+    nine[5] = 0;
+    nine[9] = 0;
+    show_column(nine);
+    show_column([65535u16; 16]);
+    // Equal costs, so gap 0, at every place but 0 and 2.
+    let mut bytes = [255u8; 2048];
+    bytes[0] = 0;
+    bytes[64] = 1;
+    let table = costs::table_from(&bytes);
+    let places = doubt::doubtful(&table, 3);
+    show_place(places[0]);
+    show_place(places[1]);
+    show_place(places[2]);
+    end_line();
+    let word = [0u8; 64];
+    show(total::total(&table, &word) as u64);
+    show(total::pinned(&table, &word) as u64);
+    show(total::changed(&table, &word) as u64);
+    end_line();
+}
