@@ -6,3 +6,4 @@ pub mod Evaluation
 pub mod Bridge
 pub mod Extraction
 pub mod Laws
+pub mod Nodes

@@ -4,7 +4,7 @@
 --   value bits x        the number below 2 ^ bits that stands for the element x
 --   field bits red known   the field
 --   toF-add, toF-times, toF-inverse, toF-zero, toF-one, toF-ne-zero   the operations on numbers are those of the field
---   value-add, value-times, value-zero    and back
+--   value-add, value-times, value-zero, value-one    and back
 use mathlib.Core.Path.{_≡_, refl, sym, ap, _∙_}
 use mathlib.Core.Logic.{_≢_}
 use Prim.Native.Nat.{ℕ, _%_, _^_, _<_, Fin}
@@ -103,3 +103,7 @@ module _ (bits red : ℕ) (known : Cases bits red) where
   pub value-zero : value bits 𝟘 ≡ 0
   unfolding value field
   value-zero = refl
+
+  pub value-one : value bits 𝟙 ≡ 1
+  unfolding value field
+  value-one = refl

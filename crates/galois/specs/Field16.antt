@@ -4,7 +4,7 @@
 --   toF n        the element that stands for the number n, which is taken mod 16 (toF-mod)
 --   value x      its number: value-lt, value-toF, toF-value; toF-injective: below 16 no two numbers stand for one element
 --   toF-add, toF-times, toF-inverse, toF-zero, toF-one, toF-ne-zero   the operations on numbers are those of the field
---   value-add, value-times, value-zero    and back
+--   value-add, value-times, value-zero, value-one    and back
 --   times-lt, inverse-lt, alpha-lt, xor-below   results below 16; times-mod, inverse-mod: operands count mod 16
 --   times-comm, times-assoc, times-zero, times-one, times-add, times-inverse   laws on numbers
 --   alpha-cycle  α ^ 15 = 1, so powers of α go round
@@ -96,6 +96,10 @@ value-times x y = BinaryField.value-times 4 3 cases x y
 pub value-zero : value 𝟘 ≡ 0
 unfolding value K16
 value-zero = BinaryField.value-zero 4 3 cases
+
+pub value-one : value 𝟙 ≡ 1
+unfolding value K16
+value-one = BinaryField.value-one 4 3 cases
 
 -- ---- on numbers
 pub times-lt : (a b : ℕ) → times a b < 16

@@ -1,29 +1,20 @@
 -- The 64 places are 64 different points of the curve, as the theory asks for them.
 --
---   on-curve16      the point of a place lies on the curve over GF(16)
 --   points          the points of the 64 places: on the curve, and no two the same
 use mathlib.Core.Bool.{Bool, cond}
-use mathlib.Core.Path.{_≡_, sym, ap, ap₂, _∙_, subst}
+use mathlib.Core.Path.{_≡_, sym, ap, ap₂, _∙_}
 use mathlib.Core.List.{List, [], _∷_}
 use Prim.Native.Nat.{ℕ, suc, _*_, _/_, _%_, _<_}
 use native.Mathlib.Omega.{arith}
 use lib.Dec.{T, eqb, eqb→eq}
 use lib.ListN.{getD, take, drop}
 use Rattle.lists.specs.Every.{every, every-at}
-use Rattle.algebra.specs.Field.{Field}
-use Rattle.galois.specs.Field16.{GF, K16, toF, toF-add, toF-injective}
-use Rattle.hermitian.specs.Value.{Curve}
+use Rattle.galois.specs.Field16.{K16, toF-injective}
 use Rattle.hermitian.specs.Points.{Points}
-use Rattle.code.specs.Curve.{power, isOnCurve, xOf, yOf}
-use Rattle.code.specs.Points.{yTable, yTable-rule, yOf-below, on-curve}
-use Rattle.code.specs.Bridge.{px, py, toF-power}
-open Field K16 using (_⊕_)
-
-pub on-curve16 : (p : ℕ) → p < 64 → Curve K16 4 (px p) (py p)
-unfolding isOnCurve
-on-curve16 p h =
-    ap (λ a. a ⊕ py p) (sym (toF-power (yOf p) 4)) ∙ sym (toF-add (power (yOf p) 4) (yOf p)) ∙ ap toF (eqb→eq _ _ (on-curve p h))
-    ∙ toF-power (xOf p) 5
+use Rattle.code.specs.Curve.{xOf, yOf}
+use Rattle.code.specs.Points.{yTable, yTable-rule, yOf-below}
+use Rattle.code.specs.Bridge.{px, py}
+use Rattle.code.specs.Nodes.{on-curve-at}
 
 -- where a number first stands in a list
 seat : ℕ → List ℕ → ℕ
@@ -50,7 +41,7 @@ seat-place p h =
 pub points : Points K16 4 64 px py
 points =
     record {
-      on = on-curve16;
+      on = λ i h. on-curve-at i;
       distinct = λ i j l h ex ey.
           let a : i / 4 ≡ j / 4 = toF-injective (xOf i) (xOf j) (omega arith) (omega arith) ex in
           let b : yOf i ≡ yOf j = toF-injective (yOf i) (yOf j) (yOf-below i (omega arith)) (yOf-below j h) ey in
