@@ -4,8 +4,8 @@
 --   rank-mono, rank-strict   a larger key has no smaller rank; of a number below n the rank is strictly smaller
 --   rank-before      a smaller rank comes from a smaller key
 --   rank-exact       of n numbers with distinct keys, exactly d have a rank below d
-use mathlib.Core.Bool.{Bool, true, false}
-use mathlib.Core.Path.{_≡_, refl, sym, ap, ap₂, _∙_, subst}
+use mathlib.Core.Bool.{true, false}
+use mathlib.Core.Path.{_≡_, sym, ap, ap₂, _∙_, subst}
 use Prim.Native.Nat.{ℕ, zero, suc, _+_, _-_, _<_, _≤_}
 use native.Mathlib.Nat.{le-step, lt-suc-self}
 use native.Mathlib.Decide.{decLe}

@@ -1,5 +1,6 @@
 -- Which places are doubtful: the d places of smallest gap, equal gaps to the lower place.
 --
+--   mostDoubt              8, the largest doubt
 --   aheadBy g p h q        place p with gap g is ahead of place q with gap h: its gap is smaller, or equal and p is the lower place
 --   ahead gap p q          the same of two places of a table, where gap p is the gap at place p
 --   aheadOf n gap q        how many of the n places are ahead of place q
@@ -13,6 +14,10 @@ use lib.Dec.{ltb, eqb}
 use lib.ListN.{getD}
 use Rattle.lists.specs.Count.{count, kept}
 use Rattle.soft.specs.Column.{gapOf}
+
+-- the largest doubt of document 01, and the longest doubtful list
+abbrev pub mostDoubt : ℕ
+mostDoubt = 8
 
 unfoldable pub aheadBy : ℕ → ℕ → ℕ → ℕ → Bool
 aheadBy g p h q = ltb g h || (eqb g h && ltb p q)

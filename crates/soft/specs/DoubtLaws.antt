@@ -7,18 +7,16 @@
 --   doubtful-length, doubtful-rising, doubtful-below, doubtful-ahead   the same of a table's doubtful places
 --   doubtful-none          no doubt, no doubtful places
 --   aheadOf-ext, smallest-ext, doubtful-ext   only the n places matter
-use mathlib.Core.Bool.{Bool, true, false, _&&_, _||_}
-use mathlib.Core.Path.{_≡_, refl, sym, ap, ap₂, _∙_, subst}
+use mathlib.Core.Path.{_≡_, sym, ap, ap₂, _∙_}
 use mathlib.Core.List.{List, [], List·Memᴰ}
-use mathlib.Core.Logic.{_≢_}
-use Prim.Native.Nat.{ℕ, zero, suc, _+_, _-_, _*_, _<_, _≤_}
+use Prim.Native.Nat.{ℕ, suc, _+_, _*_, _<_, _≤_}
 use native.Mathlib.Nat.{mul-le-mul-right, suc-mul}
 use native.Mathlib.Decide.{decLe}
 use native.Mathlib.Omega.{arith}
-use lib.Dec.{T, ltb, eqb, ltb→lt, lt→ltb}
+use lib.Dec.{T, ltb, ltb→lt, lt→ltb}
 use lib.ListN.{length}
 use borrow.Author.Tests.{lt-ltb, le-ltb, eq-eqb, ne-eqb}
-use Rattle.lists.specs.Count.{count, count-ext, kept, kept-ext, kept-length, kept-member, kept-passes, kept-rising, kept-none, Rising}
+use Rattle.lists.specs.Count.{count-ext, kept-ext, kept-length, kept-member, kept-passes, kept-rising, kept-none, Rising}
 use Rattle.lists.specs.Rank.{rankOf, rank-exact, rank-before}
 use Rattle.soft.specs.Column.{gapOf}
 use Rattle.soft.specs.Doubt.{ahead, aheadBy, aheadOf, fewAhead, smallest, gapAt, doubtfulOf}

@@ -9,18 +9,18 @@
 --   changed-differing      the changed places are those in which a word differs from the word of best symbols
 --   bytesOf-length, reportOf-length   a report has eight bytes
 use mathlib.Core.Bool.{Bool, true, false, not, _&&_}
-use mathlib.Core.Path.{_≡_, refl, sym, ap, ap₂, _∙_, subst}
-use mathlib.Core.List.{List, [], _∷_, _++_}
+use mathlib.Core.Path.{_≡_, refl, sym, ap, _∙_, subst}
+use mathlib.Core.List.{List, [], _∷_}
 use mathlib.Core.Logic.{_≢_, _⊎_, inl, inr, ⊎-elim}
 use Prim.Native.Nat.{ℕ, zero, suc, _+_, _*_, _/_, _%_, _<_, _≤_}
 use native.Mathlib.Numerals.{add-one}
-use native.Mathlib.Decide.{decLe, ℕ-discrete}
+use native.Mathlib.Decide.{ℕ-discrete}
 use native.Mathlib.Omega.{arith}
 use lib.Dec.{T, ltb, eqb, ltb→lt, eqb→eq}
-use lib.ListN.{length, getD, length-append}
+use lib.ListN.{length, length-append}
 use lib.Seq.{ext-getD}
 use borrow.Author.Tests.{lt-ltb, eq-eqb, ne-eqb, not-false}
-use Rattle.lists.specs.Count.{bit, bit-le, sumOf, sumOf-nil, sumOf-suc, sumOf-ext, sumOf-mono, sumOf-plus, sumOf-bound, count, count-nil, count-suc, count-ext, count-le, count-none, count-zero}
+use Rattle.lists.specs.Count.{bit, sumOf-suc, sumOf-ext, sumOf-mono, sumOf-plus, sumOf-bound, count, count-nil, count-suc, count-ext, count-le, count-none, count-zero}
 use Rattle.soft.specs.Column.{costOf, bestOf, ceiling}
 use Rattle.soft.specs.TestWord.{bestAt, bestWord}
 use Rattle.soft.specs.Total.{symbolAt, costIn, totalOf, pinnedAt, pinnedOf, changedAt, changedOf, agree, differAt, differing, bytesOf, reportOf}

@@ -1,4 +1,5 @@
 // A column's best symbol, second symbol and gap.
+use crate::costs::SYMBOLS;
 ghost use mathlib.Core.Path.{_≡_};
 ghost use Rattle.soft.specs.Column.{firstBut, betterOf, bestBut, symbols, bestOf, secondOf, gapOf};
 
@@ -25,32 +26,32 @@ fn better(but: usize, held: usize, least: u16, next: usize, cost: u16) -> usize
 }
 
 // The best symbol, one left out.
-fn best_but(column: [u16; 16], but: usize) -> usize
+fn best_but(column: [u16; SYMBOLS], but: usize) -> usize
     ensures { λ r. ⌜ r ≡ bestBut column but symbols ⌝ }
 {
     let mut held = first_but(but);
-    for next in 0..16 {
+    for next in 0..SYMBOLS {
         held = better(but, held, column[held], next, column[next]);
     }
     held
 }
 
-pub fn best(column: [u16; 16]) -> u8
+pub fn best(column: [u16; SYMBOLS]) -> u8
     ensures { λ r. ⌜ r ≡ bestOf column ⌝ }
 {
-    best_but(column, 16) as u8
+    best_but(column, SYMBOLS) as u8
 }
 
-pub fn second(column: [u16; 16]) -> u8
+pub fn second(column: [u16; SYMBOLS]) -> u8
     ensures { λ r. ⌜ r ≡ secondOf column ⌝ }
 {
     best_but(column, best(column) as usize) as u8
 }
 
-pub fn gap(column: [u16; 16]) -> u16
+pub fn gap(column: [u16; SYMBOLS]) -> u16
     ensures { λ r. ⌜ r ≡ gapOf column ⌝ }
 {
-    let first = best_but(column, 16);
+    let first = best_but(column, SYMBOLS);
     let second = best_but(column, first);
     column[second] - column[first]
 }

@@ -1,12 +1,14 @@
 // Costs as bytes, two each and high first, and as a table of sixteen to a place.
 ghost use mathlib.Core.Path.{_≡_};
-ghost use Prim.Native.Nat.{_<_};
+ghost use Prim.Native.Nat.{_*_, _<_};
 ghost use lib.ListN.{getD};
 ghost use Rattle.soft.specs.Column.{places, symbols, pairAt, costsFrom, columnOf, costOf};
 
 pub const PLACES: usize = 64;
 
 pub const SYMBOLS: usize = 16;
+
+pub const COSTS: usize = 1024;
 
 pub fn byte_at(bytes: &[u8], at: usize) -> u8
     ensures { λ r. ⌜ r ≡ getD (now (bytes .entry)) at 0 ⌝ }
@@ -37,35 +39,35 @@ fn pair_at(bytes: &[u8], at: usize) -> u16
 }
 
 // A column from its 32 bytes.
-pub fn column_from(bytes: &[u8]) -> [u16; 16]
+pub fn column_from(bytes: &[u8]) -> [u16; SYMBOLS]
     ensures { λ r. ⌜ r ≡ costsFrom symbols (now (bytes .entry)) ⌝ }
 {
-    let mut out = [0u16; 16];
-    for i in 0..16 {
+    let mut out = [0u16; SYMBOLS];
+    for i in 0..SYMBOLS {
         out[i] = pair_at(bytes, i * 2);
     }
     out
 }
 
 // The costs of a table from its 2,048 bytes.
-pub fn table_from(bytes: &[u8]) -> [u16; 1024]
-    ensures { λ r. ⌜ r ≡ costsFrom 1024 (now (bytes .entry)) ⌝ }
+pub fn table_from(bytes: &[u8]) -> [u16; COSTS]
+    ensures { λ r. ⌜ r ≡ costsFrom (places * symbols) (now (bytes .entry)) ⌝ }
 {
-    let mut out = [0u16; 1024];
-    for i in 0..1024 {
+    let mut out = [0u16; COSTS];
+    for i in 0..COSTS {
         out[i] = pair_at(bytes, i * 2);
     }
     out
 }
 
 // The column of a place.
-pub fn column_of(costs: &[u16], place: usize) -> [u16; 16]
+pub fn column_of(costs: &[u16], place: usize) -> [u16; SYMBOLS]
     requires { ⌜ place < places ⌝ }
     ensures { λ r. ⌜ r ≡ columnOf symbols (now (costs .entry)) place ⌝ }
 {
-    let mut out = [0u16; 16];
-    for s in 0..16 {
-        out[s] = number_at(costs, place * 16 + s);
+    let mut out = [0u16; SYMBOLS];
+    for s in 0..SYMBOLS {
+        out[s] = number_at(costs, place * SYMBOLS + s);
     }
     out
 }
@@ -76,7 +78,7 @@ pub fn cost_of(costs: &[u16], place: usize, symbol: u8) -> u16
     ensures { λ r. ⌜ r ≡ costOf (columnOf symbols (now (costs .entry)) place) symbol ⌝ }
 {
     if symbol < 16 {
-        return number_at(costs, place * 16 + symbol as usize);
+        return number_at(costs, place * SYMBOLS + symbol as usize);
     }
     0
 }

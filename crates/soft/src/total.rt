@@ -2,17 +2,20 @@
 use crate::bit;
 use crate::column;
 use crate::costs;
+use crate::costs::PLACES;
 ghost use mathlib.Core.Path.{_≡_};
 ghost use Prim.Native.Nat.{_<_};
 ghost use Rattle.soft.specs.Column.{places, symbols, columnOf};
-ghost use Rattle.soft.specs.Total.{totalOf, pinnedOf, changedOf, agree, differing, pinnedAt, changedAt, differAt};
+ghost use Rattle.soft.specs.Total.{totalOf, pinnedOf, changedOf, agree, differing};
+
+pub const CEILING: u16 = 65535;
 
 // A cost at the ceiling is summed as it stands.
 pub fn total(costs: &[u16], word: &[u8]) -> u32
     ensures { λ r. ⌜ r ≡ totalOf places (columnOf symbols (now (costs .entry))) (now (word .entry)) ⌝ }
 {
     let mut sum: u32 = 0;
-    for place in 0..64 {
+    for place in 0..PLACES {
         sum += costs::cost_of(costs, place, costs::byte_at(word, place)) as u32;
     }
     sum
@@ -22,8 +25,8 @@ pub fn pinned(costs: &[u16], word: &[u8]) -> u8
     ensures { λ r. ⌜ r ≡ pinnedOf places (columnOf symbols (now (costs .entry))) (now (word .entry)) ⌝ }
 {
     let mut n = 0u16;
-    for place in 0..64 {
-        n += bit::bit(costs::cost_of(costs, place, costs::byte_at(word, place)) == 65535);
+    for place in 0..PLACES {
+        n += bit::bit(costs::cost_of(costs, place, costs::byte_at(word, place)) == CEILING);
     }
     n as u8
 }
@@ -32,7 +35,7 @@ pub fn changed(costs: &[u16], word: &[u8]) -> u8
     ensures { λ r. ⌜ r ≡ changedOf places (columnOf symbols (now (costs .entry))) (now (word .entry)) ⌝ }
 {
     let mut n = 0u16;
-    for place in 0..64 {
+    for place in 0..PLACES {
         n += bit::bit(costs::byte_at(word, place) != column::best(costs::column_of(costs, place)));
     }
     n as u8
@@ -55,7 +58,7 @@ pub fn differing(u: &[u8], v: &[u8]) -> u16
     ensures { λ r. ⌜ r ≡ differing places (now (u .entry)) (now (v .entry)) ⌝ }
 {
     let mut n = 0u16;
-    for place in 0..64 {
+    for place in 0..PLACES {
         n += bit::bit(!agreeing(u, v, place));
     }
     n
