@@ -4,3 +4,5 @@ pub mod Ranks
 pub mod Symbols
 pub mod Codeword
 pub mod Answers
+pub mod Moments
+pub mod Copied

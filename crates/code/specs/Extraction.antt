@@ -4,13 +4,16 @@
 --   moment v a b       the sum over all places of the word's symbol times x^a y^b
 --   symbolOf v i j     the coefficient of x^i y^j in the function whose values are v, read off four moments
 --   symbolAt v o       the coefficient of order o
---   extractOf k v      the k message symbols so read
+--   messageAt v t      message symbol t so read, and extractOf k v the first k of them
+--   momentRow v b      the moments with y^b by the power of x; momentsOf v for b from 0 to 3
+--   addedAt row by other   a row and a multiple of another
+--   symbolIn ms i j    the same coefficient from a table of moments; symbol-in: it is so from the word's own
 --   extract-word       they are symbols: a word of k numbers below 16
 --   extract-encode     what was encoded is read again (k up to 58, where no power of x is above 15)
 use mathlib.Core.Bool.{Bool, true, false}
 use mathlib.Core.Path.{_≡_, refl, sym, ap, ap₂, _∙_, subst}
 use mathlib.Core.Logic.{_≢_}
-use mathlib.Core.List.{List}
+use mathlib.Core.List.{List, []}
 use Prim.Native.Nat.{ℕ, zero, suc, _+_, _-_, _*_, _/_, _<_, _≤_}
 use native.Mathlib.Decide.{ℕ-discrete}
 use native.Mathlib.Omega.{arith}
@@ -65,8 +68,44 @@ symbolOf v i j =
 unfoldable pub symbolAt : List ℕ → ℕ → ℕ
 symbolAt v o = symbolOf v (xPower 4 o) (yPower 4 o)
 
+unfoldable pub messageAt : List ℕ → ℕ → ℕ
+messageAt v t = symbolAt v (orderOf 4 t)
+
 unfoldable pub extractOf : ℕ → List ℕ → List ℕ
-extractOf k v = listed k (λ t. symbolAt v (orderOf 4 t))
+extractOf k v = listed k (messageAt v)
+
+-- the moments with y^b, of the first n values of x
+unfoldable pub momentUpTo : List ℕ → ℕ → ℕ → ℕ → ℕ
+momentUpTo v b n a = xorSum n (momentTerm v a b)
+
+unfoldable pub momentRow : List ℕ → ℕ → List ℕ
+momentRow v b = listed 16 (momentUpTo v b 16)
+
+-- a row and a multiple of another, as a rule
+unfoldable pub addedAt : List ℕ → ℕ → List ℕ → ℕ → ℕ
+addedAt row by other a = bitXor (getD row a 0) (times by (getD other a 0))
+
+unfoldable pub momentsOf : List ℕ → List (List ℕ)
+momentsOf v = listed 4 (momentRow v)
+
+unfoldable pub symbolIn : List (List ℕ) → ℕ → ℕ → ℕ
+symbolIn ms i j =
+    bitXor (getD (getD ms (3 - j) []) (15 - i) 0)
+    (bitXor (atZero i (getD (getD ms (3 - j) []) 0 0))
+    (atZero j (bitXor (getD (getD ms 0 []) (15 - i) 0) (atZero i (getD (getD ms 0 []) 0 0)))))
+
+moment-in : (v : List ℕ) (a b : ℕ) → a < 16 → b < 4 → getD (getD (momentsOf v) b []) a 0 ≡ moment v a b
+unfolding momentsOf momentRow momentUpTo moment
+moment-in v a b h l =
+    ap (λ r. getD r a 0) (listed-at 4 b (momentRow v) [] l) ∙ listed-at 16 a (momentUpTo v b 16) 0 h
+
+pub symbol-in : (v : List ℕ) (i j : ℕ) → symbolIn (momentsOf v) i j ≡ symbolOf v i j
+unfolding symbolIn symbolOf
+symbol-in v i j =
+    ap₂ bitXor (moment-in v (15 - i) (3 - j) (omega arith) (omega arith))
+    (ap₂ bitXor (ap (atZero i) (moment-in v 0 (3 - j) (omega arith) (omega arith)))
+    (ap (atZero j)
+    (ap₂ bitXor (moment-in v (15 - i) 0 (omega arith) (omega arith)) (ap (atZero i) (moment-in v 0 0 (omega arith) (omega arith))))))
 
 -- ---- power sums, computed: over the 16 values of x, and over each fibre
 abbrev oneIf : Bool → ℕ
@@ -267,15 +306,15 @@ symbolAt-lt v o =
     (atZero-lt (yPower 4 o) _ (xor-below _ _ (moment-lt v _ _) (atZero-lt (xPower 4 o) _ (moment-lt v _ _)))))
 
 pub extract-word : (k : ℕ) (v : List ℕ) → Word 16 k (extractOf k v)
-unfolding extractOf
+unfolding extractOf messageAt
 extract-word k v =
     record {
       size = listed-length k _;
-      symbols = allBelow-from 16 _ (λ t h. subst (λ x. x < 16) (sym (listed-at k t _ 0 (omega (arith, listed-length k (λ t. symbolAt v (orderOf 4 t)))))) (symbolAt-lt v (orderOf 4 t)));
+      symbols = allBelow-from 16 _ (λ t h. subst (λ x. x < 16) (sym (listed-at k t _ 0 (omega (arith, listed-length k (messageAt v))))) (symbolAt-lt v (orderOf 4 t)));
     }
 
 pub extract-encode : (k : ℕ) (m : List ℕ) → k ≤ 58 → Word 16 k m → extractOf k (encodeOf k m) ≡ m
-unfolding extractOf
+unfolding extractOf messageAt
 extract-encode k m most w =
     listed-ext k _ (λ t. getD m t 0) (λ t h. toF-injective _ _ (symbolAt-lt _ _) (allBelow-at 16 m (w .symbols) t (omega (arith, w .size))) (toF-symbolAt k m most t h))
     ∙ ap (λ n. listed n (λ t. getD m t 0)) (sym (w .size))

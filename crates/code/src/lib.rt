@@ -2,3 +2,4 @@
 pub mod encoding;
 pub mod evaluation;
 pub mod points;
+pub mod reading;

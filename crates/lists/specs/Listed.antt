@@ -6,6 +6,7 @@
 --   listed-read      what it has stored so far can be read
 --   listed-length, listed-at, listed-ext    its length, its entries, equal rules
 --   listed-cons      from the front
+--   take-listed      the first k of them
 --   listed-getD      every list is listed by its entries
 --   sets-all         stores written out one after the other, of all entries
 use mathlib.Core.Path.{_≡_, refl, sym, ap, ap₂, _∙_}
@@ -66,6 +67,11 @@ module _ {ℓ} {A : Type ℓ} where
   unfolding listed
   listed-take zero l d h = refl
   listed-take (suc n) l d h = ap (λ (r : List A). r ++ (getD l n d ∷ [])) (listed-take n l d (omega arith)) ∙ sym (take-suc l n d h)
+
+  pub take-listed : (d : A) (k n : ℕ) (f : ℕ → A) → k ≤ n → take k (listed n f) ≡ listed k f
+  take-listed d k n f h =
+      sym (listed-take k (listed n f) d (omega (arith, listed-length n f)))
+      ∙ listed-ext k _ f (λ i l. listed-at n i f d (omega arith))
 
   pub listed-getD : (l : List A) (d : A) → listed (length l) (λ k. getD l k d) ≡ l
   listed-getD l d = listed-take (length l) l d (omega arith) ∙ take-length l

@@ -1,0 +1,110 @@
+-- The loops that sum the moments of a word.
+use mathlib.Core.Path.{_≡_, refl, sym, ap, ap₂, _∙_, subst}
+use mathlib.Core.List.{List, []}
+use Prim.Native.Nat.{ℕ, zero, suc, _+_, _-_, _*_, _/_, _%_, _<_, _≤_}
+use native.Mathlib.Numerals.{add-one}
+use native.Mathlib.Omega.{arith}
+use lib.Dec.{lit≤}
+use lib.Bits.{bitXor}
+use lib.ListN.{length, getD, set, replicate}
+use Rattle.lists.specs.Listed.{listed, listed-at, listed-ext}
+use Rattle.lists.specs.Filled.{Filled, filled-start, filled-turn, filled-read}
+use Rattle.lists.specs.XorSum.{xorSum, xorSum-suc}
+use Rattle.galois.specs.Gf16.{times}
+use Rattle.hermitian.specs.Present.{Present, genus}
+use Rattle.hermitian.specs.Orders.{orderOf, orderOf-large, orderOf-present, orderOf-up-to}
+use Rattle.code.specs.Curve.{yOf, power, power-nil, power-suc}
+use Rattle.code.specs.Extraction.{atZero, symbolIn, symbol-in, symbolAt, messageAt, momentsOf, addedAt, fibreTerm, fibreSum, momentTerm, momentUpTo, momentRow}
+
+-- ---- orders
+pub order-large : (t : ℕ) → 6 ≤ t → t + 6 ≡ orderOf 4 t
+unfolding genus
+order-large t h = sym (orderOf-large 4 (lit≤ tt) t h)
+
+-- ---- powers
+pub power-start : (a : ℕ) → 1 ≡ power a 0
+power-start a = sym (power-nil a)
+
+pub power-turn : (a i : ℕ) {p v : ℕ} → p ≡ power a i → v ≡ times p a → v ≡ power a (i + 1)
+power-turn a i e q = q ∙ ap (λ x. times x a) e ∙ sym (rw add-one (power-suc a i))
+
+abbrev pub blank16 : List ℕ
+blank16 = replicate 16 0
+
+pub powers-start : (x : ℕ) → Filled blank16 (power x) 1 (set blank16 0 1)
+powers-start x = filled-turn 0 (filled-start blank16 (power x)) 1 (omega arith) (power-start x)
+
+pub powers-turn : (x i : ℕ) {out : List ℕ} {v : ℕ} → Filled blank16 (power x) i out → 1 ≤ i → i < 16 → v ≡ times (getD out (i - 1) 0) x
+    → Filled blank16 (power x) (i + 1) (set out i v)
+powers-turn x i {out} {v} t l h e =
+    let s : (i - 1) + 1 ≡ i = omega arith in
+    filled-turn 0 t v h (power-turn x (i - 1) (filled-read 0 t (i - 1) (omega arith)) e ∙ ap (power x) s)
+
+-- ---- the row of moments with y^b, after the first x values
+pub record Row (v : List ℕ) (b x : ℕ) (row : List ℕ) : Type 0 where
+  pub within : x ≤ 16
+  pub sized : length v ≡ 64
+  pub sums : row ≡ listed 16 (momentUpTo v b x)
+
+pub row-start : (v : List ℕ) (b : ℕ) → length v ≡ 64 → Row v b 0 blank16
+unfolding listed momentUpTo xorSum
+row-start v b h = record { within = omega arith; sized = h; sums = refl }
+
+pub row-turn : {v row other next : List ℕ} {b x by : ℕ} → Row v b x row → x < 16 → by ≡ fibreSum v b x → other ≡ listed 16 (power x)
+    → next ≡ listed 16 (addedAt row by other) → Row v b (x + 1) next
+unfolding momentUpTo momentTerm addedAt
+row-turn {v} {row} {other} {next} {b} {x} {by} r h e f q =
+    record {
+      within = omega arith;
+      sized = r .sized;
+      sums = q ∙ listed-ext 16 _ _ (λ a l.
+          ap₂ bitXor (ap (λ y. getD y a 0) (r .sums) ∙ listed-at 16 a (momentUpTo v b x) 0 l)
+          (ap₂ times e (ap (λ y. getD y a 0) f ∙ listed-at 16 a (power x) 0 l))
+          ∙ sym (xorSum-suc x (momentTerm v a b)) ∙ ap (λ k. xorSum k (momentTerm v a b)) (sym (add-one x)));
+    }
+
+pub row-end : {v row : List ℕ} {b x : ℕ} → Row v b x row → 16 ≤ x → row ≡ momentRow v b
+unfolding momentRow
+row-end {v} {row} {b} {x} r h =
+    let e : x ≡ 16 = omega (arith, r .within) in
+    r .sums ∙ ap (λ k. listed 16 (momentUpTo v b k)) e
+
+pub added-entry : (row other : List ℕ) (by a : ℕ) {v : ℕ} → v ≡ times by (getD other a 0) → bitXor (getD row a 0) v ≡ addedAt row by other a
+unfolding addedAt
+added-entry row other by a e = ap (bitXor (getD row a 0)) e
+
+-- ---- a symbol from four moments
+pub zero-kept : (i a : ℕ) → i ≡ 0 → a ≡ atZero i a
+zero-kept i a e = sym (ap (λ k. atZero k a) e)
+
+pub other-dropped : (i a : ℕ) → (i ≡ 0 → ⊥) → 0 ≡ atZero i a
+other-dropped zero a n = absurd (n refl)
+other-dropped (suc i) a n = refl
+
+module _ (ms : List (List ℕ)) (i j : ℕ) where
+  pub symbol-from : {y z u : ℕ} → y ≡ atZero i (getD (getD ms 0 []) 0 0) → z ≡ atZero i (getD (getD ms (3 - j) []) 0 0)
+      → u ≡ atZero j (bitXor (getD (getD ms 0 []) (15 - i) 0) y) → bitXor (getD (getD ms (3 - j) []) (15 - i) 0) (bitXor z u) ≡ symbolIn ms i j
+  unfolding symbolIn
+  symbol-from e f g =
+      ap₂ (λ a b. bitXor (getD (getD ms (3 - j) []) (15 - i) 0) (bitXor a b)) f
+      (g ∙ ap (λ a. atZero j (bitXor (getD (getD ms 0 []) (15 - i) 0) a)) e)
+
+-- a term of a sum over four places
+pub fibre-entry : (v : List ℕ) (b x r : ℕ) {y p t : ℕ} → y ≡ yOf (x * 4 + r) → p ≡ power y b → t ≡ times (getD v (x * 4 + r) 0) p
+    → t ≡ fibreTerm v b x r
+unfolding fibreTerm
+fibre-entry v b x r e f g = g ∙ ap (times (getD v (x * 4 + r) 0)) (f ∙ ap (λ a. power a b) e)
+
+-- ---- the message read off the moments
+pub order-fits : (t : ℕ) {o : ℕ} → t < 58 → o ≡ orderOf 4 t → Present 4 o × (o < 64)
+unfolding genus
+order-fits t {o} h e =
+    let p : Present 4 o = subst (Present 4) (sym e) (orderOf-present 4 (lit≤ tt) t) in
+    let q : orderOf 4 t ≤ 63 = orderOf-up-to 4 (lit≤ tt) 63 t (lit≤ tt) .1 h in
+    (p, omega arith)
+
+pub message-entry : (v : List ℕ) (t : ℕ) {ms : List (List ℕ)} {o s : ℕ} → ms ≡ momentsOf v → o ≡ orderOf 4 t
+    → s ≡ symbolIn ms (o / 4 - o % 4) (o % 4) → s ≡ messageAt v t
+unfolding messageAt symbolAt
+message-entry v t {ms} {o} e f g =
+    g ∙ ap₂ (λ x k. symbolIn x (k / 4 - k % 4) (k % 4)) e f ∙ symbol-in v _ _

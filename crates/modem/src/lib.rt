@@ -1,0 +1,22 @@
+// What the modem's firmware calls from C, on numbers and byte slices, each returning the refusal or 0. Nothing else stands here.
+ghost use mathlib.Core.Path.{_≡_};
+ghost use Rattle.code.specs.Calls.{outcome, encodeCall, readBackCall};
+
+#[no_mangle]
+pub extern "C" fn hermitian_encode(
+    rate: usize,
+    message: &[u8],
+    frame: &mut [u8],
+    start: usize,
+) -> u8
+    ensures { λ r. ⌜ outcome r (now (frame .exit)) ≡ encodeCall rate (now (message .entry)) (now (frame .entry)) start ⌝ }
+{
+    code::encoding::encode(rate, message, frame, start)
+}
+
+#[no_mangle]
+pub extern "C" fn hermitian_read_back(rate: usize, word: &[u8], message: &mut [u8]) -> u8
+    ensures { λ r. ⌜ outcome r (now (message .exit)) ≡ readBackCall rate (now (word .entry)) (now (message .entry)) ⌝ }
+{
+    code::reading::read_back(rate, word, message)
+}
