@@ -4,8 +4,8 @@
 --   close-size, close-missing, close-decoded   the three cases of closing
 --   decode-none, decode-some                   the two cases of decoding
 --   decode-kept, close-kept   a refused call leaves its buffers as they were
-use mathlib.Core.Bool.{Bool, true, false, cond, _&&_}
-use mathlib.Core.Path.{_≡_, refl, sym, ap, _∙_}
+use mathlib.Core.Bool.{Bool, true, false}
+use mathlib.Core.Path.{_≡_, refl, ap, _∙_}
 use mathlib.Core.List.{List}
 use mathlib.Core.Option.{Option, none, some}
 use Prim.Native.Nat.{ℕ}

@@ -7,7 +7,7 @@
 --   taken-alike, missing-alike    what is taken, and whether a place is missing, by the row as a set
 --   columns-alike        rows that agree as sets have the same columns
 use mathlib.Core.Bool.{Bool, true, false, not, true≢false, false≢true}
-use mathlib.Core.Path.{_≡_, refl, sym, ap, _∙_, fun-ext}
+use mathlib.Core.Path.{_≡_, refl, ap, fun-ext}
 use mathlib.Core.List.{List}
 use mathlib.Core.Option.{Option, none, some}
 use Prim.Native.Nat.{ℕ}

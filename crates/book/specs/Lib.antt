@@ -11,5 +11,11 @@ pub mod CaptureCases
 pub mod RoundTrip
 pub mod LookUpLaws
 pub mod Columns
+pub mod Reading
+pub mod Entries
+pub mod ReadingLaws
 pub mod Closing
 pub mod ClosingLaws
+pub mod Calls
+pub mod OpeningLaws
+pub mod Sentences

@@ -1,0 +1,83 @@
+-- The book under a list of calls: what each call answers, fed its arguments except the session.
+--
+--   Call                 delivery of a place and its column, interpolant reading, capture writing or closing, with the buffers as they are lent
+--   Answer               a call's number, and the lent buffers afterwards (empty lists where there are none)
+--   firstLent, secondLent   the buffers as they are lent
+--   answer book call     what the book answers to a call
+--   after book call      the book after it: only an accepted delivery changes it
+--   answers, afterAll    the same of a list of calls, each of which finds the book that the call before it left
+--   answers-nil, answers-cons, after-nil, after-cons   call by call
+use mathlib.Core.Path.{_≡_, refl}
+use mathlib.Core.List.{List, [], _∷_}
+use Prim.Native.Nat.{ℕ}
+use Rattle.book.specs.Book.{Book}
+use Rattle.book.specs.Delivery.{deliverOf}
+use Rattle.book.specs.Reading.{readOf}
+use Rattle.book.specs.Writing.{writeOf}
+use Rattle.book.specs.Closing.{closeOf}
+
+pub data Call : Type 0 where
+  deliver : ℕ → List ℕ → Call
+  reading : List ℕ → Call
+  writing : List ℕ → Call
+  closing : List ℕ → List ℕ → Call
+
+pub record Answer : Type 0 where
+  pub number : ℕ
+  pub first : List ℕ
+  pub second : List ℕ
+
+-- a column is given by value, so a delivery lends no buffer
+unfoldable pub firstLent : Call → List ℕ
+firstLent (deliver p column) = []
+firstLent (reading out) = out
+firstLent (writing out) = out
+firstLent (closing message report) = message
+
+unfoldable pub secondLent : Call → List ℕ
+secondLent (deliver p column) = []
+secondLent (reading out) = []
+secondLent (writing out) = []
+secondLent (closing message report) = report
+
+unfoldable pub answer : Book → Call → Answer
+answer book (deliver p column) = record { number = deliverOf book p column .number; first = []; second = [] }
+answer book (reading out) = record { number = readOf book out .number; first = readOf book out .bytes; second = [] }
+answer book (writing out) = record { number = writeOf book out .number; first = writeOf book out .bytes; second = [] }
+answer book (closing message report) =
+    record {
+      number = closeOf book message report .number;
+      first = closeOf book message report .message;
+      second = closeOf book message report .report;
+    }
+
+unfoldable pub after : Book → Call → Book
+after book (deliver p column) = deliverOf book p column .book
+after book (reading out) = book
+after book (writing out) = book
+after book (closing message report) = book
+
+unfoldable pub answers : Book → List Call → List Answer
+answers book [] = []
+answers book (call ∷ calls) = answer book call ∷ answers (after book call) calls
+
+unfoldable pub afterAll : Book → List Call → Book
+afterAll book [] = book
+afterAll book (call ∷ calls) = afterAll (after book call) calls
+
+module _ (book : Book) where
+  pub answers-nil : answers book [] ≡ []
+  unfolding answers
+  answers-nil = refl
+
+  pub answers-cons : (call : Call) (calls : List Call) → answers book (call ∷ calls) ≡ answer book call ∷ answers (after book call) calls
+  unfolding answers
+  answers-cons call calls = refl
+
+  pub after-nil : afterAll book [] ≡ book
+  unfolding afterAll
+  after-nil = refl
+
+  pub after-cons : (call : Call) (calls : List Call) → afterAll book (call ∷ calls) ≡ afterAll (after book call) calls
+  unfolding afterAll
+  after-cons call calls = refl

@@ -1,0 +1,96 @@
+-- Which rates and doubtful lists opening accepts, in document 01's words.
+--
+--   Rate rate T          the two rates and their reach: T = 6 at rate 39, T = 1 at rate 49
+--   DoubtfulList list    at most 8 places, none above 63, strictly rising: each smaller than the next
+--   rate-known, known-rate   the rates that pass the test
+--   rate-reach           T is document 01's
+--   list-fits, fits-list the lists that pass the test
+use mathlib.Core.Bool.{Bool, true, false, _&&_, _||_, false≢true}
+use mathlib.Core.Path.{_≡_, refl, sym, subst}
+use mathlib.Core.List.{List, [], _∷_}
+use Prim.Native.Nat.{ℕ, zero, suc, _<_, _≤_}
+use native.Mathlib.Nat.{le-of-suc-le-suc}
+use native.Mathlib.Omega.{arith}
+use lib.Dec.{eqb, ltb, leb}
+use lib.ListN.{length, getD}
+use borrow.Author.Tests.{eqb-true, lt-ltb, leb-true, le-leb}
+use Rattle.lists.specs.Distinct.{below, below-at, and-left, and-right, and-both}
+use Rattle.near.specs.Near.{reachOf}
+use Rattle.near.specs.Reach.{reaches}
+use Rattle.book.specs.Book.{places}
+use Rattle.book.specs.Opening.{knownRate, risingFrom, rising, fitPlaces, fitDoubt}
+
+pub data Rate : ℕ → ℕ → Type 0 where
+  rate-39 : Rate 39 6
+  rate-49 : Rate 49 1
+
+pub record DoubtfulList (list : List ℕ) : Type 0 where
+  pub short : length list ≤ 8
+  pub in-range : (i : ℕ) → i < length list → getD list i 0 ≤ 63
+  pub rises : (i : ℕ) → suc i < length list → getD list i 0 < getD list (suc i) 0
+
+pub rate-known : {rate T : ℕ} → Rate rate T → knownRate rate ≡ true
+unfolding knownRate
+rate-known rate-39 = refl
+rate-known rate-49 = refl
+
+pub known-rate : (rate : ℕ) → knownRate rate ≡ true → (T : ℕ) × Rate rate T
+unfolding knownRate
+known-rate rate e = go (eqb rate 39) refl (eqb rate 49) refl e
+  where
+    go : (a : Bool) → eqb rate 39 ≡ a → (b : Bool) → eqb rate 49 ≡ b → (a || b) ≡ true → (T : ℕ) × Rate rate T
+    go true f b g h = (6, subst (λ k. Rate k 6) (sym (eqb-true rate 39 f)) rate-39)
+    go false f true g h = (1, subst (λ k. Rate k 1) (sym (eqb-true rate 49 g)) rate-49)
+    go false f false g h = absurd (false≢true h)
+
+pub rate-reach : {rate T : ℕ} → Rate rate T → reachOf rate ≡ T
+rate-reach rate-39 = reaches .1
+rate-reach rate-49 = reaches .3
+
+rising-of : (n : ℕ) (list : List ℕ) → (0 < length list → n ≤ getD list 0 0)
+    → ((i : ℕ) → suc i < length list → getD list i 0 < getD list (suc i) 0) → risingFrom n list ≡ true
+unfolding risingFrom
+rising-of n [] h r = refl
+rising-of n (p ∷ list) h r =
+    and-both (leb n p) (risingFrom (suc p) list) (le-leb n p (h (omega arith)))
+    (rising-of (suc p) list (λ l. r 0 (omega arith)) (λ i l. r (suc i) (omega arith)))
+
+rising-from : (n : ℕ) (list : List ℕ) → risingFrom n list ≡ true
+    → (0 < length list → n ≤ getD list 0 0) × ((i : ℕ) → suc i < length list → getD list i 0 < getD list (suc i) 0)
+unfolding risingFrom
+rising-from n [] e = ((λ l. absurd (omega arith)), (λ i l. absurd (omega arith)))
+rising-from n (p ∷ list) e =
+    let f : leb n p ≡ true = and-left (leb n p) (risingFrom (suc p) list) e in
+    let r = rising-from (suc p) list (and-right (leb n p) (risingFrom (suc p) list) e) in
+    ((λ l. leb-true n p f), go (r .0) (r .1))
+  where
+    go : (0 < length list → suc p ≤ getD list 0 0) → ((i : ℕ) → suc i < length list → getD list i 0 < getD list (suc i) 0)
+        → (i : ℕ) → suc i < length (p ∷ list) → getD (p ∷ list) i 0 < getD (p ∷ list) (suc i) 0
+    go first rest zero l = first (le-of-suc-le-suc l)
+    go first rest (suc i) l = rest i (le-of-suc-le-suc l)
+
+below-of : (n : ℕ) (list : List ℕ) → ((i : ℕ) → i < length list → getD list i 0 < n) → below n list ≡ true
+unfolding below
+below-of n [] h = refl
+below-of n (p ∷ list) h =
+    and-both (ltb p n) (below n list) (lt-ltb p n (h 0 (omega arith))) (below-of n list (λ i l. h (suc i) (omega arith)))
+
+pub list-fits : {list : List ℕ} → DoubtfulList list → fitDoubt list ≡ true
+unfolding fitDoubt fitPlaces rising
+list-fits {list} d =
+    and-both (leb (length list) 8) (below places list && risingFrom 0 list) (le-leb (length list) 8 (d .short))
+    (and-both (below places list) (risingFrom 0 list) (below-of places list (λ i l. omega (arith, d .in-range i l)))
+    (rising-of 0 list (λ l. omega arith) (d .rises)))
+
+pub fits-list : (list : List ℕ) → fitDoubt list ≡ true → DoubtfulList list
+unfolding fitDoubt fitPlaces rising
+fits-list list e =
+    let a = leb (length list) 8 in
+    let b = below places list in
+    let c = risingFrom 0 list in
+    let f : (b && c) ≡ true = and-right a (b && c) e in
+    record {
+      short = leb-true (length list) 8 (and-left a (b && c) e);
+      in-range = λ i l. omega (arith, below-at places list i (and-left b c f) l);
+      rises = rising-from 0 list (and-right b c f) .1;
+    }

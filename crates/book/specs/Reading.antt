@@ -1,0 +1,43 @@
+-- Interpolant reading: size.
+--
+--   isSettled book p       p is taken and not doubtful
+--   settledBelow book n    the settled places below n that are taken, each with its best symbol
+--   settledOf book         all of them: the row as a set decides, in whatever order its places were accepted
+--   readOf book out        2 if the buffer is not of 82 bytes, the buffer as it was; else 0 and the 82 bytes of the least Q for the row's settled places
+use mathlib.Core.Bool.{Bool, cond, not, _&&_}
+use mathlib.Core.List.{List, [], _∷_}
+use Prim.Native.Nat.{ℕ, zero, suc}
+use lib.Dec.{eqb}
+use lib.ListN.{length}
+use Rattle.lists.specs.Distinct.{among}
+use Rattle.refusals.specs.Refusal.{accepted, wrongSize}
+use Rattle.soft.specs.Column.{bestOf}
+use Rattle.code.specs.Nodes.{Node, node}
+use Rattle.near.specs.Near.{mOf}
+use Rattle.interpolant.specs.LeastQ.{readingOf}
+use Rattle.book.specs.Book.{places, Book, taken}
+use Rattle.book.specs.Columns.{columnsOf}
+use Rattle.book.specs.Writing.{Filled}
+
+abbrev pub readingLength : ℕ
+readingLength = 82
+
+unfoldable pub isSettled : Book → ℕ → Bool
+isSettled book p = taken (book .row) p && not (among p (book .doubtful))
+
+-- with z the best symbol there
+unfoldable pub settledAt : Book → ℕ → Node
+settledAt book p = node p (bestOf (columnsOf (book .row) p))
+
+unfoldable pub settledBelow : Book → ℕ → List Node
+settledBelow book zero = []
+settledBelow book (suc p) = cond (isSettled book p) (settledAt book p ∷ settledBelow book p) (settledBelow book p)
+
+unfoldable pub settledOf : Book → List Node
+settledOf book = settledBelow book places
+
+unfoldable pub readOf : Book → List ℕ → Filled
+readOf book out =
+    cond (eqb (length out) readingLength)
+    (record { number = accepted; bytes = readingOf (mOf (book .rate)) (settledOf book) })
+    (record { number = wrongSize; bytes = out })

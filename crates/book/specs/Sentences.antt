@@ -1,0 +1,357 @@
+-- Document 01's sentences about the book of a session, each a theorem of the book.
+--
+--   opening-accepts, opening-only   opening accepts rates 39 and 49 with every strictly rising list of at most 8 places, none above 63, and nothing else
+--   IsNear book T m      the codeword of the message m is near: it differs from some test word in at most T places
+--   Dearer book m n      the codeword of n has a larger total than that of m, or an equal total and n is the larger message
+--   IsAnswer book T c    the message of a near codeword, every other near codeword is dearer, and the report is that message's
+--   closing-sizes        closing into a buffer of the wrong size is refused with 2, whatever the row
+--   closing-early        into buffers of the right sizes it is early exactly when a place is missing
+--   closing-none-near    with none missing it says 'none near' exactly when no codeword is near
+--   closing-answer       otherwise it gives the answer
+--   Agree a b            equal rates, equal lists, and rows that agree as sets: each place has the same column in both, or none in either
+--   reading-alike, closing-alike    such books read and close alike
+--   refused-lent, refused-after     a refused call leaves its buffers, and the book, as they were
+--   only-delivery        only an accepted delivery changes the book
+--   deliveries entries   the entries as deliveries
+--   capture-opens        opening an accepted capture counts as opening with its rate and list and then delivering its records in their order
+use mathlib.Core.Bool.{Bool, true, false, _||_}
+use mathlib.Core.Path.{_≡_, refl, sym, ap, _∙_, subst}
+use mathlib.Core.List.{List, [], _∷_, List·Memᴰ, List·Memᴰ·cases-cons, List·Memᴰ·not-nil}
+use mathlib.Core.Logic.{_↔_, _≢_, _⊎_, inl, inr, ⊎-elim}
+use mathlib.Core.Option.{Option, none, some}
+use Prim.Native.Nat.{ℕ, zero, suc, _<_, _≤_}
+use native.Mathlib.Decide.{decLt}
+use native.Mathlib.Omega.{arith}
+use lib.Dec.{T as Holds, eqb, leb→le, le→leb}
+use lib.ListN.{length}
+use borrow.Author.Tests.{eqb-true, eqb-false}
+use Rattle.refusals.specs.Refusal.{accepted, wrongSize, placeMissing, noneNear}
+use Rattle.lists.specs.Words.{Word, Lex}
+use Rattle.lists.specs.Answers.{Answers, nobody, best, cheaper, earlier, NoWorse, Found}
+use Rattle.soft.specs.TestWord.{testWords}
+use Rattle.soft.specs.Total.{totalOf, differing}
+use Rattle.code.specs.Encoding.{encodeOf}
+use Rattle.near.specs.Near.{reachOf, nearTo, near, messageCost, answerOf}
+use Rattle.near.specs.Laws.{near-cons, near-member, near-answers}
+use Rattle.book.specs.Book.{places, Entry, Book, newBook, columnOf, taken, someMissing, Outcome}
+use Rattle.book.specs.Opening.{knownRate, fitDoubt, refusedOpening, openOf}
+use Rattle.book.specs.Delivery.{withEntry, deliverOf}
+use Rattle.book.specs.Capture.{captureLength}
+use Rattle.book.specs.Writing.{Filled, writeOf}
+use Rattle.book.specs.Columns.{columnsOf, taken-alike, missing-alike, columns-alike}
+use Rattle.book.specs.Entries.{Missing, missing-there, missing-none}
+use Rattle.book.specs.Reading.{isSettled, settledAt, settledBelow, settledOf, readOf}
+use Rattle.book.specs.ReadingLaws.{read-kept}
+use Rattle.book.specs.Closing.{reportLength, Closed, refusedClosing, reportFor, decodeOf, closingFits, closeOf}
+use Rattle.book.specs.ClosingLaws.{refused-number, fits-both, fits-of, close-size, close-missing, close-decoded, close-kept, decode-none, decode-some}
+use Rattle.book.specs.CaptureOpening.{deliverRow, rateIn, listIn, recordsIn, openCaptureOf}
+use Rattle.book.specs.CaptureCases.{row-above, row-taken, row-next, row-none, open-checked, open-with, bookIn, capture-fit}
+use Rattle.book.specs.RowLaws.{deliver-above, deliver-taken, deliver-accepted, open-accepted, open-refused-rate, open-refused-list}
+use Rattle.book.specs.RoundTrip.{write-size, write-missing, write-accepted}
+use Rattle.book.specs.Calls.{Call, deliver, reading, writing, closing, Answer, firstLent, secondLent, answer, after, answers, afterAll}
+use Rattle.book.specs.OpeningLaws.{Rate, DoubtfulList, rate-known, known-rate, rate-reach, list-fits, fits-list}
+
+-- ---- 'For every rate and every strictly rising list of up to 8 doubtful places, none above 63, opening accepts'
+
+pub opening-accepts : {rate T : ℕ} {list : List ℕ} → Rate rate T → DoubtfulList list
+    → openOf rate list ≡ record { number = accepted; book = newBook rate list }
+opening-accepts {rate} {T} {list} r d = open-accepted rate list (rate-known r) (list-fits d)
+
+-- and nothing else
+pub opening-only : (rate : ℕ) (list : List ℕ) → openOf rate list .number ≡ accepted → ((T : ℕ) × Rate rate T) × DoubtfulList list
+unfolding refusedOpening
+opening-only rate list n = go (knownRate rate) refl (fitDoubt list) refl
+  where
+    go : (a : Bool) → knownRate rate ≡ a → (b : Bool) → fitDoubt list ≡ b → ((T : ℕ) × Rate rate T) × DoubtfulList list
+    go false e b f = absurd (omega (arith, sym (ap (λ (o : Outcome). o .number) (open-refused-rate rate list e)) ∙ n))
+    go true e false f = absurd (omega (arith, sym (ap (λ (o : Outcome). o .number) (open-refused-list rate list e f)) ∙ n))
+    go true e true f = (known-rate rate e, fits-list list f)
+
+-- ---- closing
+
+module _ (book : Book) where
+  -- the test words, by the row's columns and the doubtful list
+  unfoldable pub testsOf : List (List ℕ)
+  testsOf = testWords places (columnsOf (book .row)) (book .doubtful)
+
+  -- the total cost of the codeword of a message, by the row's columns
+  unfoldable pub totalFor : List ℕ → ℕ
+  totalFor m = totalOf places (columnsOf (book .row)) (encodeOf (book .rate) m)
+
+  pub record IsNear (T : ℕ) (m : List ℕ) : Type 0 where
+    pub word : Word 16 (book .rate) m
+    pub test : List ℕ
+    pub tested : List·Memᴰ test testsOf
+    pub few : differing places (encodeOf (book .rate) m) test ≤ T
+
+  abbrev pub Dearer : List ℕ → List ℕ → Type 0
+  Dearer m n = (totalFor m < totalFor n) ⊎ ((totalFor m ≡ totalFor n) × Lex m n)
+
+  pub record IsAnswer (T : ℕ) (c : Closed) : Type 0 where
+    pub number : c .number ≡ accepted
+    pub near : IsNear T (c .message)
+    pub others : (n : List ℕ) → IsNear T n → n ≢ c .message → Dearer (c .message) n
+    pub report : c .report ≡ reportFor (book .rate) (columnsOf (book .row)) (book .doubtful) (c .message)
+
+-- near a member of a list is near the list
+member-near : (k : ℕ) (t : List ℕ) (ts : List (List ℕ)) (m : List ℕ) → List·Memᴰ t ts → Holds (nearTo k t m) → Holds (near k ts m)
+member-near k t [] m h n = absurd (List·Memᴰ·not-nil h)
+member-near k t (u ∷ ts) m h n =
+    subst Holds (sym (near-cons k u ts m)) (go (nearTo k u m) refl (List·Memᴰ·cases-cons h) (λ l. member-near k t ts m l n))
+  where
+    go : (b : Bool) → nearTo k u m ≡ b → (t ≡ u) ⊎ List·Memᴰ t ts → (List·Memᴰ t ts → Holds (near k ts m)) → Holds (b || near k ts m)
+    go true e c ih = tt
+    go false e (inl q) ih = absurd (subst Holds (ap (λ v. nearTo k v m) q ∙ e) n)
+    go false e (inr l) ih = ih l
+
+module _ (book : Book) {T : ℕ} (rate : Rate (book .rate) T) where
+  near-found : {m : List ℕ} → IsNear book T m → Found 16 (book .rate) (near (book .rate) (testsOf book)) m
+  unfolding nearTo
+  near-found {m} n =
+      record {
+        word = n .word;
+        passed =
+            member-near (book .rate) (n .test) (testsOf book) m (n .tested)
+            (le→leb (differing places (encodeOf (book .rate) m) (n .test)) (reachOf (book .rate)) (omega (arith, n .few, rate-reach rate)));
+      }
+
+  found-near : {m : List ℕ} → Found 16 (book .rate) (near (book .rate) (testsOf book)) m → IsNear book T m
+  unfolding nearTo
+  found-near {m} f =
+      let r = near-member (book .rate) (testsOf book) m (f .passed) in
+      record {
+        word = f .word;
+        test = r .0;
+        tested = r .1;
+        few = omega (arith, leb→le (differing places (encodeOf (book .rate) m) (r .0)) (reachOf (book .rate)) (r .2), rate-reach rate);
+      }
+
+module _ (book : Book) (message report : List ℕ) where
+  pub closing-sizes : (length message ≢ book .rate) ⊎ (length report ≢ reportLength)
+      → closeOf book message report ≡ record { number = wrongSize; message = message; report = report }
+  unfolding refusedClosing
+  closing-sizes w = close-size book message report (go (closingFits book message report) refl)
+    where
+      go : (b : Bool) → closingFits book message report ≡ b → closingFits book message report ≡ false
+      go true e = let f = fits-both book message report e in absurd (⊎-elim (λ n. n (f .0)) (λ n. n (f .1)) w)
+      go false e = e
+
+  module _ (long : length message ≡ book .rate) (eight : length report ≡ reportLength) {T : ℕ} (rate : Rate (book .rate) T) where
+    fits : closingFits book message report ≡ true
+    fits = fits-of book message report long eight
+
+    -- what decoding answers, whether or not a codeword is near
+    decoded : someMissing (book .row) ≡ false
+        → ((closeOf book message report .number ≡ noneNear) × ((m : List ℕ) → IsNear book T m → ⊥)) ⊎ IsAnswer book T (closeOf book message report)
+    unfolding testsOf totalFor messageCost
+    decoded e =
+        go (answerOf (book .rate) (columnsOf (book .row)) (testsOf book)) refl
+        (near-answers (book .rate) (columnsOf (book .row)) (testsOf book))
+      where
+        close : closeOf book message report ≡ decodeOf (book .rate) (columnsOf (book .row)) (book .doubtful) message report
+        close = close-decoded book message report fits e
+
+        dearer : {m n : List ℕ} → NoWorse (messageCost (book .rate) (columnsOf (book .row))) m n → n ≢ m → Dearer book m n
+        dearer (inl q) d = absurd (d q)
+        dearer (inr (cheaper l)) d = inl l
+        dearer (inr (earlier q l)) d = inr (q, l)
+
+        go : (o : Option (List ℕ)) → answerOf (book .rate) (columnsOf (book .row)) (testsOf book) ≡ o
+            → Answers (messageCost (book .rate) (columnsOf (book .row))) (Found 16 (book .rate) (near (book .rate) (testsOf book))) o
+            → ((closeOf book message report .number ≡ noneNear) × ((m : List ℕ) → IsNear book T m → ⊥))
+            ⊎ IsAnswer book T (closeOf book message report)
+        go none q (nobody f) =
+            inl (
+              ap (λ (c : Closed). c .number) (close ∙ decode-none (book .rate) (columnsOf (book .row)) (book .doubtful) message report q)
+                  ∙ refused-number noneNear message report,
+              λ m n. f m (near-found book rate n),
+            )
+        go (some m) q (best p f) =
+            inr
+            (subst (IsAnswer book T)
+            (sym (close ∙ decode-some (book .rate) (columnsOf (book .row)) (book .doubtful) message report q))
+            (record {
+              number = refl;
+              near = found-near book rate p;
+              others = λ n i d. dearer (f n (near-found book rate i)) d;
+              report = refl;
+            }))
+
+    none-number : someMissing (book .row) ≡ false → closeOf book message report .number ≢ placeMissing
+    none-number e n = ⊎-elim (λ r. omega (arith, r .0, n)) (λ r. omega (arith, r .number, n)) (decoded e)
+
+    pub closing-early : (closeOf book message report .number ≡ placeMissing) ↔ ((p : ℕ) × Missing (book .row) p)
+    closing-early = go (someMissing (book .row)) refl
+      where
+        go : (b : Bool) → someMissing (book .row) ≡ b → (closeOf book message report .number ≡ placeMissing) ↔ ((p : ℕ) × Missing (book .row) p)
+        go true e = (
+          λ n. missing-there (book .row) e,
+          λ m. ap (λ (c : Closed). c .number) (close-missing book message report fits e) ∙ refused-number placeMissing message report,
+        )
+        go false e = (λ n. absurd (none-number e n), λ m. absurd (missing-none (book .row) e (m .0) (m .1)))
+
+    module _ (full : (p : ℕ) → Missing (book .row) p → ⊥) where
+      all-taken : someMissing (book .row) ≡ false
+      all-taken = go (someMissing (book .row)) refl
+        where
+          go : (b : Bool) → someMissing (book .row) ≡ b → someMissing (book .row) ≡ false
+          go true e = let m = missing-there (book .row) e in absurd (full (m .0) (m .1))
+          go false e = e
+
+      pub closing-none-near : (closeOf book message report .number ≡ noneNear) ↔ ((m : List ℕ) → IsNear book T m → ⊥)
+      closing-none-near = (
+        λ n. ⊎-elim (λ r. r .1) (λ r. absurd (omega (arith, r .number, n))) (decoded all-taken),
+        λ f. ⊎-elim (λ r. r .0) (λ r. absurd (f (closeOf book message report .message) (r .near))) (decoded all-taken),
+      )
+
+      pub closing-answer : closeOf book message report .number ≢ noneNear → IsAnswer book T (closeOf book message report)
+      closing-answer n = ⊎-elim (λ r. absurd (n (r .0))) (λ r. r) (decoded all-taken)
+
+-- ---- 'Two sessions … that agree in rate, doubtful list, places taken and the columns held for these read and close alike.'
+
+pub record Agree (a b : Book) : Type 0 where
+  pub same-rate : a .rate ≡ b .rate
+  pub same-list : a .doubtful ≡ b .doubtful
+  pub same-columns : (p : ℕ) → columnOf (a .row) p ≡ columnOf (b .row) p
+
+module _ {a b : Book} (same : Agree a b) where
+  settled-alike : (n : ℕ) → settledBelow a n ≡ settledBelow b n
+  unfolding settledBelow isSettled settledAt
+  settled-alike zero = refl
+  settled-alike (suc n) =
+      let t : taken (a .row) n ≡ taken (b .row) n = taken-alike (a .row) (b .row) (same .same-columns) n in
+      let c : columnsOf (a .row) ≡ columnsOf (b .row) = columns-alike (a .row) (b .row) (same .same-columns) in
+      cc (settled-alike n, t, c, same .same-list)
+
+  pub reading-alike : (out : List ℕ) → readOf a out ≡ readOf b out
+  unfolding readOf settledOf
+  reading-alike out = cc (settled-alike places, same .same-rate)
+
+  pub closing-alike : (message report : List ℕ) → closeOf a message report ≡ closeOf b message report
+  unfolding closeOf closingFits
+  closing-alike message report =
+      let m : someMissing (a .row) ≡ someMissing (b .row) = missing-alike (a .row) (b .row) (same .same-columns) in
+      let c : columnsOf (a .row) ≡ columnsOf (b .row) = columns-alike (a .row) (b .row) (same .same-columns) in
+      cc (m, c, same .same-rate, same .same-list)
+
+-- ---- 'Only an accepted delivery changes the book. A refused call leaves its buffers as they were.'
+
+module _ (book : Book) where
+  write-kept : (out : List ℕ) → writeOf book out .number ≢ accepted → writeOf book out .bytes ≡ out
+  write-kept out n = go (eqb (length out) (captureLength (length (book .doubtful)))) refl (someMissing (book .row)) refl
+    where
+      size : ℕ
+      size = captureLength (length (book .doubtful))
+
+      go : (x : Bool) → eqb (length out) size ≡ x → (y : Bool) → someMissing (book .row) ≡ y → writeOf book out .bytes ≡ out
+      go false e y m = ap (λ (f : Filled). f .bytes) (write-size book out (eqb-false (length out) size e))
+      go true e true m = ap (λ (f : Filled). f .bytes) (write-missing book out (eqb-true (length out) size e) m)
+      go true e false m = absurd (n (ap (λ (f : Filled). f .number) (write-accepted book out (eqb-true (length out) size e) m)))
+
+  deliver-kept : (p : ℕ) (column : List ℕ) → deliverOf book p column .number ≢ accepted → deliverOf book p column .book ≡ book
+  deliver-kept p column n = go (decLt p places) (taken (book .row) p) refl
+    where
+      go : Dec (p < places) → (b : Bool) → taken (book .row) p ≡ b → deliverOf book p column .book ≡ book
+      go (yes h) true e = ap (λ (o : Outcome). o .book) (deliver-taken book p column h e)
+      go (yes h) false e = absurd (n (ap (λ (o : Outcome). o .number) (deliver-accepted book p column h e)))
+      go (no h) b e = ap (λ (o : Outcome). o .book) (deliver-above book p column (omega arith))
+
+  pub refused-lent : (call : Call) → answer book call .number ≢ accepted
+      → (answer book call .first ≡ firstLent call) × (answer book call .second ≡ secondLent call)
+  unfolding answer firstLent secondLent
+  refused-lent (deliver p column) n = (refl, refl)
+  refused-lent (reading out) n = (read-kept book out n, refl)
+  refused-lent (writing out) n = (write-kept out n, refl)
+  refused-lent (closing message report) n =
+      let k = close-kept book message report n in
+      (k .message-kept, k .report-kept)
+
+  pub refused-after : (call : Call) → answer book call .number ≢ accepted → after book call ≡ book
+  unfolding answer after
+  refused-after (deliver p column) n = deliver-kept p column n
+  refused-after (reading out) n = refl
+  refused-after (writing out) n = refl
+  refused-after (closing message report) n = refl
+
+  pub only-delivery : (call : Call)
+      → (after book call ≡ book)
+      ⊎ ((p : ℕ) × (column : List ℕ) × (call ≡ deliver p column) × (answer book call .number ≡ accepted) × (after book call ≡ withEntry book p column))
+  unfolding answer after
+  only-delivery (deliver p column) = go (decLt p places) (taken (book .row) p) refl
+    where
+      go : Dec (p < places) → (b : Bool) → taken (book .row) p ≡ b
+          → (deliverOf book p column .book ≡ book)
+          ⊎ ((q : ℕ) × (c : List ℕ) × (deliver p column ≡ deliver q c) × (deliverOf book p column .number ≡ accepted)
+          × (deliverOf book p column .book ≡ withEntry book q c))
+      go (yes h) true e = inl (ap (λ (o : Outcome). o .book) (deliver-taken book p column h e))
+      go (yes h) false e =
+          let d = deliver-accepted book p column h e in
+          inr (p, column, refl, ap (λ (o : Outcome). o .number) d, ap (λ (o : Outcome). o .book) d)
+      go (no h) b e = inl (ap (λ (o : Outcome). o .book) (deliver-above book p column (omega arith)))
+  only-delivery (reading out) = inl refl
+  only-delivery (writing out) = inl refl
+  only-delivery (closing message report) = inl refl
+
+-- ---- 'opening an accepted capture counts as opening with its rate and list and then delivering its records in their order'
+
+unfoldable pub deliveries : List Entry → List Call
+deliveries [] = []
+deliveries (e ∷ entries) = deliver (e .place) (e .column) ∷ deliveries entries
+
+pub record CaptureOpens (bytes : List ℕ) : Type 0 where
+  pub opened : openOf (rateIn bytes) (listIn bytes) .number ≡ accepted
+  pub delivered : openCaptureOf bytes .book ≡ afterAll (newBook (rateIn bytes) (listIn bytes)) (deliveries (recordsIn bytes))
+  pub all-accepted : (a : Answer) → List·Memᴰ a (answers (newBook (rateIn bytes) (listIn bytes)) (deliveries (recordsIn bytes))) → a .number ≡ accepted
+
+-- the first of a list of calls, where it is an accepted delivery, and the rest
+row-calls : (book : Book) (entries : List Entry) → deliverRow book entries .number ≡ accepted
+    → (deliverRow book entries .book ≡ afterAll book (deliveries entries))
+    × ((a : Answer) → List·Memᴰ a (answers book (deliveries entries)) → a .number ≡ accepted)
+unfolding deliveries answers afterAll answer after refusedOpening
+row-calls book [] n = (ap (λ (o : Outcome). o .book) (row-none book), λ a m. absurd (List·Memᴰ·not-nil m))
+row-calls book (e ∷ entries) n =
+    go (decLt (e .place) places) (taken (book .row) (e .place)) refl (row-calls (withEntry book (e .place) (e .column)) entries)
+  where
+    first : Outcome
+    first = deliverOf book (e .place) (e .column)
+
+    Called : Book → Type 0
+    Called b =
+        (deliverRow b entries .book ≡ afterAll b (deliveries entries))
+        × ((a : Answer) → List·Memᴰ a (answers b (deliveries entries)) → a .number ≡ accepted)
+
+    go : Dec (e .place < places) → (b : Bool) → taken (book .row) (e .place) ≡ b
+        → (deliverRow (withEntry book (e .place) (e .column)) entries .number ≡ accepted → Called (withEntry book (e .place) (e .column)))
+        → (deliverRow book (e ∷ entries) .book ≡ afterAll (first .book) (deliveries entries))
+        × ((a : Answer) → List·Memᴰ a (record { number = first .number; first = []; second = [] } ∷ answers (first .book) (deliveries entries))
+        → a .number ≡ accepted)
+    go (yes h) true t ih = absurd (omega (arith, sym (ap (λ (o : Outcome). o .number) (row-taken book e entries h t)) ∙ n))
+    go (yes h) false t ih =
+        let d : first ≡ record { number = accepted; book = withEntry book (e .place) (e .column) } = deliver-accepted book (e .place) (e .column) h t in
+        let r = ih (sym (ap (λ (o : Outcome). o .number) (row-next book e entries h t)) ∙ n) in (
+          ap (λ (o : Outcome). o .book) (row-next book e entries h t) ∙ r .0 ∙ ap (λ (o : Outcome). afterAll (o .book) (deliveries entries)) (sym d),
+          λ a m.
+              ⊎-elim
+              (λ (q : a ≡ record { number = first .number; first = []; second = [] }).
+              ap (λ (x : Answer). x .number) q ∙ ap (λ (o : Outcome). o .number) d)
+              (λ l. r .1 a (subst (λ (o : Outcome). List·Memᴰ a (answers (o .book) (deliveries entries))) d l))
+              (List·Memᴰ·cases-cons m),
+        )
+    go (no h) b t ih = absurd (omega (arith, sym (ap (λ (o : Outcome). o .number) (row-above book e entries (omega arith))) ∙ n))
+
+pub capture-opens : (bytes : List ℕ) → openCaptureOf bytes .number ≡ accepted → CaptureOpens bytes
+unfolding bookIn
+capture-opens bytes n =
+    let fit = capture-fit bytes n in
+    let r : knownRate (rateIn bytes) ≡ true = fit .proper .rate-known in
+    let f : fitDoubt (listIn bytes) ≡ true = fit .proper .list-fit in
+    let o : openCaptureOf bytes ≡ deliverRow (newBook (rateIn bytes) (listIn bytes)) (recordsIn bytes) =
+    open-checked bytes (fit .size-fits) (fit .version-fits) (fit .length-fits)
+    ∙ open-with (rateIn bytes) (listIn bytes) (recordsIn bytes) r f in
+    let c =
+    row-calls (newBook (rateIn bytes) (listIn bytes)) (recordsIn bytes) (sym (ap (λ (x : Outcome). x .number) o) ∙ n) in
+    record {
+      opened = ap (λ (x : Outcome). x .number) (open-accepted (rateIn bytes) (listIn bytes) r f);
+      delivered = ap (λ (x : Outcome). x .book) o ∙ c .0;
+      all-accepted = c .1;
+    }
