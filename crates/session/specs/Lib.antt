@@ -1,3 +1,5 @@
 pub mod View
 pub mod Calls
 pub mod Laws
+pub mod Answering
+pub mod Table
