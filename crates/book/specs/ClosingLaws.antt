@@ -3,9 +3,10 @@
 --   fits-both, fits-of   the size check passes exactly if the message buffer has k bytes and the report 8
 --   close-size, close-missing, close-decoded   the three cases of closing
 --   decode-none, decode-some                   the two cases of decoding
---   decode-kept, close-kept   a refused call leaves its buffers as they were
+--   Kept, decode-kept, close-kept   a refused call leaves its buffers as they were
+--   Sized, decode-sized, close-sized   no call changes a buffer's length
 use mathlib.Core.Bool.{Bool, true, false}
-use mathlib.Core.Path.{_≡_, refl, ap, _∙_}
+use mathlib.Core.Path.{_≡_, refl, sym, ap, _∙_}
 use mathlib.Core.List.{List}
 use mathlib.Core.Option.{Option, none, some}
 use Prim.Native.Nat.{ℕ}
@@ -15,7 +16,10 @@ use borrow.Author.Tests.{eqb-true, eq-eqb}
 use Rattle.lists.specs.Distinct.{and-left, and-right, and-both}
 use Rattle.refusals.specs.Refusal.{accepted, wrongSize, placeMissing, noneNear}
 use Rattle.soft.specs.TestWord.{testWords}
-use Rattle.near.specs.Near.{answerOf}
+use Rattle.lists.specs.Answers.{Answers, answers-some, Found}
+use Rattle.soft.specs.TotalLaws.{reportOf-length}
+use Rattle.near.specs.Near.{near, messageCost, answerOf}
+use Rattle.near.specs.Laws.{near-answers}
 use Rattle.book.specs.Book.{places, Book, someMissing}
 use Rattle.book.specs.Columns.{columnsOf}
 use Rattle.book.specs.Closing.{reportLength, Closed, refusedClosing, reportFor, answered, decodeOf, closingFits, closeOf}
@@ -25,6 +29,11 @@ pub record Kept (message report : List ℕ) (c : Closed) : Type 0 where
   pub message-kept : c .message ≡ message
   pub report-kept : c .report ≡ report
 
+-- a closing whose buffers have the lengths of those that were lent
+pub record Sized (message report : List ℕ) (c : Closed) : Type 0 where
+  pub message-sized : length (c .message) ≡ length message
+  pub report-sized : length (c .report) ≡ length report
+
 pub refused-number : (n : ℕ) (message report : List ℕ) → refusedClosing n message report .number ≡ n
 unfolding refusedClosing
 refused-number n message report = refl
@@ -32,6 +41,14 @@ refused-number n message report = refl
 pub refused-kept : (n : ℕ) (message report : List ℕ) → Kept message report (refusedClosing n message report)
 unfolding refusedClosing
 refused-kept n message report = record { message-kept = refl; report-kept = refl }
+
+pub refused-sized : (n : ℕ) (message report : List ℕ) → Sized message report (refusedClosing n message report)
+unfolding refusedClosing
+refused-sized n message report = record { message-sized = refl; report-sized = refl }
+
+pub report-eight : (k : ℕ) (columns : ℕ → List ℕ) (doubtful m : List ℕ) → length (reportFor k columns doubtful m) ≡ reportLength
+unfolding reportFor
+report-eight k columns doubtful m = reportOf-length _ _ _ _
 
 module _ (k : ℕ) (columns : ℕ → List ℕ) (doubtful message report : List ℕ) where
   pub decode-none : answerOf k columns (testWords places columns doubtful) ≡ none
@@ -52,6 +69,21 @@ module _ (k : ℕ) (columns : ℕ → List ℕ) (doubtful message report : List 
           → Kept message report (decodeOf k columns doubtful message report)
       go none e = rw (decode-none e) (refused-kept noneNear message report)
       go (some m) e = absurd (n (ap (λ (c : Closed). c .number) (decode-some e)))
+
+  pub decode-sized : length message ≡ k → length report ≡ reportLength → Sized message report (decodeOf k columns doubtful message report)
+  decode-sized long eight =
+      go (answerOf k columns (testWords places columns doubtful)) refl (near-answers k columns (testWords places columns doubtful))
+    where
+      go : (o : Option (List ℕ)) → answerOf k columns (testWords places columns doubtful) ≡ o
+          → Answers (messageCost k columns) (Found 16 k (near k (testWords places columns doubtful))) o
+          → Sized message report (decodeOf k columns doubtful message report)
+      go none e a = rw (decode-none e) (refused-sized noneNear message report)
+      go (some m) e a =
+          rw (decode-some e)
+          (record {
+            message-sized = answers-some a .word .size ∙ sym long;
+            report-sized = report-eight k columns doubtful m ∙ sym eight;
+          })
 
 module _ (book : Book) (message report : List ℕ) where
   pub fits-both : closingFits book message report ≡ true → (length message ≡ book .rate) × (length report ≡ reportLength)
@@ -92,3 +124,14 @@ module _ (book : Book) (message report : List ℕ) where
           rw (close-decoded e m)
           (decode-kept (book .rate) (columnsOf (book .row)) (book .doubtful) message report
           (λ q. n (ap (λ (c : Closed). c .number) (close-decoded e m) ∙ q)))
+
+  pub close-sized : Sized message report (closeOf book message report)
+  close-sized = go (closingFits book message report) refl (someMissing (book .row)) refl
+    where
+      go : (a : Bool) → closingFits book message report ≡ a → (b : Bool) → someMissing (book .row) ≡ b
+          → Sized message report (closeOf book message report)
+      go false e b m = rw (close-size e) (refused-sized wrongSize message report)
+      go true e true m = rw (close-missing e m) (refused-sized placeMissing message report)
+      go true e false m =
+          let f = fits-both e in
+          rw (close-decoded e m) (decode-sized (book .rate) (columnsOf (book .row)) (book .doubtful) message report (f .0) (f .1))

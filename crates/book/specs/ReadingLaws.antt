@@ -6,6 +6,7 @@
 --   reading-row                    they have the same reading: the order in which places were accepted does not matter
 --   read-size, read-accepted       the two cases of reading
 --   read-kept                      a refused call leaves its buffer as it was
+--   read-sized                     no call changes the buffer's length
 use mathlib.Core.Bool.{Bool, true, false, cond, not, true≢false}
 use mathlib.Core.Path.{_≡_, refl, sym, ap, _∙_, subst}
 use mathlib.Core.List.{List, [], _∷_, List·Memᴰ, List·Memᴰ·head, List·Memᴰ·tail, List·Memᴰ·cases-cons, List·Memᴰ·not-nil}
@@ -22,7 +23,7 @@ use Rattle.soft.specs.Column.{bestOf}
 use Rattle.code.specs.Nodes.{Node, node}
 use Rattle.near.specs.Near.{mOf}
 use Rattle.interpolant.specs.LeastQ.{readingOf}
-use Rattle.interpolant.specs.Reading.{reading-any-order}
+use Rattle.interpolant.specs.Reading.{reading-size, reading-any-order}
 use Rattle.book.specs.Book.{places, Entry, Book, taken}
 use Rattle.book.specs.Columns.{columns-taken, column-taken}
 use Rattle.book.specs.Writing.{Filled}
@@ -167,3 +168,12 @@ module _ (book : Book) (out : List ℕ) where
       go : (b : Bool) → eqb (length out) readingLength ≡ b → readOf book out .bytes ≡ out
       go true e = absurd (n (ap (λ (f : Filled). f .number) (read-accepted (eqb-true (length out) readingLength e))))
       go false e = ap (λ (f : Filled). f .bytes) (read-size (eqb-false (length out) readingLength e))
+
+  pub read-sized : length (readOf book out .bytes) ≡ length out
+  read-sized = go (eqb (length out) readingLength) refl
+    where
+      go : (b : Bool) → eqb (length out) readingLength ≡ b → length (readOf book out .bytes) ≡ length out
+      go true e =
+          let h : length out ≡ readingLength = eqb-true (length out) readingLength e in
+          ap (λ (f : Filled). length (f .bytes)) (read-accepted h) ∙ reading-size (mOf (book .rate)) (settledOf book) ∙ sym h
+      go false e = ap (λ (f : Filled). length (f .bytes)) (read-size (eqb-false (length out) readingLength e))

@@ -3,3 +3,4 @@ pub mod Calls
 pub mod Laws
 pub mod Answering
 pub mod Table
+pub mod AnsweringLaws

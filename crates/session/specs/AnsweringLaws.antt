@@ -1,0 +1,110 @@
+-- How a call comes to answer as the book does, case by case, for a session of any kind.
+--
+--   reading-wrong-size, reading-read     the two cases of reading
+--   closing-wrong-size, closing-early, closing-decoded   the three cases of closing: it decodes the table's columns by the doubtful list
+--   reading-by-hand, closing-by-hand     of a session record that was built by hand nothing is asked but that a refusal leaves the buffers as they were
+use mathlib.Core.Bool.{not}
+use mathlib.Core.Path.{_≡_, refl, sym, ap, _∙_, subst}
+use mathlib.Core.List.{List}
+use mathlib.Core.Logic.{_≢_, _⊎_}
+use Prim.Native.Nat.{ℕ, _<_, _≤_}
+use lib.ListN.{length, take}
+use borrow.Author.Tests.{le-leb, lt-leb}
+use Rattle.refusals.specs.Refusal.{accepted, wrongSize, placeMissing}
+use Rattle.soft.specs.Column.{symbols, columnOf}
+use Rattle.near.specs.Near.{mOf}
+use Rattle.interpolant.specs.LeastQ.{readingOf}
+use Rattle.book.specs.Book.{places}
+use Rattle.book.specs.Writing.{Filled}
+use Rattle.book.specs.Reading.{readingLength, settledOf}
+use Rattle.book.specs.ReadingLaws.{read-size, read-accepted}
+use Rattle.book.specs.Closing.{reportLength, Closed, refusedClosing, decodeOf, closeOf}
+use Rattle.book.specs.ClosingLaws.{fits-of, close-missing, close-decoded, decode-kept, decode-sized}
+use Rattle.book.specs.Sentences.{closing-sizes}
+use Rattle.session.specs.declared.Session.{Session}
+use Rattle.session.specs.View.{bookOf, Good}
+use Rattle.session.specs.Answering.{Reading, Closing}
+use Rattle.session.specs.Table.{columns-table, missing-taken}
+
+module _ (s : Session) (out : List ℕ) where
+  pub reading-by-hand : (r : ℕ) → (Good s → ⊥) → Reading s out r out
+  reading-by-hand r bad = record { number = λ good. absurd (bad good); bytes = λ good. absurd (bad good); kept = λ n. refl; size = refl }
+
+  pub reading-wrong-size : length out ≢ readingLength → Reading s out wrongSize out
+  reading-wrong-size h =
+      record {
+        number = λ good. sym (ap (λ (f : Filled). f .number) (read-size (bookOf s) out h));
+        bytes = λ good. sym (ap (λ (f : Filled). f .bytes) (read-size (bookOf s) out h));
+        kept = λ n. refl;
+        size = refl;
+      }
+
+  pub reading-read : (after : List ℕ) → length out ≡ readingLength → length after ≡ readingLength
+      → (Good s → after ≡ readingOf (mOf (s .rate)) (settledOf (bookOf s))) → Reading s out accepted after
+  unfolding bookOf
+  reading-read after h l e =
+      record {
+        number = λ good. sym (ap (λ (f : Filled). f .number) (read-accepted (bookOf s) out h));
+        bytes = λ good. e good ∙ sym (ap (λ (f : Filled). f .bytes) (read-accepted (bookOf s) out h));
+        kept = λ n. absurd (n refl);
+        size = l ∙ sym h;
+      }
+
+module _ (s : Session) (message report : List ℕ) where
+  -- what closing answers by the table's columns and the doubtful list
+  abbrev pub decoded : Closed
+  decoded = decodeOf (s .rate) (columnOf symbols (s .costs)) (take (s .doubt) (s .doubtful)) message report
+
+  -- a refusal, which a good session's book gives too
+  refused : (n : ℕ) → (Good s → closeOf (bookOf s) message report ≡ record { number = n; message = message; report = report })
+      → Closing s message report n message report
+  refused n e =
+      record {
+        number = λ good. sym (ap (λ (c : Closed). c .number) (e good));
+        message-bytes = λ good. sym (ap (λ (c : Closed). c .message) (e good));
+        report-bytes = λ good. sym (ap (λ (c : Closed). c .report) (e good));
+        message-kept = λ n. refl;
+        report-kept = λ n. refl;
+        message-size = refl;
+        report-size = refl;
+      }
+
+  pub closing-by-hand : (r : ℕ) → (Good s → ⊥) → Closing s message report r message report
+  closing-by-hand r bad = refused r (λ good. absurd (bad good))
+
+  pub closing-wrong-size : (length message ≢ s .rate) ⊎ (length report ≢ reportLength) → Closing s message report wrongSize message report
+  unfolding bookOf
+  closing-wrong-size w = refused wrongSize (λ good. closing-sizes (bookOf s) message report w)
+
+  module _ (long : length message ≡ s .rate) (eight : length report ≡ reportLength) where
+    pub closing-early : s .taken < places → Closing s message report placeMissing message report
+    unfolding bookOf refusedClosing
+    closing-early h =
+        refused placeMissing
+        (λ good.
+        close-missing (bookOf s) message report (fits-of (bookOf s) message report long eight)
+        (missing-taken s good ∙ ap not (lt-leb places (s .taken) h)))
+
+    full-close : places ≤ s .taken → Good s → closeOf (bookOf s) message report ≡ decoded
+    unfolding bookOf
+    full-close h good =
+        close-decoded (bookOf s) message report (fits-of (bookOf s) message report long eight)
+        (missing-taken s good ∙ ap not (le-leb places (s .taken) h))
+        ∙ ap (λ (f : ℕ → List ℕ). decodeOf (s .rate) f (take (s .doubt) (s .doubtful)) message report) (columns-table s good)
+
+    here : places ≤ s .taken → Closing s message report (decoded .number) (decoded .message) (decoded .report)
+    here h =
+        let k = decode-kept (s .rate) (columnOf symbols (s .costs)) (take (s .doubt) (s .doubtful)) message report in
+        let l = decode-sized (s .rate) (columnOf symbols (s .costs)) (take (s .doubt) (s .doubtful)) message report long eight in
+        record {
+          number = λ good. sym (ap (λ (c : Closed). c .number) (full-close h good));
+          message-bytes = λ good. sym (ap (λ (c : Closed). c .message) (full-close h good));
+          report-bytes = λ good. sym (ap (λ (c : Closed). c .report) (full-close h good));
+          message-kept = λ n. k n .message-kept;
+          report-kept = λ n. k n .report-kept;
+          message-size = l .message-sized;
+          report-size = l .report-sized;
+        }
+
+    pub closing-decoded : places ≤ s .taken → {c : Closed} → c ≡ decoded → Closing s message report (c .number) (c .message) (c .report)
+    closing-decoded h {c} e = subst (λ (d : Closed). Closing s message report (d .number) (d .message) (d .report)) (sym e) (here h)
