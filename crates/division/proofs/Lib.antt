@@ -1,0 +1,3 @@
+pub mod Leading
+pub mod Less
+pub mod Turns

@@ -1,0 +1,50 @@
+-- `lead` meets its contract: from n on all coefficients are zero.
+use Prim.Native.Nat.{_≤_}
+use borrow.Author.Needs.{needs}
+use Rattle.algebra.specs.Coefficients.{Below}
+use Rattle.galois.specs.Field16.{K16}
+use Rattle.basis.specs.Rows.{coef}
+use Rattle.division.proofs.Leading.{all-below, one-lower, lead-here, lead-nowhere}
+use Rattle.division.proofs.parts.lead.Statement.{statement}
+use Rattle.division.proofs.parts.lead.Tie as tie
+
+abbrev Inv-loop : tie.InvT-loop
+Inv-loop c n₀ n = (n ≤ 64) × Below K16 (coef c) n
+
+abbrev μ-loop : tie.MeasureT-loop
+μ-loop c n₀ n = n
+
+loop-holds : tie.Need-loop-holds Inv-loop μ-loop
+loop-holds c = (search needs, all-below _ (search needs))
+
+sub-n : tie.Need-sub-n Inv-loop μ-loop
+sub-n c = search needs
+
+array-read-if1 : tie.Need-array-read-if1 Inv-loop μ-loop
+array-read-if1 c = search needs
+
+returns : tie.Need-returns Inv-loop μ-loop
+returns c = lead-here _ _ (c .before .before .loop .inv .1) (search needs) (search needs) (c .if1 .taken)
+
+loop-less : tie.Need-loop-less Inv-loop μ-loop
+loop-less c = search needs
+
+loop-again : tie.Need-loop-again Inv-loop μ-loop
+loop-again c = (search needs, one-lower _ _ (c .before .before .loop .inv .1) (search needs) (search needs))
+
+returns-2 : tie.Need-returns-2 Inv-loop μ-loop
+returns-2 c = lead-nowhere _ _ (c .before .loop .inv .1) (search needs)
+
+pub lead-spec : {M : Type 1} → statement M
+lead-spec =
+    tie.close
+    (tie.spec
+    Inv-loop
+    μ-loop
+    loop-holds
+    sub-n
+    array-read-if1
+    returns
+    loop-less
+    loop-again
+    returns-2)

@@ -1,0 +1,134 @@
+-- What the division computes: hermitian's quotient, on arrays of 64 coefficients by order.
+--
+--   nextAt rest at o by   the next coefficient: the rest's at `at` times by, none at an absent order
+--   yPowers c             c times 1, y, y² and y³
+--   Roomy c l m           c has the lead l, and c times each monomial of order up to m ends by order 63
+--   Divided q0 q1 m r     r holds symbols, and where q1 has a lead that leaves room, the quotient of q0 by q1 from order m down
+--   powers-at             the powers are exact where there is room
+--   next-is, step-is      one turn of the loop is one step of the division
+use mathlib.Core.Bool.{cond}
+use mathlib.Core.Path.{_≡_, refl, sym, ap, ap₂, _∙_, subst}
+use mathlib.Core.List.{List, [], _∷_}
+use Prim.Native.Nat.{ℕ, zero, suc, _+_, _-_, _*_, _/_, _%_, _<_, _≤_}
+use native.Mathlib.Omega.{arith}
+use lib.Dec.{T, ltb}
+use lib.ListN.{length, getD}
+use borrow.Author.Tests.{lt-ltb, le-ltb}
+use Rattle.lists.specs.Listed.{listed}
+use Rattle.lists.specs.Words.{allBelow}
+use Rattle.algebra.specs.Field.{Field, zero-mul}
+use Rattle.algebra.specs.Coefficients.{choose, choose-yes, choose-no, plus, scale, shift, Below, Lead, below-mono, below-plus, below-scale, below-shift}
+use Rattle.galois.specs.Gf16.{times, inverse}
+use Rattle.galois.specs.Field16.{GF, K16, toF, toF-times, toF-inverse, toF-zero}
+use Rattle.hermitian.specs.Present.{Present, decPresent}
+use Rattle.hermitian.specs.Ring.{timesY, powY, powY-nil, powY-suc, below-powY, timesMonomial}
+use Rattle.hermitian.specs.Division.{quotientAt, divideStep, quotient}
+use Rattle.basis.specs.Rows.{coef, coef-at, coef-beyond}
+use Rattle.division.specs.Parts.{cut, cut-below, yAt, coef-y}
+open Field K16 using (_⊕_, _⊗_, 𝟘, inv)
+
+unfoldable pub nextAt : List ℕ → ℕ → ℕ → ℕ → ℕ
+nextAt rest at o by = cond (ltb (o / 4) (o % 4)) 0 (cond (ltb 63 at) 0 (times (getD rest at 0) by))
+
+unfoldable pub yOnce : List ℕ → List ℕ
+yOnce c = listed 64 (yAt c)
+
+abbrev pub yPowers : List ℕ → List (List ℕ)
+yPowers c = c ∷ yOnce c ∷ yOnce (yOnce c) ∷ yOnce (yOnce (yOnce c)) ∷ []
+
+pub record Roomy (c : List ℕ) (l m : ℕ) : Type 0 where
+  pub leads : Lead K16 (coef c) l
+  pub powers-fit : l + 15 < 64
+  pub terms-fit : l + m < 64
+
+pub record Divided (q0 q1 : List ℕ) (m : ℕ) (r : List ℕ) : Type 0 where
+  pub symbols : T (allBelow 16 r)
+  pub exact : (l : ℕ) → Roomy q1 l m → coef r ≡ quotient K16 4 l (coef q1) m (coef q0)
+
+-- ---- powers of y
+
+coef-once : (c : List ℕ) (j : ℕ) (f : ℕ → GF) → coef c ≡ powY K16 4 j f → Below K16 (powY K16 4 (suc j) f) 64
+    → coef (yOnce c) ≡ powY K16 4 (suc j) f
+unfolding yOnce
+coef-once c j f e b =
+    coef-y c ∙ ap (λ g. cut (timesY K16 4 g)) e ∙ ap cut (sym (powY-suc K16 4 j f)) ∙ cut-below (powY K16 4 (suc j) f) b
+
+module _ (c : List ℕ) (l m : ℕ) (room : Roomy c l m) where
+  fits : (j : ℕ) → j < 4 → Below K16 (powY K16 4 j (coef c)) 64
+  fits j h = below-mono K16 (omega (arith, room .powers-fit)) (below-powY K16 4 j (room .leads .above))
+
+  first : coef (yOnce c) ≡ powY K16 4 1 (coef c)
+  first = coef-once c 0 (coef c) (sym (powY-nil K16 4 (coef c))) (fits 1 (omega arith))
+
+  second : coef (yOnce (yOnce c)) ≡ powY K16 4 2 (coef c)
+  second = coef-once (yOnce c) 1 (coef c) first (fits 2 (omega arith))
+
+  third : coef (yOnce (yOnce (yOnce c))) ≡ powY K16 4 3 (coef c)
+  third = coef-once (yOnce (yOnce c)) 2 (coef c) second (fits 3 (omega arith))
+
+  pub powers-at : (j : ℕ) → j < 4 → coef (getD (yPowers c) j []) ≡ powY K16 4 j (coef c)
+  powers-at zero h = sym (powY-nil K16 4 (coef c))
+  powers-at (suc zero) h = first
+  powers-at (suc (suc zero)) h = second
+  powers-at (suc (suc (suc zero))) h = third
+  powers-at (suc (suc (suc (suc j)))) h = absurd (omega arith)
+
+  -- ---- one turn
+
+  module _ (o : ℕ) (small : o ≤ m) where
+    moved : coef (getD (yPowers c) (o % 4) []) ≡ powY K16 4 (o % 4) (coef c)
+    moved = powers-at (o % 4) (omega arith)
+
+    -- the next coefficient
+    pub next-is : (rest : List ℕ) → toF (nextAt rest (l + o) o (inverse (getD c l 0))) ≡ quotientAt K16 4 l (coef c) o (coef rest)
+    unfolding nextAt quotientAt
+    next-is rest = go (decPresent 4 o)
+      where
+        go : (d : Dec (Present 4 o)) → toF (nextAt rest (l + o) o (inverse (getD c l 0))) ≡ choose d (coef rest (l + o) ⊗ inv (coef c l)) 𝟘
+        go (yes h) =
+            ap toF
+            (ap (λ b. cond b 0 (cond (ltb 63 (l + o)) 0 (times (getD rest (l + o) 0) (inverse (getD c l 0))))) (le-ltb (o / 4) (o % 4) h)
+            ∙ ap (λ b. cond b 0 (times (getD rest (l + o) 0) (inverse (getD c l 0)))) (le-ltb 63 (l + o) (omega (arith, room .terms-fit))))
+            ∙ toF-times _ _
+            ∙ ap₂ (λ x y. x ⊗ y) (sym (coef-at rest (l + o))) (toF-inverse (getD c l 0) ∙ ap inv (sym (coef-at c l)))
+            ∙ sym (choose-yes (yes h) _ _ h)
+        go (no h) =
+            let n : o / 4 < o % 4 = omega arith in
+            ap toF (ap (λ b. cond b 0 (cond (ltb 63 (l + o)) 0 (times (getD rest (l + o) 0) (inverse (getD c l 0))))) (lt-ltb (o / 4) (o % 4) n))
+            ∙ toF-zero ∙ sym (choose-no (no h) _ _ h)
+
+    -- the multiple that is taken away ends by order 63
+    ends : (R : ℕ → GF) → Below K16 (scale K16 (quotientAt K16 4 l (coef c) o R) (timesMonomial K16 4 o (coef c))) 64
+    unfolding quotientAt timesMonomial
+    ends R = go (decPresent 4 o)
+      where
+        go : (d : Dec (Present 4 o))
+            → Below K16 (scale K16 (choose d (R (l + o) ⊗ inv (coef c l)) 𝟘) (shift K16 ((o / 4 - o % 4) * 4) (powY K16 4 (o % 4) (coef c)))) 64
+        go (yes h) =
+            below-scale K16 _ (below-mono K16 (omega (arith, room .terms-fit)) (below-shift K16 ((o / 4 - o % 4) * 4) (below-powY K16 4 (o % 4) (room .leads .above))))
+        go (no h) =
+            record { zero-from = λ k b. ap (λ x. x ⊗ shift K16 ((o / 4 - o % 4) * 4) (powY K16 4 (o % 4) (coef c)) k) (choose-no (no h) (R (l + o) ⊗ inv (coef c l)) 𝟘 h) ∙ zero-mul K16 _ }
+
+    pub step-is : (rest : List ℕ) (a : ℕ) (R : ℕ → GF) → length rest ≡ 64 → coef rest ≡ R → toF a ≡ quotientAt K16 4 l (coef c) o (coef rest)
+        → cut (plus K16 (coef rest) (scale K16 (toF a) (shift K16 ((o / 4 - o % 4) * 4) (coef (getD (yPowers c) (o % 4) [])))))
+        ≡ divideStep K16 4 l (coef c) o R
+    unfolding divideStep timesMonomial
+    step-is rest a R n e q =
+        ap (λ g. cut (plus K16 (coef rest) (scale K16 (toF a) (shift K16 ((o / 4 - o % 4) * 4) g)))) moved
+        ∙ ap (λ x. cut (plus K16 (coef rest) (scale K16 x (same)))) q
+        ∙ cut-below _ (below-plus K16 (record { zero-from = λ k b. coef-beyond rest k (omega arith) }) (whole (coef rest)))
+        ∙ ap (λ f. plus K16 f (scale K16 (quotientAt K16 4 l (coef c) o f) same)) e
+        ∙ monomial R
+      where
+        same : ℕ → GF
+        same = shift K16 ((o / 4 - o % 4) * 4) (powY K16 4 (o % 4) (coef c))
+
+        same-is : timesMonomial K16 4 o (coef c) ≡ same
+        same-is = refl
+
+        whole : (f : ℕ → GF) → Below K16 (scale K16 (quotientAt K16 4 l (coef c) o f) same) 64
+        whole f = subst (λ g. Below K16 (scale K16 (quotientAt K16 4 l (coef c) o f) g) 64) same-is (ends f)
+
+        monomial : (f : ℕ → GF) → plus K16 f (scale K16 (quotientAt K16 4 l (coef c) o f) same)
+            ≡ plus K16 f (scale K16 (quotientAt K16 4 l (coef c) o f) (timesMonomial K16 4 o (coef c)))
+        monomial f = ap (λ g. plus K16 f (scale K16 (quotientAt K16 4 l (coef c) o f) g)) (sym same-is)

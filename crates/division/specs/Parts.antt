@@ -1,0 +1,139 @@
+-- The parts of a row by order, and multiplication by y, on numbers.
+--
+--   plainAt row o, zAt row o   the coefficients of Q0 and Q1 in a row of 96: 64 without z, then 32 with z
+--   lowerAt, foldedAt, yAt     the two terms of y times a function, and their sum
+--   folded-beyond              no second term above order 53
+--   LeadFound c r              r is an order below 64, and the lead of c if it has one
+--   cut f                      f up to order 63
+--   zPart c                    Q1 of a row's coefficient function
+--   coef-plain, coef-z, coef-y what the arrays hold as coefficient functions
+use mathlib.Core.Bool.{Bool, true, false, cond}
+use mathlib.Core.Path.{_≡_, refl, sym, ap, ap₂, _∙_, fun-ext}
+use mathlib.Core.List.{List}
+use Prim.Native.Nat.{ℕ, suc, _+_, _-_, _%_, _<_, _≤_}
+use native.Mathlib.Decide.{decLt, ℕ-discrete}
+use native.Mathlib.Omega.{arith}
+use lib.Bits.{bitXor}
+use lib.Dec.{ltb, eqb}
+use lib.ListN.{length, getD, List·getD-eq-default}
+use borrow.Author.Tests.{lt-ltb, le-ltb, eq-eqb, ne-eqb}
+use Rattle.lists.specs.Listed.{listed, listed-length, listed-at}
+use Rattle.algebra.specs.Field.{Field}
+use Rattle.algebra.specs.Coefficients.{choose, choose-yes, choose-no, Below, Lead, shift, shift-high, shift-low}
+use Rattle.galois.specs.Field16.{GF, K16, toF, toF-add, toF-zero}
+use Rattle.hermitian.specs.Ring.{timesY, top, descent, top-at, top-off}
+use Rattle.basis.specs.Rows.{coef, coef-at, coef-beyond}
+open Field K16 using (_⊕_, _⊗_, 𝟘)
+
+abbrev pub plainAt : List ℕ → ℕ → ℕ
+plainAt row o = getD row o 0
+
+unfoldable pub zAt : List ℕ → ℕ → ℕ
+zAt row o = cond (ltb o 32) (getD row (64 + o) 0) 0
+
+unfoldable pub lowerAt : List ℕ → ℕ → ℕ
+lowerAt c o = cond (ltb o 5) 0 (getD c (o - 5) 0)
+
+unfoldable pub foldedAt : List ℕ → ℕ → ℕ
+foldedAt c o = cond (eqb (o % 4) 1) (getD c (o + 10) 0) 0
+
+-- an array of 64 has nothing above order 63
+pub folded-beyond : (c : List ℕ) (o : ℕ) → length c ≡ 64 → 53 < o → 0 ≡ foldedAt c o
+unfolding foldedAt
+folded-beyond c o e h = go (eqb (o % 4) 1)
+  where
+    go : (b : Bool) → 0 ≡ cond b (getD c (o + 10) 0) 0
+    go true = sym (List·getD-eq-default c 0 (omega arith))
+    go false = refl
+
+abbrev pub yAt : List ℕ → ℕ → ℕ
+yAt c o = bitXor (lowerAt c o) (foldedAt c o)
+
+pub record LeadFound (c : List ℕ) (r : ℕ) : Type 0 where
+  pub within : r < 64
+  pub found : (l : ℕ) → Lead K16 (coef c) l → l ≡ r
+
+unfoldable pub cut : (ℕ → GF) → ℕ → GF
+cut f o = choose (decLt o 64) (f o) 𝟘
+
+pub cut-low : (f : ℕ → GF) (o : ℕ) → o < 64 → cut f o ≡ f o
+unfolding cut
+cut-low f o h = choose-yes (decLt o 64) _ _ h
+
+pub cut-high : (f : ℕ → GF) (o : ℕ) → 64 ≤ o → cut f o ≡ 𝟘
+unfolding cut
+cut-high f o h = choose-no (decLt o 64) _ _ (omega arith)
+
+-- nothing is lost of what ends by order 63
+pub cut-below : (f : ℕ → GF) → Below K16 f 64 → cut f ≡ f
+cut-below f b = fun-ext (λ o. go o (decLt o 64))
+  where
+    go : (o : ℕ) → Dec (o < 64) → cut f o ≡ f o
+    go o (yes h) = cut-low f o h
+    go o (no h) =
+        let l : 64 ≤ o = omega arith in
+        cut-high f o l ∙ sym (b .zero-from o l)
+
+-- an array that holds f up to order 63
+pub coef-listed : (g : ℕ → ℕ) (f : ℕ → GF) → ((o : ℕ) → o < 64 → toF (g o) ≡ f o) → coef (listed 64 g) ≡ cut f
+coef-listed g f h = fun-ext (λ o. go o (decLt o 64))
+  where
+    go : (o : ℕ) → Dec (o < 64) → coef (listed 64 g) o ≡ cut f o
+    go o (yes l) = coef-at (listed 64 g) o ∙ ap toF (listed-at 64 o g 0 l) ∙ h o l ∙ sym (cut-low f o l)
+    go o (no l) =
+        let e : length (listed 64 g) ≡ 64 = listed-length 64 g in
+        coef-beyond (listed 64 g) o (omega arith) ∙ sym (cut-high f o (omega arith))
+
+pub coef-plain : (row : List ℕ) → coef (listed 64 (plainAt row)) ≡ cut (coef row)
+coef-plain row = coef-listed (plainAt row) (coef row) (λ o l. sym (coef-at row o))
+
+-- Q1 of a row as a coefficient function
+unfoldable pub zPart : (ℕ → GF) → ℕ → GF
+zPart c o = choose (decLt o 32) (c (64 + o)) 𝟘
+
+pub zPart-low : (c : ℕ → GF) (o : ℕ) → o < 32 → zPart c o ≡ c (64 + o)
+unfolding zPart
+zPart-low c o h = choose-yes (decLt o 32) _ _ h
+
+pub zPart-high : (c : ℕ → GF) (o : ℕ) → 32 ≤ o → zPart c o ≡ 𝟘
+unfolding zPart
+zPart-high c o h = choose-no (decLt o 32) _ _ (omega arith)
+
+zPart-ends : (c : ℕ → GF) → Below K16 (zPart c) 64
+zPart-ends c = record { zero-from = λ o l. zPart-high c o (omega arith) }
+
+pub coef-z : (row : List ℕ) → coef (listed 64 (zAt row)) ≡ zPart (coef row)
+unfolding zAt
+coef-z row = coef-listed (zAt row) (zPart (coef row)) (λ o l. go o (decLt o 32)) ∙ cut-below (zPart (coef row)) (zPart-ends (coef row))
+  where
+    go : (o : ℕ) → Dec (o < 32) → toF (zAt row o) ≡ zPart (coef row) o
+    go o (yes h) =
+        ap toF (ap (λ b. cond b (getD row (64 + o) 0) 0) (lt-ltb o 32 h)) ∙ sym (coef-at row (64 + o)) ∙ sym (zPart-low (coef row) o h)
+    go o (no h) =
+        let l : 32 ≤ o = omega arith in
+        ap toF (ap (λ b. cond b (getD row (64 + o) 0) 0) (le-ltb o 32 l)) ∙ toF-zero ∙ sym (zPart-high (coef row) o l)
+
+lower-is : (c : List ℕ) (o : ℕ) → toF (lowerAt c o) ≡ shift K16 5 (coef c) o
+unfolding lowerAt
+lower-is c o = go (decLt o 5)
+  where
+    go : Dec (o < 5) → toF (lowerAt c o) ≡ shift K16 5 (coef c) o
+    go (yes h) = ap toF (ap (λ b. cond b 0 (getD c (o - 5) 0)) (lt-ltb o 5 h)) ∙ toF-zero ∙ sym (shift-low K16 5 o (coef c) h)
+    go (no h) =
+        let l : 5 ≤ o = omega arith in
+        ap toF (ap (λ b. cond b 0 (getD c (o - 5) 0)) (le-ltb o 5 l)) ∙ sym (coef-at c (o - 5)) ∙ sym (shift-high K16 5 o (coef c) l)
+
+folded-is : (c : List ℕ) (o : ℕ) → toF (foldedAt c o) ≡ top K16 4 (coef c) (o + 10)
+unfolding foldedAt
+folded-is c o = go (ℕ-discrete (o % 4) 1)
+  where
+    go : Dec (o % 4 ≡ 1) → toF (foldedAt c o) ≡ top K16 4 (coef c) (o + 10)
+    go (yes h) =
+        ap toF (ap (λ b. cond b (getD c (o + 10) 0) 0) (eq-eqb (o % 4) 1 h)) ∙ sym (coef-at c (o + 10)) ∙ sym (top-at K16 4 (coef c) (o + 10) (omega arith))
+    go (no h) =
+        ap toF (ap (λ b. cond b (getD c (o + 10) 0) 0) (ne-eqb (o % 4) 1 h)) ∙ toF-zero
+        ∙ sym (top-off K16 4 (coef c) (o + 10) (λ (e : suc ((o + 10) % 4) ≡ 4). absurd (omega arith)))
+
+pub coef-y : (c : List ℕ) → coef (listed 64 (yAt c)) ≡ cut (timesY K16 4 (coef c))
+unfolding timesY descent
+coef-y c = coef-listed (yAt c) (timesY K16 4 (coef c)) (λ o l. toF-add _ _ ∙ ap₂ (λ x y. x ⊕ y) (lower-is c o) (folded-is c o))
