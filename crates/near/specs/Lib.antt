@@ -4,3 +4,4 @@ pub mod Places
 pub mod Codeword
 pub mod Laws
 pub mod Interpolated
+pub mod Distance
