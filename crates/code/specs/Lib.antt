@@ -7,3 +7,4 @@ pub mod Bridge
 pub mod Extraction
 pub mod Laws
 pub mod Nodes
+pub mod Bench

@@ -3,13 +3,14 @@
 --   xorSum-nil, xorSum-suc   the recursion, as equations
 --   xorSum-ext               equal terms below n give equal sums
 --   xorSum-more              terms that are zero from m on add nothing
+--   xorSum-single            a sum with one term that is not zero is that term
 --   xorSum-below             terms below 2 ^ b have a sum below it
 use mathlib.Core.Path.{_≡_, refl, sym, ap, ap₂, _∙_}
 use Prim.Native.Nat.{ℕ, zero, suc, _^_, _<_, _≤_}
 use native.Mathlib.Nat.{le-step, lt-suc-self, eq-or-lt-of-le, le-of-suc-le-suc}
 use native.Mathlib.Omega.{arith}
-use mathlib.Core.Logic.{⊎-elim}
-use lib.Bits.{bitXor, xor-lt, xor-zero-r}
+use mathlib.Core.Logic.{_≢_, ⊎-elim}
+use lib.Bits.{bitXor, xor-lt, xor-zero-l, xor-zero-r}
 use lib.Pow.{pow-pos}
 
 unfoldable pub xorSum : ℕ → (ℕ → ℕ) → ℕ
@@ -42,3 +43,10 @@ xorSum-more m (suc n) f l h = ⊎-elim (λ e. ap (λ k. xorSum k f) (sym e)) (λ
   where
     step : m ≤ n → xorSum n f ≡ xorSum m f → xorSum (suc n) f ≡ xorSum m f
     step g ih = xorSum-suc n f ∙ ap₂ bitXor ih (h n g (lt-suc-self n)) ∙ xor-zero-r _
+
+pub xorSum-single : (n i : ℕ) (f : ℕ → ℕ) → i < n → ((k : ℕ) → k < n → k ≢ i → f k ≡ 0) → xorSum n f ≡ f i
+xorSum-single n i f l h =
+    xorSum-more (suc i) n f l (λ k a b. h k b (λ (e : k ≡ i). omega arith))
+    ∙ xorSum-suc i f
+    ∙ ap (λ x. bitXor x (f i)) (xorSum-more 0 i f (omega arith) (λ k a b. h k (omega arith) (λ (e : k ≡ i). omega arith)) ∙ xorSum-nil f)
+    ∙ xor-zero-l (f i)

@@ -23,11 +23,12 @@ module _ {k : ℕ} (rate : Workable k) {m n : List ℕ} (u : Word 16 k m) (v : W
 
   pub codewords-apart : 64 ≤ mOf k + differing 64 (encodeOf k m) (encodeOf k n)
   codewords-apart =
-      omega
-      (arith,
-      distance K16 4 (omega arith) points (functionOf-fn rate m) (functionOf-order rate m) (functionOf-fn rate n) (functionOf-order rate n)
-      (encode-val rate m) (encode-val rate n) functions-differ,
-      differing-le 64 (encodeOf k m) (encodeOf k n))
+      omega (
+        arith,
+        distance K16 4 (omega arith) points (functionOf-fn rate m) (functionOf-order rate m) (functionOf-fn rate n) (functionOf-order rate n)
+            (encode-val rate m) (encode-val rate n) functions-differ,
+        differing-le 64 (encodeOf k m) (encodeOf k n),
+      )
 
   pub codewords-agree : Counted.agreeing K16 64 (symbolsOf (encodeOf k m)) (symbolsOf (encodeOf k n)) ≤ mOf k
   codewords-agree =
