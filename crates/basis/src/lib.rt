@@ -2,3 +2,17 @@
 // order of terms: what the positions mean, and why a step is right, stands in `interpolation`.
 pub mod row;
 pub mod step;
+
+// A row holds PLAIN coefficients without z by order, then those with z by order.
+pub const PLAIN: usize = 64;
+
+pub const ROW: usize = 96;
+
+// One row and one lead for each remainder of a key modulo 8.
+pub const CLASSES: usize = 8;
+
+pub type Row = [u8; ROW];
+
+pub type Rows = [Row; CLASSES];
+
+pub type Leads = [usize; CLASSES];

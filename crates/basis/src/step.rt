@@ -8,11 +8,15 @@ ghost use Rattle.galois.specs.Field16.{K16, toF, value};
 ghost use Rattle.basis.specs.Rows.{coef};
 ghost use Rattle.basis.specs.Choice.{Chosen};
 ghost use Rattle.basis.specs.Step.{discrepancy, discrepancyAt, NextRows};
+use crate::CLASSES;
+use crate::Leads;
+use crate::Row;
+use crate::Rows;
 use galois::inverse;
 use galois::product;
 
 // The value of a row at the point of the weights; a spent class counts as zero.
-fn discrepancy(row: [u8; 96], lead: usize, limit: usize, weights: [u8; 96]) -> u8
+fn discrepancy(row: Row, lead: usize, limit: usize, weights: Row) -> u8
     ensures { λ r. ⌜ r ≡ value (discrepancy limit lead (coef row) (coef weights)) ⌝ }
 {
     if limit < lead {
@@ -21,17 +25,12 @@ fn discrepancy(row: [u8; 96], lead: usize, limit: usize, weights: [u8; 96]) -> u
     crate::row::dot(row, weights)
 }
 
-pub fn discrepancies(
-    rows: [[u8; 96]; 8],
-    leads: [usize; 8],
-    limit: usize,
-    weights: [u8; 96],
-) -> [u8; 8]
+pub fn discrepancies(rows: Rows, leads: Leads, limit: usize, weights: Row) -> [u8; CLASSES]
     ensures { λ r. ⌜ r ≡ listed 8 (discrepancyAt limit leads rows weights) ⌝ }
 {
-    let mut out = [0u8; 8];
+    let mut out = [0u8; CLASSES];
     let mut r = 0;
-    while r < 8 {
+    while r < CLASSES {
         out[r] = discrepancy(rows[r], leads[r], limit, weights);
         r += 1;
     }
@@ -39,14 +38,14 @@ pub fn discrepancies(
 }
 
 // The class chosen so far, or class r.
-fn better(ds: [u8; 8], leads: [usize; 8], best: usize, r: usize) -> usize
+fn better(ds: [u8; CLASSES], leads: Leads, best: usize, r: usize) -> usize
     requires { ⌜ r < 8 ⌝ }
     ensures { λ p. ⌜ (Chosen r ds leads best → Chosen (r + 1) ds leads p) ⌝ }
 {
     if ds[r] == 0 {
         return best;
     }
-    if 8 <= best {
+    if CLASSES <= best {
         return r;
     }
     if leads[best] <= leads[r] {
@@ -56,12 +55,12 @@ fn better(ds: [u8; 8], leads: [usize; 8], best: usize, r: usize) -> usize
 }
 
 // The class of least lead among those of non-zero discrepancy, or 8.
-pub fn choice(ds: [u8; 8], leads: [usize; 8]) -> usize
+pub fn choice(ds: [u8; CLASSES], leads: Leads) -> usize
     ensures { λ p. ⌜ Chosen 8 ds leads p ⌝ }
 {
-    let mut best = 8;
+    let mut best = CLASSES;
     let mut r = 0;
-    while r < 8 {
+    while r < CLASSES {
         best = better(ds, leads, best, r);
         r += 1;
     }
@@ -69,7 +68,7 @@ pub fn choice(ds: [u8; 8], leads: [usize; 8]) -> usize
 }
 
 // A row and the multiple of the pivot's row that takes its discrepancy d away; by is the inverse of the pivot's.
-fn next_row(row: [u8; 96], d: u8, by: u8, pivot: [u8; 96]) -> [u8; 96]
+fn next_row(row: Row, d: u8, by: u8, pivot: Row) -> Row
     ensures { λ r. ⌜ coef r ≡ plus K16 (coef row) (scale K16 (toF (times d by)) (coef pivot)) ⌝ }
 {
     if d == 0 {
@@ -79,7 +78,7 @@ fn next_row(row: [u8; 96], d: u8, by: u8, pivot: [u8; 96]) -> [u8; 96]
 }
 
 // The rows after a step at class `at`, where the point's x is a.
-pub fn next_rows(rows: [[u8; 96]; 8], ds: [u8; 8], at: usize, a: u8) -> [[u8; 96]; 8]
+pub fn next_rows(rows: Rows, ds: [u8; CLASSES], at: usize, a: u8) -> Rows
     requires { ⌜ at < 8 ⌝ }
     ensures { λ r. ⌜ NextRows at (toF a) ds rows r ⌝ }
 {
@@ -87,7 +86,7 @@ pub fn next_rows(rows: [[u8; 96]; 8], ds: [u8; 8], at: usize, a: u8) -> [[u8; 96
     let by = inverse(ds[at]);
     let mut out = rows;
     let mut r = 0;
-    while r < 8 {
+    while r < CLASSES {
         out[r] = next_row(rows[r], ds[r], by, pivot);
         r += 1;
     }
