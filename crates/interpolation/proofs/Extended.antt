@@ -1,0 +1,48 @@
+-- What `extend` returns, by the class chosen.
+use mathlib.Core.Path.{_≡_, refl, sym, ap, _∙_, subst}
+use mathlib.Core.List.{List}
+use Prim.Native.Nat.{ℕ, _+_, _<_, _≤_}
+use native.Mathlib.Omega.{arith}
+use lib.ListN.{length, getD, set, length-set}
+use Rattle.lists.specs.Listed.{listed}
+use Rattle.galois.specs.Field16.{toF}
+use Rattle.code.specs.Curve.{xOf}
+use Rattle.code.specs.Evaluation.{monomialAt}
+use Rattle.code.specs.Bridge.{px}
+use Rattle.basis.specs.Rows.{coef, weighed}
+use Rattle.basis.specs.Choice.{leadAt, Chosen, none, one}
+use Rattle.basis.specs.Step.{discrepancyAt, NextRows}
+use Rattle.interpolation.specs.Stepping.{Stepped, same, raised, unspent}
+use Rattle.interpolation.specs.Extending.{Extends, steps-extend}
+
+module _ (L : ℕ) (rows : List (List ℕ)) (leads weights ds : List ℕ) (at : ℕ) (e : ds ≡ listed 8 (discrepancyAt L leads rows weights))
+    (chosen : Chosen 8 ds leads at) where
+  -- the lead of the class chosen is within the limit
+  pub chosen-live : at < 8 → getD leads at 0 ≤ L
+  unfolding leadAt
+  chosen-live h = go chosen
+    where
+      go : Chosen 8 ds leads at → getD leads at 0 ≤ L
+      go (none q z) = absurd (omega arith)
+      go (one s) = unspent L rows leads weights at h (λ q. s .passes .nonzero (ap (λ l. getD l at 0) e ∙ q))
+
+  module _ (p z : ℕ) (monomials : List ℕ) (small : L ≤ 127) (eight : length leads ≡ 8) (known : monomials ≡ listed 64 (monomialAt p))
+      (weighted : coef weights ≡ weighed (coef monomials) (toF z)) where
+    pub extends-same : 8 ≤ at → Extends L p z rows leads rows leads
+    extends-same h = steps-extend L p z rows leads rows leads monomials weights small eight known weighted refl (go chosen)
+      where
+        go : Chosen 8 ds leads at → Stepped (px p) (listed 8 (discrepancyAt L leads rows weights)) rows leads rows leads
+        go (none q n) = same (λ r l. ap (λ k. getD k r 0) (sym e) ∙ n r l) refl refl
+        go (one s) = absurd (omega (arith, s .within))
+
+    pub extends-raised : (rows′ : List (List ℕ)) (x : ℕ) → at < 8 → x ≡ xOf p → NextRows at (toF x) ds rows rows′
+        → Extends L p z rows leads rows′ (set leads at (getD leads at 0 + 8))
+    unfolding leadAt
+    extends-raised rows′ x h q next =
+        steps-extend L p z rows leads rows′ (set leads at (getD leads at 0 + 8)) monomials weights small eight known weighted
+        (length-set leads at (getD leads at 0 + 8))
+        (subst (λ k. Stepped (px p) k rows leads rows′ (set leads at (getD leads at 0 + 8))) e (go chosen))
+      where
+        go : Chosen 8 ds leads at → Stepped (px p) ds rows leads rows′ (set leads at (getD leads at 0 + 8))
+        go (none q n) = absurd (omega arith)
+        go (one s) = raised at s (subst (λ a. NextRows at (toF a) ds rows rows′) q next) refl

@@ -1,0 +1,114 @@
+-- The bytes of a reading: where each coefficient stands in a row, and the bytes of x^16 + x.
+use mathlib.Core.Path.{_≡_, sym, ap, ap₂, _∙_}
+use mathlib.Core.List.{List}
+use mathlib.Core.Logic.{_≢_}
+use Prim.Native.Nat.{ℕ, _+_, _-_, _*_, _/_, _%_, _<_, _≤_}
+use native.Mathlib.Decide.{decLt, ℕ-discrete}
+use native.Mathlib.Omega.{arith}
+use lib.ListN.{getD, set, replicate, getD-replicate}
+use lib.Seq.{getD-set-same, getD-set-other}
+use Rattle.lists.specs.Listed.{listed, listed-ext, listed-getD}
+use Rattle.algebra.specs.Field.{Field, add-zero, zero-add}
+use Rattle.algebra.specs.Coefficients.{scale, unit, unit-at, unit-off}
+use Rattle.galois.specs.Gf16.{times}
+use Rattle.galois.specs.Field16.{K16, toF, value, value-toF, toF-zero, toF-one, value-zero}
+use Rattle.hermitian.specs.Frobenius.{frobenius}
+use Rattle.hermitian.specs.Keys.{key}
+use Rattle.basis.specs.Rows.{coef, coef-at, value-times-toF}
+use Rattle.basis.specs.Choice.{Chosen, none, one}
+use Rattle.interpolation.specs.Polynomial.{polynomial, gap-polynomial, at-plain, at-plain-out, at-z}
+use Rattle.interpolation.specs.Reading.{Lowest}
+use Rattle.interpolant.specs.LeastQ.{byteKey}
+use Rattle.interpolant.specs.Reading.{byteKey-plain, byteKey-z, byteOf}
+open Field K16 using (_⊕_, _⊗_, 𝟘, 𝟙)
+
+-- ---- the coefficient at a key
+module _ (row : List ℕ) (k m : ℕ) where
+  pub at-even : k ≤ 127 → k % 2 ≡ 0 → toF (getD row (k / 2) 0) ≡ polynomial m (coef row) k
+  at-even h z =
+      let e : 2 * (k / 2) ≡ k = omega arith in
+      sym (coef-at row (k / 2)) ∙ sym (at-plain m (coef row) (k / 2) (omega arith)) ∙ ap (polynomial m (coef row)) e
+
+  pub at-gap : k % 2 ≢ 0 → k / 2 < m → toF 0 ≡ polynomial m (coef row) k
+  at-gap z h =
+      let e : 2 * (k / 2) + 1 ≡ k = omega arith in
+      toF-zero ∙ sym (gap-polynomial m (coef row) (k / 2) h) ∙ ap (polynomial m (coef row)) e
+
+  pub at-odd : k ≤ 127 → 32 ≤ m → k % 2 ≢ 0 → m ≤ k / 2 → toF (getD row (64 + (k / 2 - m)) 0) ≡ polynomial m (coef row) k
+  at-odd h l z g =
+      let e : 2 * (k / 2 - m + m) + 1 ≡ k = omega arith in
+      sym (coef-at row (64 + (k / 2 - m))) ∙ sym (at-z m (coef row) (k / 2 - m) (omega arith)) ∙ ap (polynomial m (coef row)) e
+
+-- ---- the coefficient of a byte
+key-plain : (M i : ℕ) → i ≤ 64 → byteKey M i ≡ 2 * i
+key-plain M i h = byteKey-plain M i h
+
+key-z : (M i : ℕ) → 65 ≤ i → byteKey M i ≡ 2 * (i - 65 + M) + 1
+key-z M i h =
+    let e : i ≡ 65 + (i - 65) = omega arith in
+    ap (byteKey M) e ∙ byteKey-z M (i - 65)
+
+module _ (row : List ℕ) (i : ℕ) where
+  pub shown-plain : i < 64 → (M : ℕ) → toF (getD row i 0) ≡ polynomial M (coef row) (byteKey M i)
+  shown-plain h M = sym (coef-at row i) ∙ sym (at-plain M (coef row) i h) ∙ ap (polynomial M (coef row)) (sym (key-plain M i (omega arith)))
+
+  pub shown-last : i ≡ 64 → (M : ℕ) → toF 0 ≡ polynomial M (coef row) (byteKey M i)
+  shown-last h M = toF-zero ∙ sym (at-plain-out M (coef row) i (omega arith)) ∙ ap (polynomial M (coef row)) (sym (key-plain M i (omega arith)))
+
+  pub shown-z : 65 ≤ i → i < 82 → (M : ℕ) → toF (getD row (i - 1) 0) ≡ polynomial M (coef row) (byteKey M i)
+  shown-z h l M =
+      let e : i - 1 ≡ 64 + (i - 65) = omega arith in
+      ap (λ k. toF (getD row k 0)) e ∙ sym (coef-at row (64 + (i - 65))) ∙ sym (at-z M (coef row) (i - 65) (omega arith))
+      ∙ ap (polynomial M (coef row)) (sym (key-z M i h))
+
+-- the byte of a multiple: s is the coefficient shown, v the product
+pub scaled-byte : (row : List ℕ) (by i s v M : ℕ) → v ≡ times by s → toF s ≡ polynomial M (coef row) (byteKey M i)
+    → v ≡ byteOf M (scale K16 (toF by) (polynomial M (coef row))) i
+unfolding byteOf
+scaled-byte row by i s v M e f = e ∙ sym (value-times-toF by s) ∙ ap (λ a. value (toF by ⊗ a)) f
+
+-- ---- x^16 + x
+abbrev plainZeros : List ℕ
+plainZeros = replicate 82 0
+
+abbrev first : List ℕ
+first = set plainZeros 64 1
+
+pub field-bytes : (M : ℕ) → set first 4 1 ≡ listed 82 (byteOf M (frobenius K16 4 16))
+unfolding byteOf
+field-bytes M = sym (listed-getD (set first 4 1) 0) ∙ listed-ext 82 (λ k. getD (set first 4 1) k 0) (byteOf M (frobenius K16 4 16)) (λ i h. go i h (ℕ-discrete i 4) (ℕ-discrete i 64) (decLt i 65))
+  where
+    one-is : value 𝟙 ≡ 1
+    one-is = ap value (sym toF-one) ∙ value-toF 1
+
+    at-key : (i k : ℕ) → byteKey M i ≡ k → value (unit K16 128 k ⊕ unit K16 8 k) ≡ byteOf M (frobenius K16 4 16) i
+    at-key i k e = ap (λ j. value (unit K16 128 j ⊕ unit K16 8 j)) (sym e)
+
+    nothing : (k : ℕ) → k ≢ 128 → k ≢ 8 → 0 ≡ value (unit K16 128 k ⊕ unit K16 8 k)
+    nothing k a b = sym (ap₂ (λ x y. value (x ⊕ y)) (unit-off K16 128 k a) (unit-off K16 8 k b) ∙ ap value (add-zero K16 𝟘) ∙ value-zero)
+
+    go : (i : ℕ) → i < 82 → Dec (i ≡ 4) → Dec (i ≡ 64) → Dec (i < 65) → getD (set first 4 1) i 0 ≡ byteOf M (frobenius K16 4 16) i
+    go i h (yes e) f l =
+        ap (λ k. getD (set first 4 1) k 0) e ∙ getD-set-same first 4 1 0 (omega arith) ∙ sym one-is
+        ∙ ap value (sym (zero-add K16 𝟙)) ∙ ap₂ (λ x y. value (x ⊕ y)) (sym (unit-off K16 128 8 (λ (q : 8 ≡ 128). absurd (omega arith)))) (sym (unit-at K16 8))
+        ∙ at-key i 8 (key-plain M i (omega arith) ∙ omega arith)
+    go i h (no e) (yes f) l =
+        getD-set-other first 4 i 1 0 e ∙ ap (λ k. getD first k 0) f ∙ getD-set-same plainZeros 64 1 0 (omega arith) ∙ sym one-is
+        ∙ ap value (sym (add-zero K16 𝟙)) ∙ ap₂ (λ x y. value (x ⊕ y)) (sym (unit-at K16 128)) (sym (unit-off K16 8 128 (λ (q : 128 ≡ 8). absurd (omega arith))))
+        ∙ at-key i 128 (key-plain M i (omega arith) ∙ omega arith)
+    go i h (no e) (no f) (yes l) =
+        getD-set-other first 4 i 1 0 e ∙ getD-set-other plainZeros 64 i 1 0 f ∙ getD-replicate 82 i 0 0 h
+        ∙ nothing (2 * i) (λ (q : 2 * i ≡ 128). absurd (omega arith)) (λ (q : 2 * i ≡ 8). absurd (omega arith)) ∙ at-key i (2 * i) (key-plain M i (omega arith))
+    go i h (no e) (no f) (no l) =
+        let k : ℕ = 2 * (i - 65 + M) + 1 in
+        getD-set-other first 4 i 1 0 e ∙ getD-set-other plainZeros 64 i 1 0 f ∙ getD-replicate 82 i 0 0 h
+        ∙ nothing k (λ (q : k ≡ 128). absurd (omega arith)) (λ (q : k ≡ 8). absurd (omega arith)) ∙ at-key i k (key-z M i (omega arith))
+
+-- ---- every class counts
+pub lowest-is : (leads : List ℕ) (best : ℕ) → Chosen 8 (replicate 8 1) leads best → Lowest leads best
+lowest-is leads best (none e h) = absurd (omega (arith, h 0 (omega arith)))
+lowest-is leads best (one s) =
+    record {
+      within = s .within;
+      least = λ r l. s .least r l (record { nonzero = λ z. absurd (omega (arith, getD-replicate {A = ℕ} 8 r 1 0 l, z)) });
+    }

@@ -1,0 +1,29 @@
+-- Where the coefficient of a byte stands in a row: without z, at order 64, or with z.
+use native.Mathlib.Omega.{arith}
+use borrow.Author.Needs.{needs}
+use Rattle.interpolation.proofs.Shown.{shown-plain, shown-last, shown-z}
+use Rattle.interpolation.proofs.reading.shown.Statement.{statement}
+use Rattle.interpolation.proofs.reading.shown.Tie as tie
+
+array-read-result : tie.Need-array-read-result
+array-read-result c = search needs
+
+returns : tie.Need-returns
+returns c = shown-plain _ _ (c .if1 .taken)
+
+returns-2 : tie.Need-returns-2
+returns-2 c = shown-last _ _ (c .if2 .taken)
+
+sub-result : tie.Need-sub-result
+sub-result c = search needs
+
+array-read-result-2 : tie.Need-array-read-result-2
+array-read-result-2 c = search needs
+
+returns-3 : tie.Need-returns-3
+returns-3 c = shown-z _ _ (omega arith) (search needs)
+
+pub shown-spec : {M : Type 1} → statement M
+shown-spec =
+    tie.close
+    (tie.spec array-read-result returns returns-2 sub-result array-read-result-2 returns-3)

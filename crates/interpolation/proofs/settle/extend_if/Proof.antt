@@ -1,0 +1,17 @@
+-- The two cases of the flag.
+use borrow.Author.Needs.{needs}
+use Rattle.interpolation.specs.Settled.{extends-taken, extends-not}
+use Rattle.interpolation.proofs.settle.extend_if.Statement.{statement}
+use Rattle.interpolation.proofs.settle.extend_if.Tie as tie
+
+extend-requires : tie.Need-extend-requires
+extend-requires c κs = search needs
+
+returns : tie.Need-returns
+returns c = extends-taken (c .before .before .if1 .taken) (c .extend .ensures)
+
+returns-2 : tie.Need-returns-2
+returns-2 c = extends-not _ _ _ _ _ _ (c .if1 .left)
+
+pub extend-if-spec : {M : Type 1} → statement M
+extend-if-spec = tie.close (tie.spec extend-requires returns returns-2)

@@ -1,0 +1,58 @@
+-- Each class passed holds its first key.
+use mathlib.Core.Path.{_≡_}
+use mathlib.Core.List.{_++_}
+use Prim.Native.Nat.{_≤_, _-_}
+use native.Mathlib.Omega.{arith}
+use lib.ListN.{drop, replicate}
+use borrow.Author.Needs.{needs}
+use Rattle.lists.specs.Listed.{listed, listed-start, listed-store, listed-end}
+use Rattle.hermitian.specs.Keys.{first}
+use Rattle.interpolation.proofs.start.start_leads.Statement.{statement}
+use Rattle.interpolation.proofs.start.start_leads.Tie as tie
+
+abbrev Inv-loop : tie.InvT-loop
+Inv-loop m out₀ r₀ out r = (r ≤ 8) × (out ≡ listed r (first 4 m) ++ drop r (replicate 8 0))
+
+abbrev μ-loop : tie.MeasureT-loop
+μ-loop m out₀ r₀ out r = 8 - r
+
+loop-holds : tie.Need-loop-holds Inv-loop μ-loop
+loop-holds c = (search needs, listed-start _ _)
+
+start-lead-requires : tie.Need-start-lead-requires Inv-loop μ-loop
+start-lead-requires c κs = search needs
+
+mul-out : tie.Need-mul-out Inv-loop μ-loop
+mul-out c = search needs
+
+array-write-out : tie.Need-array-write-out Inv-loop μ-loop
+array-write-out c = search needs
+
+add-r : tie.Need-add-r Inv-loop μ-loop
+add-r c = search needs
+
+loop-less : tie.Need-loop-less Inv-loop μ-loop
+loop-less c = search needs
+
+loop-again : tie.Need-loop-again Inv-loop μ-loop
+loop-again c = (search needs, listed-store 0 _ (replicate 8 0) _ _ _ (search needs) (c .start-lead .ensures) (c .before .before .loop .inv .1))
+
+returns : tie.Need-returns Inv-loop μ-loop
+returns c =
+    let e : c .before .loop .r ≡ 8 = omega arith in
+    rw e at (listed-end _ (replicate 8 0) _ _ (search needs) (c .before .loop .inv .1))
+
+pub start-leads-spec : {M : Type 1} → statement M
+start-leads-spec =
+    tie.close
+    (tie.spec
+    Inv-loop
+    μ-loop
+    loop-holds
+    start-lead-requires
+    mul-out
+    array-write-out
+    add-r
+    loop-less
+    loop-again
+    returns)

@@ -1,0 +1,14 @@
+// Interpolation: the basis of the polynomials Q0 + Q1 z that vanish at the places given, and the least of them. It knows of no costs
+// and no session. M is the weight of z and the limit a key, so no rate is named.
+pub mod node;
+pub mod reading;
+pub mod settle;
+pub mod start;
+
+pub const PLACES: usize = 64;
+
+// The bytes of a reading: Q0 by orders 0 to 64, Q1 by orders 0 to 16.
+pub const READING: usize = 82;
+
+// The largest key that a row has room for.
+pub const LIMIT: usize = 127;

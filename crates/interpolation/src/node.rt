@@ -1,0 +1,29 @@
+// One node more: a place with the symbol z there.
+ghost use mathlib.Core.Path.{_≡_};
+ghost use Prim.Native.Nat.{_<_, _≤_};
+ghost use lib.ListN.{length};
+ghost use Rattle.interpolation.specs.Extending.{Extends};
+use basis::CLASSES;
+use basis::Leads;
+use basis::Rows;
+use basis::row::weights;
+use basis::step::choice;
+use basis::step::discrepancies;
+use basis::step::next_rows;
+use code::evaluation::monomials;
+use code::points::x_at;
+
+// The basis of the polynomials that vanish at this place too; the leads are changed where they stand.
+pub fn extend(rows: Rows, leads: &mut Leads, limit: usize, place: usize, symbol: u8) -> Rows
+    requires { ⌜ (length (now leads) ≡ 8) × (limit ≤ 127) × (place < 64) ⌝ }
+    ensures { λ r. ⌜ Extends limit place symbol rows (now (leads .entry)) r (now (leads .exit)) ⌝ }
+{
+    let held = *leads;
+    let ds = discrepancies(rows, held, limit, weights(monomials(place), symbol));
+    let at = choice(ds, held);
+    if CLASSES <= at {
+        return rows;
+    }
+    leads[at] = held[at] + 8;
+    next_rows(rows, ds, at, x_at(place))
+}

@@ -1,0 +1,106 @@
+// The least polynomial through the settled places, in the 82 bytes of the interpolant reading.
+ghost use mathlib.Core.Path.{_≡_};
+ghost use Prim.Native.Nat.{ℕ, _<_, _≤_};
+ghost use Rattle.lists.specs.Listed.{listed};
+ghost use Rattle.algebra.specs.Coefficients.{scale};
+ghost use Rattle.galois.specs.Field16.{K16, toF};
+ghost use Rattle.hermitian.specs.Frobenius.{frobenius};
+ghost use Rattle.basis.specs.Rows.{coef};
+ghost use Rattle.interpolation.specs.Polynomial.{polynomial};
+ghost use Rattle.interpolant.specs.LeastQ.{byteKey, readingOf};
+ghost use Rattle.interpolant.specs.Reading.{byteOf};
+ghost use Rattle.interpolation.specs.Reading.{Lowest, Interpolated};
+ghost use Rattle.interpolation.specs.Settled.{settled};
+use crate::LIMIT;
+use crate::PLACES;
+use crate::READING;
+use basis::CLASSES;
+use basis::Leads;
+use basis::PLAIN;
+use basis::Row;
+use basis::Rows;
+use galois::inverse;
+use galois::product;
+
+// The coefficient of a row at a key within the limit.
+pub fn coefficient(row: Row, key: usize, m: usize) -> u8
+    requires { ⌜ (key ≤ 127) × (32 ≤ m) ⌝ }
+    ensures { λ r. ⌜ toF r ≡ polynomial m (coef row) key ⌝ }
+{
+    let order = key / 2;
+    if key % 2 == 0 {
+        return row[order];
+    }
+    if order < m {
+        return 0;
+    }
+    row[PLAIN + (order - m)]
+}
+
+// The coefficient that byte i of a reading shows.
+fn shown(row: Row, i: usize) -> u8
+    requires { ⌜ i < 82 ⌝ }
+    ensures { λ r. ⌜ ((M : ℕ) → toF r ≡ polynomial M (coef row) (byteKey M i)) ⌝ }
+{
+    if i < PLAIN {
+        return row[i];
+    }
+    if i == PLAIN {
+        return 0;
+    }
+    row[i - 1]
+}
+
+// The bytes of a multiple of a row.
+fn scaled(row: Row, by: u8) -> [u8; READING]
+    ensures { λ r. ⌜ ((M : ℕ) → r ≡ listed 82 (byteOf M (scale K16 (toF by) (polynomial M (coef row))))) ⌝ }
+{
+    let mut out = [0u8; READING];
+    let mut i = 0;
+    while i < READING {
+        out[i] = product(by, shown(row, i));
+        i += 1;
+    }
+    out
+}
+
+// x^16 + x, which vanishes at every place.
+fn field_equation() -> [u8; READING]
+    ensures { λ r. ⌜ ((M : ℕ) → r ≡ listed 82 (byteOf M (frobenius K16 4 16))) ⌝ }
+{
+    let mut out = [0u8; READING];
+    out[PLAIN] = 1;
+    out[4] = 1;
+    out
+}
+
+// The class of least lead: every class counts.
+pub fn lowest(leads: Leads) -> usize
+    ensures { λ r. ⌜ Lowest leads r ⌝ }
+{
+    basis::step::choice([1; CLASSES], leads)
+}
+
+// The row of least lead, divided by its leading coefficient; where all classes are spent, x^16 + x.
+pub fn interpolant(rows: Rows, leads: Leads, m: usize) -> [u8; READING]
+    requires { ⌜ 32 ≤ m ⌝ }
+    ensures { λ r. ⌜ Interpolated m rows leads r ⌝ }
+{
+    let best = lowest(leads);
+    let lead = leads[best];
+    if LIMIT < lead {
+        return field_equation();
+    }
+    let row = rows[best];
+    scaled(row, inverse(coefficient(row, lead, m)))
+}
+
+// The least polynomial through the places with flag 1, each with the word's symbol.
+pub fn reading(word: [u8; PLACES], flags: [u8; PLACES], m: usize) -> [u8; READING]
+    requires { ⌜ (32 ≤ m) × (m ≤ 127) ⌝ }
+    ensures { λ r. ⌜ r ≡ readingOf m (settled word flags 64) ⌝ }
+{
+    let mut leads = [0usize; CLASSES];
+    let rows = crate::settle::settle(word, flags, m, LIMIT, &mut leads);
+    interpolant(rows, leads, m)
+}
