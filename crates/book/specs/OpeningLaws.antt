@@ -34,6 +34,10 @@ unfolding knownRate
 rate-known rate-39 = refl
 rate-known rate-49 = refl
 
+pub rate-reach : {rate T : ℕ} → Rate rate T → reachOf rate ≡ T
+rate-reach rate-39 = reaches .1
+rate-reach rate-49 = reaches .3
+
 pub known-rate : (rate : ℕ) → knownRate rate ≡ true → (T : ℕ) × Rate rate T
 unfolding knownRate
 known-rate rate e = go (eqb rate 39) refl (eqb rate 49) refl e
@@ -42,10 +46,6 @@ known-rate rate e = go (eqb rate 39) refl (eqb rate 49) refl e
     go true f b g h = (6, subst (λ k. Rate k 6) (sym (eqb-true rate 39 f)) rate-39)
     go false f true g h = (1, subst (λ k. Rate k 1) (sym (eqb-true rate 49 g)) rate-49)
     go false f false g h = absurd (false≢true h)
-
-pub rate-reach : {rate T : ℕ} → Rate rate T → reachOf rate ≡ T
-rate-reach rate-39 = reaches .1
-rate-reach rate-49 = reaches .3
 
 rising-of : (n : ℕ) (list : List ℕ) → (0 < length list → n ≤ getD list 0 0)
     → ((i : ℕ) → suc i < length list → getD list i 0 < getD list (suc i) 0) → risingFrom n list ≡ true

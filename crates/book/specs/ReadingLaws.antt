@@ -72,11 +72,6 @@ module _ (book : Book) where
           ⊎-elim (λ (q : s ≡ settledAt book n). (n, lt-suc-self n, f, q)) (λ l. later (ih l)) (List·Memᴰ·cases-cons (rw (settled-yes n f) at t))
       go false f t ih = later (ih (rw (settled-no n f) at t))
 
-  pub settled-there : (p : ℕ) → p < places → taken (book .row) p ≡ true → among p (book .doubtful) ≡ false
-      → List·Memᴰ (settledAt book p) (settledOf book)
-  unfolding settledOf isSettled
-  settled-there p h t d = there places p h (and-both (taken (book .row) p) (not (among p (book .doubtful))) t (ap not d))
-
   pub settled-only : (s : Node) → List·Memᴰ s (settledOf book)
       → (p : ℕ) × (p < places) × (taken (book .row) p ≡ true) × (among p (book .doubtful) ≡ false) × (s ≡ settledAt book p)
   unfolding settledOf isSettled
@@ -85,6 +80,11 @@ module _ (book : Book) where
       let a = taken (book .row) (r .0) in
       let b = among (r .0) (book .doubtful) in
       (r .0, r .1, and-left a (not b) (r .2), not-true b (and-right a (not b) (r .2)), r .3)
+
+  pub settled-there : (p : ℕ) → p < places → taken (book .row) p ≡ true → among p (book .doubtful) ≡ false
+      → List·Memᴰ (settledAt book p) (settledOf book)
+  unfolding settledOf isSettled
+  settled-there p h t d = there places p h (and-both (taken (book .row) p) (not (among p (book .doubtful))) t (ap not d))
 
 -- ---- the row in its own order
 

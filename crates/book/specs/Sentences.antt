@@ -1,6 +1,7 @@
 -- Document 01's sentences about the book of a session, each a theorem of the book.
 --
 --   opening-accepts, opening-only   opening accepts rates 39 and 49 with every strictly rising list of at most 8 places, none above 63, and nothing else
+--   Reads book bytes, reading-least   reading into 82 bytes shows the least Q through the row's settled places
 --   IsNear book T m      the codeword of the message m is near: it differs from some test word in at most T places
 --   Dearer book m n      the codeword of n has a larger total than that of m, or an equal total and n is the larger message
 --   IsAnswer book T c    the message of a near codeword, every other near codeword is dearer, and the report is that message's
@@ -8,10 +9,12 @@
 --   closing-early        into buffers of the right sizes it is early exactly when a place is missing
 --   closing-none-near    with none missing it says 'none near' exactly when no codeword is near
 --   closing-answer       otherwise it gives the answer
+--   Closes book T c, closes   the three together
 --   Agree a b            equal rates, equal lists, and rows that agree as sets: each place has the same column in both, or none in either
 --   reading-alike, closing-alike    such books read and close alike
---   refused-lent, refused-after     a refused call leaves its buffers, and the book, as they were
+--   write-kept, refused-lent, refused-after   a refused call leaves its buffers, and the book, as they were
 --   only-delivery        only an accepted delivery changes the book
+--   rate-held, list-held a list of calls leaves the rate and the doubtful list as they were given at opening
 --   deliveries entries   the entries as deliveries
 --   capture-opens        opening an accepted capture counts as opening with its rate and list and then delivering its records in their order
 use mathlib.Core.Bool.{Bool, true, false, _||_}
@@ -19,11 +22,11 @@ use mathlib.Core.Path.{_≡_, refl, sym, ap, _∙_, subst}
 use mathlib.Core.List.{List, [], _∷_, List·Memᴰ, List·Memᴰ·cases-cons, List·Memᴰ·not-nil}
 use mathlib.Core.Logic.{_↔_, _≢_, _⊎_, inl, inr, ⊎-elim}
 use mathlib.Core.Option.{Option, none, some}
-use Prim.Native.Nat.{ℕ, zero, suc, _<_, _≤_}
+use Prim.Native.Nat.{ℕ, zero, suc, _+_, _<_, _≤_}
 use native.Mathlib.Decide.{decLt}
 use native.Mathlib.Omega.{arith}
 use lib.Dec.{T as Holds, eqb, leb→le, le→leb}
-use lib.ListN.{length}
+use lib.ListN.{length, getD}
 use borrow.Author.Tests.{eqb-true, eqb-false}
 use Rattle.refusals.specs.Refusal.{accepted, wrongSize, placeMissing, noneNear}
 use Rattle.lists.specs.Words.{Word, Lex}
@@ -31,8 +34,13 @@ use Rattle.lists.specs.Answers.{Answers, nobody, best, cheaper, earlier, NoWors
 use Rattle.soft.specs.TestWord.{testWords}
 use Rattle.soft.specs.Total.{totalOf, differing}
 use Rattle.code.specs.Encoding.{encodeOf}
-use Rattle.near.specs.Near.{reachOf, nearTo, near, messageCost, answerOf}
+use Rattle.hermitian.specs.Keys.{Term, plain, timesZ, key}
+use Rattle.near.specs.Near.{mOf, reachOf, nearTo, near, messageCost, answerOf}
 use Rattle.near.specs.Laws.{near-cons, near-member, near-answers}
+use Rattle.interpolant.specs.LeastQ.{coefficient}
+use Rattle.interpolant.specs.Meaning.{IsLeastQ}
+use Rattle.interpolant.specs.Least.{leastQ-some}
+use Rattle.interpolant.specs.Reading.{reading-size, reading-plain, reading-z}
 use Rattle.book.specs.Book.{places, Entry, Book, newBook, columnOf, taken, someMissing, Outcome}
 use Rattle.book.specs.Opening.{knownRate, fitDoubt, refusedOpening, openOf}
 use Rattle.book.specs.Delivery.{withEntry, deliverOf}
@@ -40,8 +48,8 @@ use Rattle.book.specs.Capture.{captureLength}
 use Rattle.book.specs.Writing.{Filled, writeOf}
 use Rattle.book.specs.Columns.{columnsOf, taken-alike, missing-alike, columns-alike}
 use Rattle.book.specs.Entries.{Missing, missing-there, missing-none}
-use Rattle.book.specs.Reading.{isSettled, settledAt, settledBelow, settledOf, readOf}
-use Rattle.book.specs.ReadingLaws.{read-kept}
+use Rattle.book.specs.Reading.{readingLength, isSettled, settledAt, settledBelow, settledOf, readOf}
+use Rattle.book.specs.ReadingLaws.{read-accepted, read-kept}
 use Rattle.book.specs.Closing.{reportLength, Closed, refusedClosing, reportFor, decodeOf, closingFits, closeOf}
 use Rattle.book.specs.ClosingLaws.{refused-number, fits-both, fits-of, close-size, close-missing, close-decoded, close-kept, decode-none, decode-some}
 use Rattle.book.specs.CaptureOpening.{deliverRow, rateIn, listIn, recordsIn, openCaptureOf}
@@ -66,6 +74,33 @@ opening-only rate list n = go (knownRate rate) refl (fitDoubt list) refl
     go false e b f = absurd (omega (arith, sym (ap (λ (o : Outcome). o .number) (open-refused-rate rate list e)) ∙ n))
     go true e false f = absurd (omega (arith, sym (ap (λ (o : Outcome). o .number) (open-refused-list rate list e f)) ∙ n))
     go true e true f = (known-rate rate e, fits-list list f)
+
+-- ---- 'the 82 bytes of the least Q for the row's settled places'
+
+pub record Reads (book : Book) (bytes : List ℕ) : Type 0 where
+  pub q : List ℕ
+  pub highest : Term
+  pub least : IsLeastQ (mOf (book .rate)) (settledOf book) q highest
+  pub size : length bytes ≡ readingLength
+  pub without-z : (o : ℕ) → o ≤ 64 → getD bytes o 0 ≡ coefficient q (key (mOf (book .rate)) (plain o))
+  pub with-z : (o : ℕ) → o ≤ 16 → getD bytes (65 + o) 0 ≡ coefficient q (key (mOf (book .rate)) (timesZ o))
+
+pub reading-least : (book : Book) (out : List ℕ) → length out ≡ readingLength → (readOf book out .number ≡ accepted) × Reads book (readOf book out .bytes)
+reading-least book out h =
+    let M = mOf (book .rate) in
+    let a = read-accepted book out h in
+    let l = leastQ-some M (settledOf book) in (
+      ap (λ (f : Filled). f .number) a,
+      subst (λ (f : Filled). Reads book (f .bytes)) (sym a)
+          (record {
+            q = l .0;
+            highest = l .1;
+            least = l .4;
+            size = reading-size M (settledOf book);
+            without-z = reading-plain M (settledOf book) (l .2);
+            with-z = reading-z M (settledOf book) (l .2);
+          }),
+    )
 
 -- ---- closing
 
@@ -207,6 +242,21 @@ module _ (book : Book) (message report : List ℕ) where
       pub closing-answer : closeOf book message report .number ≢ noneNear → IsAnswer book T (closeOf book message report)
       closing-answer n = ⊎-elim (λ r. absurd (n (r .0))) (λ r. r) (decoded all-taken)
 
+-- the three sentences of what closing answers
+pub record Closes (book : Book) (T : ℕ) (c : Closed) : Type 0 where
+  pub early : (c .number ≡ placeMissing) ↔ ((p : ℕ) × Missing (book .row) p)
+  pub none-near : ((p : ℕ) → Missing (book .row) p → ⊥) → (c .number ≡ noneNear) ↔ ((m : List ℕ) → IsNear book T m → ⊥)
+  pub otherwise : ((p : ℕ) → Missing (book .row) p → ⊥) → c .number ≢ noneNear → IsAnswer book T c
+
+pub closes : {book : Book} {T : ℕ} → Rate (book .rate) T → (message report : List ℕ) → length message ≡ book .rate → length report ≡ reportLength
+    → Closes book T (closeOf book message report)
+closes {book} rate message report long eight =
+    record {
+      early = closing-early book message report long eight rate;
+      none-near = closing-none-near book message report long eight rate;
+      otherwise = closing-answer book message report long eight rate;
+    }
+
 -- ---- 'Two sessions … that agree in rate, doubtful list, places taken and the columns held for these read and close alike.'
 
 pub record Agree (a b : Book) : Type 0 where
@@ -237,7 +287,7 @@ module _ {a b : Book} (same : Agree a b) where
 -- ---- 'Only an accepted delivery changes the book. A refused call leaves its buffers as they were.'
 
 module _ (book : Book) where
-  write-kept : (out : List ℕ) → writeOf book out .number ≢ accepted → writeOf book out .bytes ≡ out
+  pub write-kept : (out : List ℕ) → writeOf book out .number ≢ accepted → writeOf book out .bytes ≡ out
   write-kept out n = go (eqb (length out) (captureLength (length (book .doubtful)))) refl (someMissing (book .row)) refl
     where
       size : ℕ
@@ -291,6 +341,38 @@ module _ (book : Book) where
   only-delivery (reading out) = inl refl
   only-delivery (writing out) = inl refl
   only-delivery (closing message report) = inl refl
+
+-- ---- 'It holds the rate and doubtful list given at opening'
+
+deliver-held : (book : Book) (p : ℕ) (column : List ℕ)
+    → (deliverOf book p column .book .rate ≡ book .rate) × (deliverOf book p column .book .doubtful ≡ book .doubtful)
+unfolding withEntry
+deliver-held book p column = go (decLt p places) (taken (book .row) p) refl
+  where
+    Held : Book → Type 0
+    Held b = (b .rate ≡ book .rate) × (b .doubtful ≡ book .doubtful)
+
+    go : Dec (p < places) → (t : Bool) → taken (book .row) p ≡ t → Held (deliverOf book p column .book)
+    go (yes h) true e = rw (deliver-taken book p column h e) (refl, refl)
+    go (yes h) false e = rw (deliver-accepted book p column h e) (refl, refl)
+    go (no h) t e = rw (deliver-above book p column (omega arith)) (refl, refl)
+
+held : (book : Book) (call : Call) → (after book call .rate ≡ book .rate) × (after book call .doubtful ≡ book .doubtful)
+unfolding after
+held book (deliver p column) = deliver-held book p column
+held book (reading out) = (refl, refl)
+held book (writing out) = (refl, refl)
+held book (closing message report) = (refl, refl)
+
+pub rate-held : (book : Book) (calls : List Call) → afterAll book calls .rate ≡ book .rate
+unfolding afterAll
+rate-held book [] = refl
+rate-held book (call ∷ calls) = rate-held (after book call) calls ∙ held book call .0
+
+pub list-held : (book : Book) (calls : List Call) → afterAll book calls .doubtful ≡ book .doubtful
+unfolding afterAll
+list-held book [] = refl
+list-held book (call ∷ calls) = list-held (after book call) calls ∙ held book call .1
 
 -- ---- 'opening an accepted capture counts as opening with its rate and list and then delivering its records in their order'
 
