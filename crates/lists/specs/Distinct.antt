@@ -6,13 +6,14 @@
 --   among-append, distinct-snoc, distinct-before, below-append     of a longer list
 --   below-take, below-drop                        of a part
 --   among-at, below-at                            what stands at an index is among them, and is below n
+--   among-member                                  a member is among them
 --   distinct-le      distinct numbers that are all among others are no more than those
 --   distinct-bound   distinct numbers below n are at most n
 --   distinct-all     n distinct numbers below n are all of them
 --   distinct-every   so of distinct numbers below n all are among them exactly if there are n
 use mathlib.Core.Bool.{Bool, true, false, cond, not, _&&_, _||_, false≢true}
 use mathlib.Core.Path.{_≡_, refl, sym, ap, ap₂, _∙_, subst}
-use mathlib.Core.List.{List, [], _∷_, _++_}
+use mathlib.Core.List.{List, [], _∷_, _++_, List·Memᴰ, List·Memᴰ·head, List·Memᴰ·tail}
 use mathlib.Core.Logic.{⊎-elim}
 use Prim.Native.Nat.{ℕ, zero, suc, _<_, _≤_}
 use native.Mathlib.Nat.{eq-or-lt-of-le, le-of-suc-le-suc}
@@ -154,6 +155,11 @@ unfolding among
 among-at [] i h = absurd (omega arith)
 among-at (x ∷ l) zero h = ap (λ b. b || among x l) (eq-eqb x x refl)
 among-at (x ∷ l) (suc i) h = or-right (eqb x (getD l i 0)) (among (getD l i 0) l) (among-at l i (le-of-suc-le-suc h))
+
+pub among-member : {p : ℕ} {l : List ℕ} → List·Memᴰ p l → among p l ≡ true
+unfolding among
+among-member {p} (List·Memᴰ·head {x = x} {xs = l} e) = ap (λ b. b || among p l) (eq-eqb x p (sym e))
+among-member {p} (List·Memᴰ·tail {x = x} {xs = l} m) = or-right (eqb x p) (among p l) (among-member m)
 
 pub below-at : (n : ℕ) (l : List ℕ) (i : ℕ) → below n l ≡ true → i < length l → getD l i 0 < n
 below-at n [] i e h = absurd (omega arith)

@@ -1,9 +1,8 @@
 -- Why a basis up to the limit decides a test word: what is near it is found by division, and a basis without a row means that nothing is.
 --
---   Placed sample at     `at p z` names the sample at place p with the symbol z
---   samplesOf word       the 64 samples of a word
+--   nodesOf word         the 64 nodes of a word: each place with the word's symbol
 --   limitOf k            2(T + g + M) + 1: the largest key that decoding needs
---   near-spent           where every class is spent, at some samples of the word only, no codeword is within T of it
+--   near-spent           where every class is spent, at some nodes of the word only, no codeword is within T of it
 --   held-small           the orders of a row that is not spent: up to T + g + M without z, and up to T + g with z
 --   near-lead            where a codeword is within T of the word, a row through it that is not spent has terms with z,
 --   near-divides         and gives that codeword's message by division
@@ -22,7 +21,7 @@ use Rattle.algebra.specs.Subspace.{common-fewer}
 use Rattle.algebra.specs.Koetter.{Basis}
 use Rattle.algebra.specs.Least.{all-spent}
 use Rattle.algebra.specs.Distance as Distance
-use Rattle.galois.specs.Field16.{GF, K16, toF}
+use Rattle.galois.specs.Field16.{GF, K16}
 use Rattle.hermitian.specs.Present.{genus}
 use Rattle.hermitian.specs.Value.{Curve, Val}
 use Rattle.hermitian.specs.Points.{Points}
@@ -30,22 +29,17 @@ use Rattle.hermitian.specs.Decoding.{Radius, Near, Small, decoding-lead}
 use Rattle.hermitian.specs.Division.{quotient, repaired}
 use Rattle.hermitian.specs.Keys.{plain, timesZ, IsKey, isKey}
 use Rattle.hermitian.specs.Interpolant.{Interpolant, withoutZ, withZ, fn-withoutZ, fn-withZ, below-withoutZ, below-withZ, interpolant-lead}
-use Rattle.hermitian.specs.Interpolation.{Sample, Through}
 use Rattle.hermitian.specs.Repair.{limit, xAt, yAt, zAt, through-passes, near-held}
 use Rattle.code.specs.Bridge.{px, py}
+use Rattle.code.specs.Nodes.{Node, node, sampleAt, ThroughNodes}
 use Rattle.near.specs.Near.{mOf, reachOf, nearTo}
 use Rattle.near.specs.Reach.{Workable, radius}
 use Rattle.near.specs.Places.{points}
-use Rattle.near.specs.Codeword.{symbolsOf, symbolsOf-at, functionOf, messageFrom, messageFrom-function, near-function}
+use Rattle.near.specs.Codeword.{symbolsOf, functionOf, messageFrom, messageFrom-function, near-function}
 open Field K16 using (𝟘)
 
 unfoldable pub limitOf : ℕ → ℕ
 limitOf k = limit 4 (mOf k) (reachOf k)
-
-pub record Placed {P : Type 0} (sample : P → Sample K16 4) (at : ℕ → ℕ → P) : Type 0 where
-  pub x-at : (p z : ℕ) → sample (at p z) .x ≡ px p
-  pub y-at : (p z : ℕ) → sample (at p z) .y ≡ py p
-  pub z-at : (p z : ℕ) → sample (at p z) .z ≡ toF z
 
 pub held-small : (k : ℕ) {c : ℕ → GF} {l : ℕ} → Interpolant K16 4 (mOf k) c → Lead K16 c l → l ≤ limitOf k
     → Small K16 4 (mOf k) (reachOf k + genus 4) (withoutZ K16 c) (withZ K16 (mOf k) c)
@@ -58,49 +52,48 @@ held-small k q leads unspent =
       order-withZ = below-withZ K16 4 (mOf k) (suc (reachOf k + genus 4)) (omega arith) (leads .above);
     }
 
-module _ {P : Type 0} (sample : P → Sample K16 4) (at : ℕ → ℕ → P) (placed : Placed sample at) (word : List ℕ) where
-  -- the sample of a place
-  abbrev pub sampleOf : ℕ → P
-  sampleOf p = at p (getD word p 0)
+unfoldable pub nodeOf : List ℕ → ℕ → Node
+nodeOf word p = node p (getD word p 0)
 
-  unfoldable pub samplesOf : List P
-  samplesOf = listed 64 sampleOf
+unfoldable pub nodesOf : List ℕ → List Node
+nodesOf word = listed 64 (nodeOf word)
 
-  size : length samplesOf ≡ 64
-  unfolding samplesOf
-  size = listed-length 64 sampleOf
+module _ (word : List ℕ) where
+  size : length (nodesOf word) ≡ 64
+  unfolding nodesOf
+  size = listed-length 64 (nodeOf word)
 
-  d : P
-  d = at 0 0
+  d : Node
+  d = node 0 0
 
-  there : (i : ℕ) → i < 64 → getD samplesOf i d ≡ sampleOf i
-  unfolding samplesOf
-  there i h = listed-at 64 i sampleOf d h
+  there : (i : ℕ) → i < 64 → getD (nodesOf word) i d ≡ node i (getD word i 0)
+  unfolding nodesOf nodeOf
+  there i h = listed-at 64 i (nodeOf word) d h
 
   module _ {k : ℕ} (rate : Workable k) where
     X : ℕ → GF
-    X = xAt K16 4 (mOf k) sample d samplesOf
+    X = xAt K16 4 (mOf k) sampleAt d (nodesOf word)
 
     Y : ℕ → GF
-    Y = yAt K16 4 (mOf k) sample d samplesOf
+    Y = yAt K16 4 (mOf k) sampleAt d (nodesOf word)
 
     Z : ℕ → GF
-    Z = zAt K16 4 (mOf k) sample d samplesOf
+    Z = zAt K16 4 (mOf k) sampleAt d (nodesOf word)
 
     x-here : (i : ℕ) → i < 64 → X i ≡ px i
     unfolding X
-    x-here i h = ap (λ q. sample q .x) (there i h) ∙ placed .x-at i (getD word i 0)
+    x-here i h = ap (λ n. sampleAt n .x) (there i h)
 
     y-here : (i : ℕ) → i < 64 → Y i ≡ py i
     unfolding Y
-    y-here i h = ap (λ q. sample q .y) (there i h) ∙ placed .y-at i (getD word i 0)
+    y-here i h = ap (λ n. sampleAt n .y) (there i h)
 
     z-here : (i : ℕ) → i < 64 → Z i ≡ symbolsOf word i
-    unfolding Z
-    z-here i h = ap (λ q. sample q .z) (there i h) ∙ placed .z-at i (getD word i 0) ∙ sym (symbolsOf-at word i)
+    unfolding Z symbolsOf
+    z-here i h = ap (λ n. sampleAt n .z) (there i h)
 
-    sampled-points : Points K16 4 (length samplesOf) X Y
-    sampled-points =
+    word-points : Points K16 4 (length (nodesOf word)) X Y
+    word-points =
         subst (λ n. Points K16 4 n X Y) (sym size)
         (record {
           on = λ i h. subst₂ (λ x y. Curve K16 4 x y) (sym (x-here i h)) (sym (y-here i h)) (points .on i h);
@@ -109,8 +102,8 @@ module _ {P : Type 0} (sample : P → Sample K16 4) (at : ℕ → ℕ → P) (pl
               points .distinct i j l h (sym (x-here i hi) ∙ ex ∙ x-here j h) (sym (y-here i hi) ∙ ey ∙ y-here j h);
         })
 
-    sampled-near : (m : List ℕ) → T (nearTo k word m) → Near K16 4 (mOf k) (reachOf k) (length samplesOf) X Y Z (functionOf k m)
-    sampled-near m t =
+    word-near : (m : List ℕ) → T (nearTo k word m) → Near K16 4 (mOf k) (reachOf k) (length (nodesOf word)) X Y Z (functionOf k m)
+    word-near m t =
         let N = near-function rate word m t in
         subst (λ n. Near K16 4 (mOf k) (reachOf k) n X Y Z (functionOf k m)) (sym size)
         (record {
@@ -123,23 +116,23 @@ module _ {P : Type 0} (sample : P → Sample K16 4) (at : ℕ → ℕ → P) (pl
               (arith, N .few, Distance.differing-ext K16 64 (N .value) Z (N .value) (symbolsOf word) (λ i h. refl) z-here);
         })
 
-    -- at some samples of the word only, since what vanishes at all of them vanishes there
-    pub near-spent : {G : ℕ → ℕ → GF} {l : ℕ → ℕ} (ns : List P) → ((n : P) → List·Memᴰ n ns → List·Memᴰ n samplesOf)
-        → Basis K16 8 (limitOf k) (Through K16 4 (mOf k) sample ns) G l → ((r : ℕ) → r < 8 → limitOf k < l r)
+    -- at some nodes of the word only, since what vanishes at all of them vanishes there
+    pub near-spent : {G : ℕ → ℕ → GF} {l : ℕ → ℕ} (ns : List Node) → ((n : Node) → List·Memᴰ n ns → List·Memᴰ n (nodesOf word))
+        → Basis K16 8 (limitOf k) (ThroughNodes (mOf k) ns) G l → ((r : ℕ) → r < 8 → limitOf k < l r)
         → (m : List ℕ) → T (nearTo k word m) → ⊥
     unfolding limitOf X Y Z d
     near-spent ns some B spent m t =
-        let h = near-held K16 4 (mOf k) sample d samplesOf (omega arith) sampled-points (sampled-near m t) in
+        let h = near-held K16 4 (mOf k) sampleAt d (nodesOf word) (omega arith) word-points (word-near m t) in
         omega (arith, h .4, all-spent K16 B (omega arith) spent (common-fewer K16 some (h .0) (h .2)) (h .3))
 
-    module _ {c : ℕ → GF} {l : ℕ} (through : Through K16 4 (mOf k) sample samplesOf c) (leads : Lead K16 c l) (unspent : l ≤ limitOf k)
+    module _ {c : ℕ → GF} {l : ℕ} (through : ThroughNodes (mOf k) (nodesOf word) c) (leads : Lead K16 c l) (unspent : l ≤ limitOf k)
         (m : List ℕ) where
       pub near-lead : T (nearTo k word m) → (j : ℕ) × Lead K16 (withZ K16 (mOf k) c) j
       unfolding X Y Z d
       near-lead t =
           let h =
-          decoding-lead K16 4 (omega arith) sampled-points (sampled-near m t) (subst (Radius 4 (mOf k) (reachOf k)) (sym size) (radius rate))
-          (held-small k (through .member) leads unspent) (through-passes K16 4 (mOf k) sample d samplesOf through)
+          decoding-lead K16 4 (omega arith) word-points (word-near m t) (subst (Radius 4 (mOf k) (reachOf k)) (sym size) (radius rate))
+          (held-small k (through .member) leads unspent) (through-passes K16 4 (mOf k) sampleAt d (nodesOf word) through)
           (λ z. leads .ne (zero-at z (interpolant-lead K16 4 (mOf k) (through .member) leads))) in
           (h .0, h .2)
         where
@@ -152,6 +145,6 @@ module _ {P : Type 0} (sample : P → Sample K16 4) (at : ℕ → ℕ → P) (pl
       unfolding X Y Z d
       near-divides {j} lead f =
           ap (messageFrom k)
-          (repaired K16 4 (omega arith) sampled-points (sampled-near m (f .passed)) (subst (Radius 4 (mOf k) (reachOf k)) (sym size) (radius rate))
-          (held-small k (through .member) leads unspent) (through-passes K16 4 (mOf k) sample d samplesOf through) lead)
+          (repaired K16 4 (omega arith) word-points (word-near m (f .passed)) (subst (Radius 4 (mOf k) (reachOf k)) (sym size) (radius rate))
+          (held-small k (through .member) leads unspent) (through-passes K16 4 (mOf k) sampleAt d (nodesOf word) through) lead)
           ∙ messageFrom-function (f .word)

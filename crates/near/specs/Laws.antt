@@ -6,7 +6,6 @@
 --   answer-append       the answer of two lists is the better of their answers
 --   answer-one          the answer of one test word is the message within T of it, whatever the costs
 --   answer-none, codeword-none   where no codeword is near
---   expand-nil, expand-cons   the tree of test words, level by level
 --   tests-leaf, tests-branch, answer-leaf, answer-branch   count and answer of the tree
 use mathlib.Core.Bool.{Bool, true, false, _||_}
 use mathlib.Core.Path.{_≡_, refl, sym, ap, ap₂, _∙_, subst}
@@ -20,6 +19,7 @@ use lib.ListN.{set}
 use Rattle.lists.specs.Count.{bit}
 use Rattle.lists.specs.Answers.{Answers, Found, answers-unique, answers-iff, answers-single, nobody, better, better-answers, free, firstThat-words, firstThat-none, cheapest-words}
 use Rattle.soft.specs.TestWord.{bestAt, secondAt, expand}
+use Rattle.soft.specs.TestWordLaws.{expand-nil, expand-cons}
 use Rattle.near.specs.Near.{nearTo, codewordNear, near, isSome, testsNear, messageCost, answerOf}
 use Rattle.near.specs.Reach.{Workable}
 use Rattle.near.specs.Codeword.{near-one}
@@ -139,28 +139,19 @@ tests-none k (t ∷ ts) h =
 -- ---- the tree
 
 module _ (columns : ℕ → List ℕ) (word : List ℕ) where
-  pub expand-nil : expand columns word [] ≡ word ∷ []
-  unfolding expand
-  expand-nil = refl
-
-  pub expand-cons : (p : ℕ) (ps : List ℕ)
-      → expand columns word (p ∷ ps) ≡ expand columns (set word p (bestAt columns p)) ps ++ expand columns (set word p (secondAt columns p)) ps
-  unfolding expand
-  expand-cons p ps = refl
-
   pub tests-leaf : (k : ℕ) → testsNear k (expand columns word []) ≡ bit (isSome (codewordNear k word))
-  tests-leaf k = ap (testsNear k) expand-nil ∙ tests-cons k word [] ∙ omega (arith, tests-nil k)
+  tests-leaf k = ap (testsNear k) (expand-nil columns word) ∙ tests-cons k word [] ∙ omega (arith, tests-nil k)
 
   pub answer-leaf : {k : ℕ} → Workable k → answerOf k columns (expand columns word []) ≡ codewordNear k word
-  answer-leaf {k} rate = ap (answerOf k columns) expand-nil ∙ answer-one rate columns word
+  answer-leaf {k} rate = ap (answerOf k columns) (expand-nil columns word) ∙ answer-one rate columns word
 
   pub tests-branch : (k p : ℕ) (ps : List ℕ)
       → testsNear k (expand columns word (p ∷ ps))
       ≡ testsNear k (expand columns (set word p (bestAt columns p)) ps) + testsNear k (expand columns (set word p (secondAt columns p)) ps)
-  tests-branch k p ps = ap (testsNear k) (expand-cons p ps) ∙ tests-append k _ _
+  tests-branch k p ps = ap (testsNear k) (expand-cons columns word p ps) ∙ tests-append k _ _
 
   pub answer-branch : (k p : ℕ) (ps : List ℕ)
       → answerOf k columns (expand columns word (p ∷ ps))
       ≡ better (messageCost k columns) (answerOf k columns (expand columns (set word p (bestAt columns p)) ps))
       (answerOf k columns (expand columns (set word p (secondAt columns p)) ps))
-  answer-branch k p ps = ap (answerOf k columns) (expand-cons p ps) ∙ answer-append k columns _ _
+  answer-branch k p ps = ap (answerOf k columns) (expand-cons columns word p ps) ∙ answer-append k columns _ _

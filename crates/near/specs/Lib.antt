@@ -5,3 +5,4 @@ pub mod Codeword
 pub mod Laws
 pub mod Interpolated
 pub mod Distance
+pub mod Tree
