@@ -12,7 +12,7 @@ use Rattle.galois.specs.Gf16.{times, inverse}
 use Rattle.galois.specs.Field16.{GF, K16, toF, toF-times, toF-zero}
 use Rattle.basis.specs.Rows.{coef, raise}
 use Rattle.basis.specs.Step.{rowAt, clearedRow, NextRows}
-open Field K16 using (_⊕_, _⊗_, 𝟘)
+open Field K16 using (_⊕_, _⊗_)
 
 -- what is stored as row k
 abbrev pub Cleared : ℕ → List ℕ → List (List ℕ) → ℕ → List ℕ → Type 0

@@ -1,19 +1,37 @@
 -- What `extend` returns, by the class chosen.
-use mathlib.Core.Path.{_≡_, refl, sym, ap, _∙_, subst}
-use mathlib.Core.List.{List}
-use Prim.Native.Nat.{ℕ, _+_, _<_, _≤_}
+use mathlib.Core.Path.{_≡_, refl, ap, _∙_, sym, subst}
+use mathlib.Core.List.{List, List·Memᴰ·head, List·Memᴰ·tail, List·Memᴰ·cases-cons}
+use Prim.Native.Nat.{ℕ, _≤_, _+_, _<_}
 use native.Mathlib.Omega.{arith}
 use lib.ListN.{length, getD, set, length-set}
 use Rattle.lists.specs.Listed.{listed}
-use Rattle.galois.specs.Field16.{toF}
-use Rattle.code.specs.Curve.{xOf}
+use Rattle.algebra.specs.Subspace.{common-inside, common-more, common-less}
+use Rattle.algebra.specs.Koetter.{basis-same}
+use Rattle.galois.specs.Field16.{K16, toF}
+use Rattle.hermitian.specs.Interpolation.{through-space}
 use Rattle.code.specs.Evaluation.{monomialAt}
 use Rattle.code.specs.Bridge.{px}
+use Rattle.code.specs.Nodes.{node, sampleAt}
+use Rattle.code.specs.Curve.{xOf}
 use Rattle.basis.specs.Rows.{coef, weighed}
 use Rattle.basis.specs.Choice.{leadAt, Chosen, none, one}
 use Rattle.basis.specs.Step.{discrepancyAt, NextRows}
-use Rattle.interpolation.specs.Stepping.{Stepped, same, raised, unspent}
-use Rattle.interpolation.specs.Extending.{Extends, steps-extend}
+use Rattle.interpolation.specs.Extending.{Extends}
+use Rattle.interpolation.proofs.Evaluating.{monomials-of-place}
+use Rattle.interpolation.proofs.Stepping.{Stepped, same, raised, unspent, stepped-basis}
+
+pub steps-extend : (L p z : ℕ) (rows : List (List ℕ)) (leads : List ℕ) (rows′ : List (List ℕ)) (leads′ monomials weights : List ℕ) → L ≤ 127
+    → length leads ≡ 8 → monomials ≡ listed 64 (monomialAt p) → coef weights ≡ weighed (coef monomials) (toF z)
+    → length leads′ ≡ length leads → Stepped (px p) (listed 8 (discrepancyAt L leads rows weights)) rows leads rows′ leads′
+    → Extends L p z rows leads rows′ leads′
+steps-extend L p z rows leads rows′ leads′ monomials weights small eight known weighted l s =
+    record {
+      as-long = l;
+      basis = λ M large ns B.
+          basis-same K16 8 L (common-more K16 (λ q m. List·Memᴰ·cases-cons m)) (common-less K16 (List·Memᴰ·head refl) (λ q m. List·Memᴰ·tail m))
+          (stepped-basis L rows leads weights M large small (sampleAt (node p z)) (coef monomials) (monomials-of-place p z monomials known)
+          (through-space K16 4 M (omega arith) sampleAt ns) (common-inside K16 ns) eight weighted B rows′ leads′ s);
+    }
 
 module _ (L : ℕ) (rows : List (List ℕ)) (leads weights ds : List ℕ) (at : ℕ) (e : ds ≡ listed 8 (discrepancyAt L leads rows weights))
     (chosen : Chosen 8 ds leads at) where

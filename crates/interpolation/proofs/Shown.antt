@@ -16,10 +16,10 @@ use Rattle.hermitian.specs.Frobenius.{frobenius}
 use Rattle.hermitian.specs.Keys.{key}
 use Rattle.basis.specs.Rows.{coef, coef-at, value-times-toF}
 use Rattle.basis.specs.Choice.{Chosen, none, one}
-use Rattle.interpolation.specs.Polynomial.{polynomial, gap-polynomial, at-plain, at-plain-out, at-z}
-use Rattle.interpolation.specs.Reading.{Lowest}
 use Rattle.interpolant.specs.LeastQ.{byteKey}
 use Rattle.interpolant.specs.Reading.{byteKey-plain, byteKey-z, byteOf}
+use Rattle.interpolation.specs.Polynomial.{polynomial, gap-polynomial, at-plain, at-plain-out, at-z}
+use Rattle.interpolation.specs.Reading.{Lowest}
 open Field K16 using (_⊕_, _⊗_, 𝟘, 𝟙)
 
 -- ---- the coefficient at a key

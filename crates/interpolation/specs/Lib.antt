@@ -1,5 +1,4 @@
 pub mod Polynomial
-pub mod Stepping
 pub mod Start
 pub mod Extending
 pub mod Settled

@@ -1,35 +1,31 @@
 -- A row by position as a polynomial Q0 + Q1 z on keys.
 --
---   part from n c      the n coefficients of c from a position on, as a function of the order
---   polynomial M c     the polynomial on keys of the row c: 64 coefficients without z by order, then 32 with z by order
+--   part from n c        the n coefficients of c from a position on, as a function of the order
+--   polynomial M c       the polynomial on keys of the row c: 64 coefficients without z by order, then 32 with z by order
+--   polynomials M rows   those of the rows of a basis, by class
+--   part-in, part-out, part-below   the coefficients of a part
+--   polynomial-plain, polynomial-z, gap-polynomial   Q0 and Q1 are the parts; keys that are odd and too small for a term with z hold zero
 --   at-plain, at-plain-out, at-z   its coefficients, one by one
---   part-plus-scale, polynomial-plus-scale   a row and a multiple of another
---   part-raise, polynomial-raise   x times a row is the shift by 8, where the lead leaves room
---   polynomial-unit-plain, polynomial-unit-z   the row with 𝟙 at one position is one term
---   polynomial-value   the dot product of a row with the values of the terms is the value of its polynomial
-use mathlib.Core.Path.{_≡_, refl, sym, ap, ap₂, _∙_, fun-ext, subst}
-use mathlib.Core.Logic.{_≢_}
-use Prim.Native.Nat.{ℕ, zero, _+_, _-_, _*_, _<_, _≤_}
-use native.Mathlib.Decide.{decLt, decLe, ℕ-discrete}
+use mathlib.Core.Path.{_≡_, ap, _∙_}
+use mathlib.Core.List.{List}
+use Prim.Native.Nat.{ℕ, _+_, _*_, _<_, _≤_}
+use native.Mathlib.Decide.{decLt}
 use native.Mathlib.Omega.{arith}
-use Rattle.algebra.specs.Field.{Field, add-zero, mul-zero, zero-mul, mul-left-comm}
-use Rattle.algebra.specs.Sum.{sum, sum-ext, sum-append, sum-scale}
-use Rattle.algebra.specs.Coefficients.{choose, choose-yes, choose-no, plus, scale, shift, shift-high, shift-low, Below, unit, unit-at, unit-off}
-use Rattle.algebra.specs.Weighted.{weighted-total, weighted-by, weighted-is}
+use Rattle.algebra.specs.Field.{Field}
+use Rattle.algebra.specs.Coefficients.{choose, choose-yes, choose-no, Below}
 use Rattle.galois.specs.Field16.{GF, K16}
-use Rattle.hermitian.specs.Present.{Present, decPresent}
-use Rattle.hermitian.specs.Ring.{Fn}
-use Rattle.hermitian.specs.Value.{monomial, Val}
-use Rattle.hermitian.specs.Interpolant.{Interpolant, withoutZ, withZ, joined, without-joined, with-joined, Gap, gap-joined, parts-ext, joined-plus, joined-scale, joined-shift, below-withoutZ, below-withZ, fn-withoutZ, fn-withZ}
-use Rattle.hermitian.specs.Interpolation.{Sample, Value}
-use Rattle.basis.specs.Rows.{dot, raise, raise-first, raise-plain, raise-seam, raise-z, weighed, weighed-plain, weighed-z}
-open Field K16 using (_⊕_, _⊗_, 𝟘, 𝟙)
+use Rattle.hermitian.specs.Interpolant.{withoutZ, withZ, joined, without-joined, with-joined, Gap, gap-joined}
+use Rattle.basis.specs.Step.{rowAt}
+open Field K16 using (𝟘)
 
 unfoldable pub part : ℕ → ℕ → (ℕ → GF) → ℕ → GF
 part from n c o = choose (decLt o n) (c (from + o)) 𝟘
 
 unfoldable pub polynomial : ℕ → (ℕ → GF) → ℕ → GF
 polynomial M c = joined K16 M (part 0 64 c) (part 64 32 c)
+
+unfoldable pub polynomials : ℕ → List (List ℕ) → ℕ → ℕ → GF
+polynomials M rows r = polynomial M (rowAt rows r)
 
 module _ (from n : ℕ) where
   pub part-in : (c : ℕ → GF) (o : ℕ) → o < n → part from n c o ≡ c (from + o)
@@ -42,38 +38,6 @@ module _ (from n : ℕ) where
 
   pub part-below : (c : ℕ → GF) → Below K16 (part from n c) n
   part-below c = record { zero-from = part-out c }
-
-  -- equal where c has entries
-  pub part-ext : (c f : ℕ → GF) → ((o : ℕ) → o < n → c (from + o) ≡ f o) → ((o : ℕ) → n ≤ o → f o ≡ 𝟘) → part from n c ≡ f
-  part-ext c f p q = fun-ext (λ o. go o (decLt o n))
-    where
-      go : (o : ℕ) → Dec (o < n) → part from n c o ≡ f o
-      go o (yes h) = part-in c o h ∙ p o h
-      go o (no h) = part-out c o (omega arith) ∙ sym (q o (omega arith))
-
-  pub part-plus-scale : (c d : ℕ → GF) (a : GF) → part from n (plus K16 c (scale K16 a d)) ≡ plus K16 (part from n c) (scale K16 a (part from n d))
-  part-plus-scale c d a =
-      part-ext _ _ (λ o h. ap₂ (λ x y. x ⊕ a ⊗ y) (sym (part-in c o h)) (sym (part-in d o h)))
-      (λ o h. ap₂ (λ x y. x ⊕ a ⊗ y) (part-out c o h) (part-out d o h) ∙ ap (λ x. 𝟘 ⊕ x) (mul-zero K16 a) ∙ add-zero K16 𝟘)
-
-  -- where a row is moved up by four positions and the last four were zero, its part is shifted
-  pub part-raise : (c d : ℕ → GF) → ((o : ℕ) → o < n → o < 4 → d (from + o) ≡ 𝟘) → ((o : ℕ) → o < n → 4 ≤ o → d (from + o) ≡ c (from + (o - 4)))
-      → Below K16 (part from n c) (n - 4) → part from n d ≡ shift K16 4 (part from n c)
-  part-raise c d first rest b = part-ext d _ inside outside
-    where
-      inside : (o : ℕ) → o < n → d (from + o) ≡ shift K16 4 (part from n c) o
-      inside o h = go (decLe 4 o)
-        where
-          go : Dec (4 ≤ o) → d (from + o) ≡ shift K16 4 (part from n c) o
-          go (yes l) = rest o h l ∙ sym (shift-high K16 4 o (part from n c) l ∙ part-in c (o - 4) (omega arith))
-          go (no l) = first o h (omega arith) ∙ sym (shift-low K16 4 o (part from n c) (omega arith))
-
-      outside : (o : ℕ) → n ≤ o → shift K16 4 (part from n c) o ≡ 𝟘
-      outside o h = go (decLe 4 o)
-        where
-          go : Dec (4 ≤ o) → shift K16 4 (part from n c) o ≡ 𝟘
-          go (yes l) = shift-high K16 4 o (part from n c) l ∙ b .zero-from (o - 4) (omega arith)
-          go (no l) = shift-low K16 4 o (part from n c) (omega arith)
 
 module _ (M : ℕ) where
   pub polynomial-plain : (c : ℕ → GF) → withoutZ K16 (polynomial M c) ≡ part 0 64 c
@@ -99,114 +63,3 @@ module _ (M : ℕ) where
 
   pub at-z : (c : ℕ → GF) (o : ℕ) → o < 32 → polynomial M c (2 * (o + M) + 1) ≡ c (64 + o)
   at-z c o h = ap (λ f. f o) (polynomial-z c) ∙ part-in 64 32 c o h
-
-  pub polynomial-plus-scale : (c d : ℕ → GF) (a : GF)
-      → polynomial M (plus K16 c (scale K16 a d)) ≡ plus K16 (polynomial M c) (scale K16 a (polynomial M d))
-  unfolding polynomial
-  polynomial-plus-scale c d a =
-      ap₂ (joined K16 M) (part-plus-scale 0 64 c d a) (part-plus-scale 64 32 c d a)
-      ∙ joined-plus K16 M (part 0 64 c) (part 64 32 c) (scale K16 a (part 0 64 d)) (scale K16 a (part 64 32 d))
-      ∙ ap (plus K16 (joined K16 M (part 0 64 c) (part 64 32 c))) (joined-scale K16 M a (part 0 64 d) (part 64 32 d))
-
-  -- keys up to 119 leave room for 8 more: order 60 has key 120, and so has order 28 with z, where M is 32 or more
-  pub polynomial-raise : 32 ≤ M → (c : ℕ → GF) → Below K16 (polynomial M c) 120 → polynomial M (raise c) ≡ shift K16 8 (polynomial M c)
-  unfolding polynomial
-  polynomial-raise h c b =
-      ap₂ (joined K16 M)
-      (part-raise 0 64 c (raise c)
-      (λ o l f. raise-first c (0 + o) (omega arith))
-      (λ o l f. let e : 0 + o - 4 ≡ 0 + (o - 4) = omega arith in raise-plain c (0 + o) (omega arith) (omega arith) ∙ ap c e)
-      (subst (λ f. Below K16 f 60) (without-joined K16 M _ _) (below-withoutZ K16 4 M 60 (omega arith) b)))
-      (part-raise 64 32 c (raise c)
-      (λ o l f. raise-seam c (64 + o) (omega arith) (omega arith))
-      (λ o l f. let e : 64 + o - 4 ≡ 64 + (o - 4) = omega arith in raise-z c (64 + o) (omega arith) (omega arith) ∙ ap c e)
-      (subst (λ f. Below K16 f 28) (with-joined K16 M _ _) (below-withZ K16 4 M 28 (omega arith) b)))
-      ∙ joined-shift K16 M 4 (part 0 64 c) (part 64 32 c)
-
--- the values e of the monomials at the point of the sample p, by order; only present orders count
-pub record Monomials (p : Sample K16 4) (e : ℕ → GF) : Type 0 where
-  pub at : (o : ℕ) → o < 64 → Present 4 o → e o ≡ monomial K16 4 (p .x) (p .y) o
-
-module _ (p : Sample K16 4) (e : ℕ → GF) (known : Monomials p e) where
-  part-value : (from n : ℕ) (c : ℕ → GF) → n ≤ 64 → Fn K16 4 (part from n c)
-      → Val K16 4 (p .x) (p .y) (part from n c) (sum K16 n (λ o. c (from + o) ⊗ e o))
-  part-value from n c l f =
-      weighted-is K16 (sum-ext K16 n _ _ (λ o h. go o h (decPresent 4 o))) (weighted-total K16 (monomial K16 4 (p .x) (p .y)) n (part-below from n c))
-    where
-      go : (o : ℕ) → o < n → Dec (Present 4 o) → part from n c o ⊗ monomial K16 4 (p .x) (p .y) o ≡ c (from + o) ⊗ e o
-      go o h (yes q) = ap₂ (λ x y. x ⊗ y) (part-in from n c o h) (sym (known .at o (omega arith) q))
-      go o h (no q) =
-          let z : part from n c o ≡ 𝟘 = f .absent o q in
-          ap (λ x. x ⊗ monomial K16 4 (p .x) (p .y) o) z ∙ zero-mul K16 _
-          ∙ sym (ap (λ x. x ⊗ e o) (sym (part-in from n c o h) ∙ z) ∙ zero-mul K16 (e o))
-
-  dot-parts : (c : ℕ → GF) (z : GF)
-      → dot c (weighed e z) 96 ≡ sum K16 64 (λ o. c (0 + o) ⊗ e o) ⊕ z ⊗ sum K16 32 (λ o. c (64 + o) ⊗ e o)
-  unfolding dot
-  dot-parts c z =
-      sum-append K16 64 32 (λ i. c i ⊗ weighed e z i)
-      ∙ ap₂ (λ x y. x ⊕ y)
-      (sum-ext K16 64 _ _ (λ o h. let q : o ≡ 0 + o = omega arith in ap₂ (λ i x. c i ⊗ x) q (weighed-plain e z o h)))
-      (sum-ext K16 32 _ _ (λ o h. let q : 64 + o - 64 ≡ o = omega arith in
-      ap (λ x. c (64 + o) ⊗ x) (weighed-z e z (64 + o) (omega arith) (omega arith) ∙ ap (λ i. z ⊗ e i) q) ∙ mul-left-comm K16 _ _ _)
-      ∙ sum-scale K16 32 z (λ o. c (64 + o) ⊗ e o))
-
-  pub polynomial-value : (M : ℕ) (c : ℕ → GF) → Interpolant K16 4 M (polynomial M c)
-      → Value K16 4 M p (polynomial M c) (dot c (weighed e (p .z)) 96)
-  polynomial-value M c q =
-      record {
-        interpolant = q;
-        at0 = _;
-        at1 = _;
-        value0 =
-            weighted-by K16 (polynomial-plain M c)
-            (part-value 0 64 c (omega arith) (subst (Fn K16 4) (polynomial-plain M c) (fn-withoutZ K16 4 M q)));
-        value1 =
-            weighted-by K16 (polynomial-z M c)
-            (part-value 64 32 c (omega arith) (subst (Fn K16 4) (polynomial-z M c) (fn-withZ K16 4 M q)));
-        total = sym (dot-parts c (p .z));
-      }
-
--- ---- one term
-unit-ext : (i : ℕ) (f : ℕ → GF) → f i ≡ 𝟙 → ((k : ℕ) → k ≢ i → f k ≡ 𝟘) → f ≡ unit K16 i
-unit-ext i f p q = fun-ext (λ k. go k (ℕ-discrete k i))
-  where
-    go : (k : ℕ) → Dec (k ≡ i) → f k ≡ unit K16 i k
-    go k (yes e) = ap f e ∙ p ∙ sym (unit-at K16 i) ∙ ap (unit K16 i) (sym e)
-    go k (no e) = q k e ∙ sym (unit-off K16 i k e)
-
--- the part of a unit at a position of it, and of one elsewhere
-part-unit : (from n o : ℕ) → o < n → part from n (unit K16 (from + o)) ≡ unit K16 o
-part-unit from n o h =
-    part-ext from n _ _ (λ k l. go k (ℕ-discrete k o)) (λ k l. unit-off K16 o k (λ (e : k ≡ o). absurd (omega arith)))
-  where
-    go : (k : ℕ) → Dec (k ≡ o) → unit K16 (from + o) (from + k) ≡ unit K16 o k
-    go k (yes e) = ap (λ j. unit K16 (from + o) (from + j)) e ∙ unit-at K16 (from + o) ∙ sym (unit-at K16 o) ∙ ap (unit K16 o) (sym e)
-    go k (no e) = unit-off K16 (from + o) (from + k) (λ (q : from + k ≡ from + o). absurd (omega arith)) ∙ sym (unit-off K16 o k e)
-
-part-other : (from n i : ℕ) → ((o : ℕ) → o < n → from + o ≢ i) → part from n (unit K16 i) ≡ (λ o. 𝟘)
-part-other from n i h = part-ext from n _ _ (λ o l. unit-off K16 i (from + o) (h o l)) (λ o l. refl)
-
--- the parts of one term without z
-without-unit : (o : ℕ) → withoutZ K16 (unit K16 (2 * o)) ≡ unit K16 o
-without-unit o = unit-ext o _ (unit-at K16 (2 * o)) (λ k n. unit-off K16 (2 * o) (2 * k) (λ (e : 2 * k ≡ 2 * o). absurd (omega arith)))
-
-with-unit : (M o : ℕ) → withZ K16 M (unit K16 (2 * o)) ≡ (λ k. 𝟘)
-with-unit M o = fun-ext (λ k. unit-off K16 (2 * o) (2 * (k + M) + 1) (λ (e : 2 * (k + M) + 1 ≡ 2 * o). absurd (omega arith)))
-
-module _ (M : ℕ) where
-  pub polynomial-unit-plain : (o : ℕ) → o < 64 → polynomial M (unit K16 (0 + o)) ≡ unit K16 (2 * o)
-  polynomial-unit-plain o h =
-      parts-ext K16 M (gap-polynomial M _) (λ k l. unit-off K16 (2 * o) (2 * k + 1) (λ (e : 2 * k + 1 ≡ 2 * o). absurd (omega arith)))
-      (polynomial-plain M _ ∙ part-unit 0 64 o h ∙ sym (without-unit o))
-      (polynomial-z M _ ∙ part-other 64 32 (0 + o) (λ k l. omega arith) ∙ sym (with-unit M o))
-
-  pub polynomial-unit-z : (o : ℕ) → o < 32 → polynomial M (unit K16 (64 + o)) ≡ unit K16 (2 * (o + M) + 1)
-  polynomial-unit-z o h =
-      parts-ext K16 M (gap-polynomial M _)
-      (λ k l. unit-off K16 (2 * (o + M) + 1) (2 * k + 1) (λ (e : 2 * k + 1 ≡ 2 * (o + M) + 1). absurd (omega arith)))
-      (polynomial-plain M _ ∙ part-other 0 64 (64 + o) (λ k l. omega arith)
-      ∙ sym (fun-ext (λ k. unit-off K16 (2 * (o + M) + 1) (2 * k) (λ (e : 2 * k ≡ 2 * (o + M) + 1). absurd (omega arith)))))
-      (polynomial-z M _ ∙ part-unit 64 32 o h
-      ∙ sym (unit-ext o _ (unit-at K16 (2 * (o + M) + 1))
-      (λ k n. unit-off K16 (2 * (o + M) + 1) (2 * (k + M) + 1) (λ (e : 2 * (k + M) + 1 ≡ 2 * (o + M) + 1). absurd (omega arith)))))

@@ -5,7 +5,7 @@ ghost use lib.ListN.{length};
 ghost use Rattle.algebra.specs.Koetter.{Basis};
 ghost use Rattle.galois.specs.Field16.{K16};
 ghost use Rattle.basis.specs.Choice.{leadAt};
-ghost use Rattle.interpolation.specs.Stepping.{polynomials};
+ghost use Rattle.interpolation.specs.Polynomial.{polynomials};
 ghost use Rattle.code.specs.Nodes.{ThroughNodes};
 ghost use Rattle.interpolation.specs.Settled.{settled, ExtendsIf};
 use crate::PLACES;

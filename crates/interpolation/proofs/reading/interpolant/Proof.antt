@@ -4,7 +4,7 @@ use borrow.Author.Needs.{needs}
 use Rattle.galois.specs.Field16.{K16, toF, toF-inverse}
 use Rattle.basis.specs.Choice.{leadAt}
 use Rattle.basis.specs.Step.{rowAt}
-use Rattle.interpolation.specs.Reading.{read-held, read-spent}
+use Rattle.interpolation.proofs.LeastRow.{read-held, read-spent}
 use Rattle.interpolation.proofs.reading.interpolant.Statement.{statement}
 use Rattle.interpolation.proofs.reading.interpolant.Tie as tie
 

@@ -1,6 +1,6 @@
 -- The two cases of the flag.
 use borrow.Author.Needs.{needs}
-use Rattle.interpolation.specs.Settled.{extends-taken, extends-not}
+use Rattle.interpolation.proofs.Settling.{extends-taken, extends-not}
 use Rattle.interpolation.proofs.settle.extend_if.Statement.{statement}
 use Rattle.interpolation.proofs.settle.extend_if.Tie as tie
 

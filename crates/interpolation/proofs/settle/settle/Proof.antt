@@ -10,8 +10,9 @@ use Rattle.galois.specs.Field16.{K16}
 use Rattle.hermitian.specs.Keys.{first}
 use Rattle.code.specs.Nodes.{ThroughNodes}
 use Rattle.basis.specs.Choice.{leadAt}
-use Rattle.interpolation.specs.Stepping.{polynomials}
-use Rattle.interpolation.specs.Settled.{settled, settle-start, settle-turn}
+use Rattle.interpolation.specs.Polynomial.{polynomials}
+use Rattle.interpolation.specs.Settled.{settled}
+use Rattle.interpolation.proofs.Settling.{settle-start, settle-turn}
 use Rattle.interpolation.proofs.settle.settle.Statement.{statement}
 use Rattle.interpolation.proofs.settle.settle.Tie as tie
 

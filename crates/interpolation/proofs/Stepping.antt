@@ -1,9 +1,5 @@
--- One step on the rows and leads of a basis, as a step of Kötter's algorithm on keys.
---
---   polynomials M rows     the polynomials of the rows, by class
---   Stepped L a ds rows leads rows′ leads′   what the code makes of rows and leads: nothing where all discrepancies are zero,
---                          else the rows and leads after a step at the chosen class
---   stepped-basis          a basis of W up to the limit L becomes one of the elements of W that vanish at the sample
+-- What the code makes of rows and leads in one step is a step of Kötter's algorithm on keys: a basis of W up to the limit becomes one
+-- of the elements of W that vanish at the sample.
 use mathlib.Core.Path.{_≡_, sym, ap, _∙_, subst}
 use mathlib.Core.List.{List}
 use mathlib.Core.Logic.{_≢_}
@@ -25,11 +21,10 @@ use Rattle.hermitian.specs.Interpolation.{Sample, Value, evaluation}
 use Rattle.basis.specs.Rows.{coef, dot, raise, weighed}
 use Rattle.basis.specs.Choice.{leadAt, Nonzero}
 use Rattle.basis.specs.Step.{rowAt, discrepancy, discrepancy-live, discrepancy-spent, discrepancyAt, NextRows}
-use Rattle.interpolation.specs.Polynomial.{polynomial, polynomial-plus-scale, polynomial-raise, Monomials, polynomial-value}
-open Field K16 using (_⊕_, _⊗_, 𝟘, inv)
-
-unfoldable pub polynomials : ℕ → List (List ℕ) → ℕ → ℕ → GF
-polynomials M rows r = polynomial M (rowAt rows r)
+use Rattle.interpolation.specs.Polynomial.{polynomial, polynomials}
+use Rattle.interpolation.proofs.Combining.{polynomial-plus-scale, polynomial-raise}
+use Rattle.interpolation.proofs.Evaluating.{Monomials, polynomial-value}
+open Field K16 using (_⊗_, 𝟘)
 
 pub data Stepped (a : GF) (ds : List ℕ) (rows : List (List ℕ)) (leads : List ℕ) (rows′ : List (List ℕ)) (leads′ : List ℕ) : Type 0 where
   same : ((r : ℕ) → r < 8 → getD ds r 0 ≡ 0) → rows′ ≡ rows → leads′ ≡ leads → Stepped a ds rows leads rows′ leads′
