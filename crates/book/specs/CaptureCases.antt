@@ -1,11 +1,14 @@
 -- Opening a capture, case by case: which refusal it gets, and what an accepted one is.
 --
 --   extended book entries   the book with the entries at the end of its row
+--   row-on, row-refused  a row goes on, or is refused, as the delivery of its first entry is
 --   row-none, row-above, row-taken, row-next   the cases of delivering a row
 --   row-delivered        distinct places below 64, none of them taken, are all accepted, in their order
 --   row-accepted         where all are accepted, the book is the extended one, and proper
 --   open-size, open-version, open-length, open-rate, open-list   a refusal by each check in turn
+--   with-on, with-refused   opening with a rate and a list and then delivering goes on, or is refused, as the opening is
 --   open-checked, open-with   the first three checks passed: opening with its rate and list, and then delivering its records in their order
+--   capture-refused      a refused capture hands back what a refused opening does: a new book of rate 39 with an empty list
 --   bookIn bytes         the rate, the list and the records that a capture holds, as a book
 --   Fit bytes, capture-fit   an accepted capture passes every check, and its book is bookIn
 --   RowVerdict, Verdict  which check a row of records, or a capture, fails first, with the number that this gives; 0 if none
@@ -17,11 +20,12 @@ use Prim.Native.Nat.{ℕ, _<_, _≤_}
 use native.Mathlib.Decide.{decLt}
 use native.Mathlib.Omega.{arith}
 use lib.Seq.{append-snoc}
+use borrow.Author.Tests.{eq-eqb, ne-eqb}
 use Rattle.refusals.specs.Refusal.{accepted, unknownRate, wrongDoubt, noPlace, placeTaken, wrongVersion, wrongLength}
 use Rattle.lists.specs.Distinct.{below, distinct, below-cons, below-append, distinct-before, and-right}
 use Rattle.book.specs.Book.{places, Entry, Book, newBook, taken, Outcome}
-use Rattle.book.specs.Opening.{knownRate, fitDoubt, refusedOpening}
-use Rattle.book.specs.Delivery.{withEntry}
+use Rattle.book.specs.Opening.{knownRate, fitDoubt, refusedOpening, openOf}
+use Rattle.book.specs.Delivery.{withEntry, deliverOf}
 use Rattle.book.specs.CaptureOpening.{onAccepted, deliverRow, rateIn, listIn, recordsIn, sizeFits, versionFits, lengthFits, openWith, openCaptureOf}
 use Rattle.book.specs.RowLaws.{placesOf, wide, Proper, places-append, taken-among, deliver-above, deliver-taken, deliver-accepted, open-accepted, open-refused-rate, open-refused-list, entry-proper, new-proper}
 use Rattle.book.specs.CaptureLaws.{wide-cons, records-wide}
@@ -43,12 +47,18 @@ pub refused-number : (n : ℕ) → refusedOpening n .number ≡ n
 unfolding refusedOpening
 refused-number n = refl
 
--- an accepted step goes on
-on-accepted : (book : Book) (next : Book → Outcome) → onAccepted (record { number = accepted; book = book }) next ≡ next book
-unfolding onAccepted
-on-accepted book next = refl
-
 module _ (book : Book) (e : Entry) (entries : List Entry) where
+  -- as the delivery of the first answers
+  pub row-on : deliverOf book (e .place) (e .column) .number ≡ accepted
+      → deliverRow book (e ∷ entries) ≡ deliverRow (deliverOf book (e .place) (e .column) .book) entries
+  unfolding deliverRow onAccepted
+  row-on n = rw (eq-eqb (deliverOf book (e .place) (e .column) .number) accepted n)
+
+  pub row-refused : (deliverOf book (e .place) (e .column) .number ≡ accepted → ⊥)
+      → deliverRow book (e ∷ entries) ≡ refusedOpening (deliverOf book (e .place) (e .column) .number)
+  unfolding deliverRow onAccepted
+  row-refused n = rw (ne-eqb (deliverOf book (e .place) (e .column) .number) accepted n)
+
   pub row-above : places ≤ e .place → deliverRow book (e ∷ entries) ≡ refusedOpening noPlace
   unfolding deliverRow onAccepted
   row-above h = rw (deliver-above book (e .place) (e .column) h)
@@ -149,6 +159,19 @@ module _ (rate : ℕ) (list : List ℕ) (entries : List Entry) where
   pub open-list : knownRate rate ≡ true → fitDoubt list ≡ false → openWith rate list entries ≡ refusedOpening wrongDoubt
   unfolding openWith onAccepted refusedOpening
   open-list r f = rw (open-refused-list rate list r f)
+
+  -- as opening with its rate and list answers
+  pub with-on : openOf rate list .number ≡ accepted → openWith rate list entries ≡ deliverRow (openOf rate list .book) entries
+  unfolding openWith onAccepted
+  with-on n = rw (eq-eqb (openOf rate list .number) accepted n)
+
+  pub with-refused : (openOf rate list .number ≡ accepted → ⊥) → openWith rate list entries ≡ openOf rate list
+  with-refused n = go (knownRate rate) refl (fitDoubt list) refl
+    where
+      go : (a : Bool) → knownRate rate ≡ a → (b : Bool) → fitDoubt list ≡ b → openWith rate list entries ≡ openOf rate list
+      go false r b f = open-rate r ∙ sym (open-refused-rate rate list r)
+      go true r false f = open-list r f ∙ sym (open-refused-list rate list r f)
+      go true r true f = absurd (n (ap (λ (o : Outcome). o .number) (open-accepted rate list r f)))
 
   pub open-with : knownRate rate ≡ true → fitDoubt list ≡ true → openWith rate list entries ≡ deliverRow (newBook rate list) entries
   unfolding openWith onAccepted
@@ -276,3 +299,51 @@ capture-fit bytes n =
         (records-wide places _)
         (sym (ap (λ (x : Outcome). x .number) opened) ∙ n) in
         record { size-fits = s; version-fits = v; length-fits = l; opens = opened ∙ delivered .0; proper = delivered .1 }
+
+-- ---- a refused capture hands back what a refused opening does
+
+refused-row : (book : Book) (entries : List Entry) → (deliverRow book entries .number ≡ accepted → ⊥)
+    → deliverRow book entries ≡ refusedOpening (deliverRow book entries .number)
+refused-row book [] n = absurd (n (ap (λ (o : Outcome). o .number) (row-none book)))
+refused-row book (e ∷ entries) n =
+    go (decLt (e .place) places) (taken (book .row) (e .place)) refl (refused-row (withEntry book (e .place) (e .column)) entries)
+  where
+    by : (k : ℕ) → deliverRow book (e ∷ entries) ≡ refusedOpening k
+        → deliverRow book (e ∷ entries) ≡ refusedOpening (deliverRow book (e ∷ entries) .number)
+    by k q = q ∙ ap refusedOpening (sym (ap (λ (o : Outcome). o .number) q ∙ refused-number k))
+
+    go : Dec (e .place < places) → (b : Bool) → taken (book .row) (e .place) ≡ b
+        → ((deliverRow (withEntry book (e .place) (e .column)) entries .number ≡ accepted → ⊥)
+        → deliverRow (withEntry book (e .place) (e .column)) entries
+        ≡ refusedOpening (deliverRow (withEntry book (e .place) (e .column)) entries .number))
+        → deliverRow book (e ∷ entries) ≡ refusedOpening (deliverRow book (e ∷ entries) .number)
+    go (yes h) true t ih = by placeTaken (row-taken book e entries h t)
+    go (yes h) false t ih =
+        let q = row-next book e entries h t in
+        q ∙ ih (λ m. n (ap (λ (o : Outcome). o .number) q ∙ m)) ∙ ap (λ (o : Outcome). refusedOpening (o .number)) (sym q)
+    go (no h) b t ih = by noPlace (row-above book e entries (omega arith))
+
+pub capture-refused : (bytes : List ℕ) → (openCaptureOf bytes .number ≡ accepted → ⊥)
+    → openCaptureOf bytes ≡ refusedOpening (openCaptureOf bytes .number)
+capture-refused bytes n =
+    go (sizeFits bytes) refl (versionFits bytes) refl (lengthFits bytes) refl (knownRate (rateIn bytes)) refl (fitDoubt (listIn bytes)) refl
+  where
+    by : (k : ℕ) → openCaptureOf bytes ≡ refusedOpening k → openCaptureOf bytes ≡ refusedOpening (openCaptureOf bytes .number)
+    by k q = q ∙ ap refusedOpening (sym (ap (λ (o : Outcome). o .number) q ∙ refused-number k))
+
+    go : (a : Bool) → sizeFits bytes ≡ a → (b : Bool) → versionFits bytes ≡ b → (c : Bool) → lengthFits bytes ≡ c
+        → (d : Bool) → knownRate (rateIn bytes) ≡ d → (e : Bool) → fitDoubt (listIn bytes) ≡ e
+        → openCaptureOf bytes ≡ refusedOpening (openCaptureOf bytes .number)
+    go false s b v c l d r e f = by wrongLength (open-size bytes s)
+    go true s false v c l d r e f = by wrongVersion (open-version bytes s v)
+    go true s true v false l d r e f = by wrongLength (open-length bytes s v l)
+    go true s true v true l false r e f =
+        by unknownRate (open-checked bytes s v l ∙ open-rate (rateIn bytes) (listIn bytes) (recordsIn bytes) r)
+    go true s true v true l true r false f =
+        by wrongDoubt (open-checked bytes s v l ∙ open-list (rateIn bytes) (listIn bytes) (recordsIn bytes) r f)
+    go true s true v true l true r true f =
+        let q : openCaptureOf bytes ≡ deliverRow (newBook (rateIn bytes) (listIn bytes)) (recordsIn bytes) =
+        open-checked bytes s v l ∙ open-with (rateIn bytes) (listIn bytes) (recordsIn bytes) r f in
+        q
+        ∙ refused-row (newBook (rateIn bytes) (listIn bytes)) (recordsIn bytes) (λ m. n (ap (λ (o : Outcome). o .number) q ∙ m))
+        ∙ ap (λ (o : Outcome). refusedOpening (o .number)) (sym q)

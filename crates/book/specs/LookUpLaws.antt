@@ -1,6 +1,7 @@
 -- What follows of a look-up.
 --
 --   look-up-above, look-up-refused   the part is empty if the place is above 63, and if the capture is refused
+--   look-up-part, located   of an accepted capture and a place below 64: the part, and where it lies
 --   look-up-length       else it has 32 bytes, so it is empty exactly in those two cases
 --   look-up-column       and they are the cost bytes of that place's column in the book that the capture opens as
 --   record-found         a place among n records has its number, below n, and its column starts there
@@ -17,13 +18,13 @@ use borrow.Author.Tests.{eq-eqb, ne-eqb, lt-ltb, le-ltb}
 use Rattle.refusals.specs.Refusal.{accepted}
 use Rattle.lists.specs.Distinct.{among, below, below-take, below-drop, distinct-all}
 use Rattle.book.specs.Book.{places, columnOf, Outcome}
-use Rattle.book.specs.Capture.{recordLength, costBytes, costsFrom, recordsOf}
+use Rattle.book.specs.Capture.{recordLength, captureLength, costBytes, costsFrom, recordsOf}
 use Rattle.book.specs.CaptureOpening.{doubtIn, recordsIn, openCaptureOf}
 use Rattle.book.specs.LookUp.{recordWith, costsBegin, lookUpOf}
 use Rattle.book.specs.RowLaws.{placesOf, places-length}
 use Rattle.book.specs.CaptureLaws.{bytes-costs, records-length}
 use Rattle.book.specs.CaptureCases.{bookIn, Fit, capture-fit}
-use Rattle.book.specs.RoundTrip.{length-right}
+use Rattle.book.specs.RoundTrip.{size-range, length-right}
 
 pub record Found (p n : ℕ) (bytes : List ℕ) : Type 0 where
   pub within : recordWith p n bytes < n
@@ -49,6 +50,11 @@ record-found p (suc n) bytes a = go (eqb (getD bytes 0 0) p) refl a (record-foun
               ∙ ap (λ (l : List ℕ). some (costsFrom (take 32 l)))
               (drop-drop (1 + recordLength * i) recordLength bytes ∙ ap (λ k. drop k bytes) q));
         }
+
+pub record Located (bytes : List ℕ) (p : ℕ) : Type 0 where
+  pub sized : length bytes ≡ captureLength (doubtIn bytes)
+  pub few : doubtIn bytes ≤ 8
+  pub within : recordWith p places (drop (5 + doubtIn bytes) bytes) < places
 
 pub look-up-above : (bytes : List ℕ) (p : ℕ) → places ≤ p → lookUpOf bytes p ≡ []
 unfolding lookUpOf
@@ -91,6 +97,14 @@ module _ (bytes : List ℕ) (p : ℕ) (h : p < places) (n : openCaptureOf bytes 
       let r = length-right bytes (fit .length-fits) in
       let f : recordWith p places records < places = found .within in
       rw (length-drop (5 + doubtIn bytes) bytes) (omega arith)
+
+  -- where the part lies
+  pub located : Located bytes p
+  unfolding records bookIn
+  located =
+      let r = length-right bytes (fit .length-fits) in
+      let z = size-range bytes (fit .size-fits) in
+      record { sized = omega arith; few = omega arith; within = found .within }
 
   pub look-up-length : length (lookUpOf bytes p) ≡ 32
   look-up-length =

@@ -71,7 +71,7 @@ column-length : (arrival costs : List ℕ) (i : ℕ) → length costs ≡ 1024 �
 unfolding entryAt
 column-length arrival costs i n h = block-length width (getD arrival i 0) costs (column-fits costs (getD arrival i 0) n h)
 
-row-wide : (arrival costs : List ℕ) (n : ℕ) → length costs ≡ 1024 → ((i : ℕ) → i < n → getD arrival i 0 < places)
+pub row-wide : (arrival costs : List ℕ) (n : ℕ) → length costs ≡ 1024 → ((i : ℕ) → i < n → getD arrival i 0 < places)
     → wide (listed n (entryAt arrival costs)) ≡ true
 row-wide arrival costs zero e h = rw (listed-nil, no-wide)
 row-wide arrival costs (suc n) e h =
@@ -355,7 +355,7 @@ module _ (s : Session) (good : Good s) where
   unfolding bookOf
   book-length = listed-length (s .taken) (entryAt (s .arrival) (s .costs))
 
-  list-length : length (bookOf s .doubtful) ≡ s .doubt
+  pub list-length : length (bookOf s .doubtful) ≡ s .doubt
   unfolding bookOf
   list-length = length-take-le (s .doubt) (s .doubtful) (omega (arith, good .doubt-fits, good .list-room))
 

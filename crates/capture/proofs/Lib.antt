@@ -1,0 +1,5 @@
+pub mod Parts
+pub mod Delivering
+pub mod Written
+pub mod Checked
+pub mod Found

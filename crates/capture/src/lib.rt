@@ -1,0 +1,199 @@
+// Captures: writing a session as bytes, opening such bytes as a session, and looking one place up in them.
+// It knows a session only by its fields and by `open` and `deliver`, and a column only as sixteen costs.
+// What a capture holds is written in `book`; every call here answers as the book does.
+ghost use mathlib.Core.Path.{_≡_};
+ghost use Prim.Native.Nat.{_+_, _*_, _≤_};
+ghost use lib.ListN.{length, take};
+ghost use Rattle.book.specs.Book.{places, width};
+ghost use Rattle.book.specs.Capture.{costBytes, rowBytes, costsFrom, recordsOf, recordLength};
+ghost use Rattle.book.specs.CaptureOpening.{deliverRow, openCaptureOf};
+ghost use Rattle.book.specs.LookUp.{recordWith, lookUpOf};
+ghost use Rattle.session.specs.View.{bookOf, Good};
+ghost use Rattle.session.specs.Calls.{Opening};
+ghost use Rattle.capture.specs.Calls.{recordBytes, headBytes, rowOf, Writing};
+use session::Opened;
+use session::Session;
+
+// The costs of a column, two bytes each, high byte first.
+fn write_costs(column: &[u16], out: &mut [u8])
+    requires { ⌜ (length (now column) ≡ width) × (length (now out) ≡ 32) ⌝ }
+    ensures { λ _. ⌜ now (out .exit) ≡ costBytes (now (column .entry)) ⌝ }
+{
+    let mut j = 0;
+    while j < 16 {
+        let cost = column[j];
+        out[2 * j] = (cost / 256) as u8;
+        out[2 * j + 1] = (cost % 256) as u8;
+        j += 1;
+    }
+}
+
+// A place and its 32 cost bytes.
+fn write_record(place: u8, column: &[u16], out: &mut [u8])
+    requires { ⌜ (length (now column) ≡ width) × (length (now out) ≡ recordLength) ⌝ }
+    ensures { λ _. ⌜ now (out .exit) ≡ recordBytes place (now (column .entry)) ⌝ }
+{
+    out[0] = place;
+    write_costs(column, &mut out[1..]);
+}
+
+// The 64 records, in the order of arrival. No session from opening holds a place above 63.
+fn write_records(arrival: &[u8], costs: &[u16], out: &mut [u8])
+    requires { ⌜ (length (now arrival) ≡ places) × (length (now costs) ≡ 1024) × (length (now out) ≡ 2112) ⌝ }
+    ensures { λ _. ⌜ now (out .exit) ≡ rowBytes (rowOf (now (arrival .entry)) (now (costs .entry)) places) ⌝ }
+{
+    let mut i = 0;
+    while i < 64 {
+        let place = arrival[i] % 64;
+        let from = 16 * (place as usize);
+        let at = 33 * i;
+        write_record(place, &costs[from..from + 16], &mut out[at..at + 33]);
+        i += 1;
+    }
+}
+
+// The doubtful places.
+fn write_list(list: [u8; 8], count: usize, out: &mut [u8])
+    requires { ⌜ (count ≤ 8) × (length (now out) ≡ count) ⌝ }
+    ensures { λ _. ⌜ now (out .exit) ≡ take count list ⌝ }
+{
+    let mut i = 0;
+    while i < count {
+        out[i] = list[i];
+        i += 1;
+    }
+}
+
+// Version, length, rate, d and the d doubtful places.
+fn write_head(rate: u8, list: [u8; 8], count: usize, out: &mut [u8])
+    requires { ⌜ (count ≤ 8) × (length (now out) ≡ 5 + count) ⌝ }
+    ensures { λ _. ⌜ now (out .exit) ≡ headBytes rate (take count list) ⌝ }
+{
+    let length = 2114 + count;
+    out[0] = 1;
+    out[1] = (length / 256) as u8;
+    out[2] = (length % 256) as u8;
+    out[3] = rate;
+    out[4] = count as u8;
+    write_list(list, count, &mut out[5..]);
+}
+
+// The first test keeps a session record that was built by hand from running past the list.
+pub fn write_capture(session: Session, out: &mut [u8]) -> u8
+    ensures { λ r. ⌜ Writing session (now (out .entry)) r (now (out .exit)) ⌝ }
+{
+    let doubt = session.doubt;
+    if 8 < doubt {
+        return refusals::WRONG_SIZE;
+    }
+    if out.len() != 2117 + doubt {
+        return refusals::WRONG_SIZE;
+    }
+    if session.taken < 64 {
+        return refusals::PLACE_MISSING;
+    }
+    let doubtful = session.doubtful;
+    let arrival = session.arrival;
+    let costs = session.costs;
+    let start = 5 + doubt;
+    write_head(session.rate, doubtful, doubt, &mut out[..start]);
+    write_records(&arrival, &costs, &mut out[start..]);
+    refusals::ACCEPTED
+}
+
+// A column from its 32 bytes.
+fn read_column(bytes: &[u8]) -> [u16; 16]
+    requires { ⌜ length (now bytes) ≡ 32 ⌝ }
+    ensures { λ r. ⌜ r ≡ costsFrom (now (bytes .entry)) ⌝ }
+{
+    let mut out = [0u16; 16];
+    let mut j = 0;
+    while j < 16 {
+        out[j] = 256 * (bytes[2 * j] as u16) + bytes[2 * j + 1] as u16;
+        j += 1;
+    }
+    out
+}
+
+// The 64 records delivered in their order, up to the first that is refused.
+fn deliver_records(opened: Session, records: &[u8]) -> Opened
+    requires { ⌜ Good opened × (length (now records) ≡ 2112) ⌝ }
+    ensures { λ r. ⌜ Opening (deliverRow (bookOf opened) (recordsOf places (now (records .entry)))) r ⌝ }
+{
+    let mut current = opened;
+    let mut i = 0;
+    while i < 64 {
+        let at = 33 * i;
+        let place = records[at] as usize;
+        let column = read_column(&records[at + 1..at + 33]);
+        let delivered = session::deliver(current, place, column);
+        let number = delivered.refusal;
+        if number != refusals::ACCEPTED {
+            return session::refused(number);
+        }
+        current = delivered.session;
+        i += 1;
+    }
+    Opened {
+        refusal: refusals::ACCEPTED,
+        session: current,
+    }
+}
+
+pub fn open_capture(bytes: &[u8]) -> Opened
+    ensures { λ r. ⌜ Opening (openCaptureOf (now (bytes .entry))) r ⌝ }
+{
+    if bytes.len() < 2117 {
+        return session::refused(refusals::WRONG_LENGTH);
+    }
+    if 2125 < bytes.len() {
+        return session::refused(refusals::WRONG_LENGTH);
+    }
+    if bytes[0] != 1 {
+        return session::refused(refusals::WRONG_VERSION);
+    }
+    let length = 256 * (bytes[1] as usize) + bytes[2] as usize;
+    let doubt = bytes[4] as usize;
+    if length + 3 != bytes.len() {
+        return session::refused(refusals::WRONG_LENGTH);
+    }
+    if length != 2114 + doubt {
+        return session::refused(refusals::WRONG_LENGTH);
+    }
+    let start = 5 + doubt;
+    let opened = session::open(bytes[3] as usize, &bytes[5..start]);
+    if opened.refusal != refusals::ACCEPTED {
+        return opened;
+    }
+    deliver_records(opened.session, &bytes[start..])
+}
+
+// The number of the record of a place.
+fn record_of(place: usize, records: &[u8]) -> usize
+    requires { ⌜ length (now records) ≡ 2112 ⌝ }
+    ensures { λ r. ⌜ r ≡ recordWith place places (now (records .entry)) ⌝ }
+{
+    let mut i = 0;
+    while i < 64 {
+        if records[33 * i] as usize == place {
+            return i;
+        }
+        i += 1;
+    }
+    i
+}
+
+// The 32 bytes of a place's column, as a part of the caller's own capture; empty if the capture is refused or the place is above 63.
+pub fn look_up<'a>(capture: &'a [u8], place: usize) -> &'a [u8]
+    ensures { λ r. ⌜ now r ≡ lookUpOf (now (capture .entry)) place ⌝ }
+{
+    if 63 < place {
+        return &capture[..0];
+    }
+    if open_capture(capture).refusal != refusals::ACCEPTED {
+        return &capture[..0];
+    }
+    let start = 5 + capture[4] as usize;
+    let at = start + 33 * record_of(place, &capture[start..]) + 1;
+    &capture[at..at + 32]
+}
