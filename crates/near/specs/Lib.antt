@@ -6,3 +6,4 @@ pub mod Laws
 pub mod Interpolated
 pub mod Distance
 pub mod Tree
+pub mod BenchSheet
