@@ -4,6 +4,7 @@
 --   checked b n l o    refused with n, the buffer l unchanged, unless the test b passes; else the outcome o
 --   fitsFrame          there are 64 bytes of the frame from the start
 --   placed frame start word   the frame with the word in it from the start; the other bytes stay
+--   encodeSizes, readBackSizes   the buffers have the right sizes
 --   encodeCall         encode: rate; message of k bytes and 64 bytes of the frame; symbols
 --   readBackCall       read back: rate; word of 64 and message buffer of k bytes; symbols; codeword
 use mathlib.Core.Bool.{Bool, true, false}
@@ -34,11 +35,14 @@ fitsFrame frame start = leb (start + 64) (length frame)
 unfoldable pub placed : List ℕ → ℕ → List ℕ → List ℕ
 placed frame start word = take start frame ++ (word ++ drop (start + length word) frame)
 
+-- the message has k bytes, and the frame 64 from the start
+abbrev pub encodeSizes : ℕ → List ℕ → List ℕ → ℕ → Bool
+encodeSizes rate message frame start = both (eqb (length message) rate) (fitsFrame frame start)
+
 unfoldable pub encodeCall : ℕ → List ℕ → List ℕ → ℕ → Outcome
 encodeCall rate message frame start =
     checked (knownRate rate) unknownRate frame
-    (checked (both (eqb (length message) rate) (fitsFrame frame start)) wrongSize frame
-    (checked (allBelow 16 message) noSymbol frame
+    (checked (encodeSizes rate message frame start) wrongSize frame (checked (allBelow 16 message) noSymbol frame
     (outcome accepted (placed frame start (encodeOf rate message)))))
 
 -- a message found is written; where there is none the buffer stays
@@ -46,9 +50,12 @@ abbrev pub found : Option (List ℕ) → List ℕ → Outcome
 found none l = outcome noCodeword l
 found (some m) l = outcome accepted m
 
+-- the word has 64 bytes, and the buffer k
+abbrev pub readBackSizes : ℕ → List ℕ → List ℕ → Bool
+readBackSizes rate word message = both (eqb (length word) 64) (eqb (length message) rate)
+
 unfoldable pub readBackCall : ℕ → List ℕ → List ℕ → Outcome
 readBackCall rate word message =
     checked (knownRate rate) unknownRate message
-    (checked (both (eqb (length word) 64) (eqb (length message) rate)) wrongSize message
-    (checked (allBelow 16 word) noSymbol message
+    (checked (readBackSizes rate word message) wrongSize message (checked (allBelow 16 word) noSymbol message
     (found (readBackOf rate word) message)))

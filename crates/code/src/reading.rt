@@ -155,12 +155,12 @@ fn same(a: &[u8], b: &[u8]) -> bool
     requires { ⌜ length (now a) ≡ length (now b) ⌝ }
     ensures { λ r. ⌜ (r ≡ true → now (a .entry) ≡ now (b .entry)) × (now (a .entry) ≡ now (b .entry) → r ≡ true) ⌝ }
 {
-    let mut i = 0;
-    while i < a.len() {
-        if a[i] != b[i] {
+    let mut place = 0;
+    while place < a.len() {
+        if a[place] != b[place] {
             return false;
         }
-        i += 1;
+        place += 1;
     }
     true
 }

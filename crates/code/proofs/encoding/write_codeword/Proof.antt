@@ -31,7 +31,7 @@ loop-less : tie.Need-loop-less Inv-loop μ-loop
 loop-less c = search needs
 
 loop-again : tie.Need-loop-again Inv-loop μ-loop
-loop-again c = writing-turn (c .before .before .loop .inv) _ (c .before .loop-test .taken) (c .value-at .ensures)
+loop-again c = writing-turn (c .before .before .loop .inv) _ (search needs) (c .value-at .ensures)
 
 same-length : tie.Need-same-length Inv-loop μ-loop
 same-length c = omega (arith, writing-length (c .before .loop .inv), c .before .loop .inv .sized)

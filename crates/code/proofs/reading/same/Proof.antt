@@ -12,13 +12,13 @@ use Rattle.code.proofs.reading.same.Statement.{statement}
 use Rattle.code.proofs.reading.same.Tie as tie
 
 abbrev Inv-loop : tie.InvT-loop
-Inv-loop a b i₀ i = (i ≤ length a) × (length a ≡ length b) × ((k : ℕ) → k < i → getD a k 0 ≡ getD b k 0)
+Inv-loop a b place₀ place = ((k : ℕ) → k < place → getD a k 0 ≡ getD b k 0) × (place ≤ length a) × (length a ≡ length b)
 
 abbrev μ-loop : tie.MeasureT-loop
-μ-loop a b i₀ i = length a - i
+μ-loop a b place₀ place = length a - place
 
 loop-holds : tie.Need-loop-holds Inv-loop μ-loop
-loop-holds c = (search needs, search needs, below-none _)
+loop-holds c = (below-none _, search needs, search needs)
 
 shared-slice-read-if1 : tie.Need-shared-slice-read-if1 Inv-loop μ-loop
 shared-slice-read-if1 c = search needs
@@ -29,17 +29,17 @@ shared-slice-read-if1-2 c = search needs
 returns : tie.Need-returns Inv-loop μ-loop
 returns c = (λ e. absurd (false≢true e), λ e. absurd (differ-at _ _ _ (c .if1 .taken) e))
 
-add-i : tie.Need-add-i Inv-loop μ-loop
-add-i c = search needs
+add-place : tie.Need-add-place Inv-loop μ-loop
+add-place c = search needs
 
 loop-less : tie.Need-loop-less Inv-loop μ-loop
 loop-less c = search needs
 
 loop-again : tie.Need-loop-again Inv-loop μ-loop
-loop-again c = (search needs, search needs, below-more _ _ (c .before .before .before .before .loop .inv .2) (c .if1 .left))
+loop-again c = (below-more _ _ (c .before .before .before .before .loop .inv .0) (c .if1 .left), search needs, search needs)
 
 returns-2 : tie.Need-returns-2 Inv-loop μ-loop
-returns-2 c = (λ e. ext-getD 0 _ _ (c .before .loop .inv .1) (λ k h. c .before .loop .inv .2 k (omega (arith, c .loop-test .left))), λ e. refl)
+returns-2 c = (λ e. ext-getD 0 _ _ (c .before .loop .inv .2) (λ k h. c .before .loop .inv .0 k (omega (arith, c .loop-test .left))), λ e. refl)
 
 pub same-spec : {M : Type 1} → statement M
 same-spec =
@@ -51,7 +51,7 @@ same-spec =
     shared-slice-read-if1
     shared-slice-read-if1-2
     returns
-    add-i
+    add-place
     loop-less
     loop-again
     returns-2)
