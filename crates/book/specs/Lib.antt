@@ -19,3 +19,4 @@ pub mod ClosingLaws
 pub mod Calls
 pub mod OpeningLaws
 pub mod Sentences
+pub mod Table
