@@ -6,12 +6,11 @@
 --   costBytes        two bytes a cost, high byte first
 --   rowBytes         64 records of a place and its 32 cost bytes, in the row's order
 --   captureOf        version 1, length, rate, d, the d doubtful places, the records
---   costsFrom        sixteen costs from their 32 bytes
 --   recordsOf n      n records from their bytes
 use mathlib.Core.List.{List, [], _∷_, _++_}
-use Prim.Native.Nat.{ℕ, zero, suc, _+_, _*_, _/_, _%_}
+use Prim.Native.Nat.{ℕ, zero, suc, _+_, _/_, _%_}
 use lib.ListN.{length, getD, take, drop}
-use Rattle.lists.specs.Listed.{listed}
+use Rattle.soft.specs.Column.{costsFrom}
 use Rattle.book.specs.Book.{width, Entry, Book}
 
 abbrev pub recordLength : ℕ
@@ -40,14 +39,7 @@ captureOf book =
     ∷ length (book .doubtful)
     ∷ (book .doubtful ++ rowBytes (book .row))
 
--- the number in two bytes, high first
-abbrev pub costAt : List ℕ → ℕ → ℕ
-costAt bytes i = 256 * getD bytes (2 * i) 0 + getD bytes (2 * i + 1) 0
-
-unfoldable pub costsFrom : List ℕ → List ℕ
-costsFrom bytes = listed width (costAt bytes)
-
 unfoldable pub recordsOf : ℕ → List ℕ → List Entry
 recordsOf zero bytes = []
 recordsOf (suc n) bytes =
-    record { place = getD bytes 0 0; column = costsFrom (take 32 (drop 1 bytes)) } ∷ recordsOf n (drop recordLength bytes)
+    record { place = getD bytes 0 0; column = costsFrom width (take 32 (drop 1 bytes)) } ∷ recordsOf n (drop recordLength bytes)

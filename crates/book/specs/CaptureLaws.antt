@@ -13,10 +13,12 @@ use lib.Dec.{eqb}
 use lib.ListN.{length, take, drop, length-append, length-drop, take-append-drop}
 use lib.Seq.{take-at, drop-at, length-take-le}
 use borrow.Author.Tests.{eqb-true, eq-eqb}
-use Rattle.lists.specs.Listed.{listed, listed-nil, listed-cons, listed-ext, listed-length}
+use Rattle.lists.specs.Listed.{listed-nil, listed-cons, listed-ext}
 use Rattle.lists.specs.Distinct.{below, below-cons, below-take, below-drop, and-left, and-right, and-both}
 use Rattle.book.specs.Book.{width, Entry}
-use Rattle.book.specs.Capture.{recordLength, costBytes, rowBytes, costAt, costsFrom, recordsOf}
+use Rattle.soft.specs.Column.{costFrom, costsFrom}
+use Rattle.soft.specs.ColumnLaws.{costs-length}
+use Rattle.book.specs.Capture.{recordLength, costBytes, rowBytes, recordsOf}
 use Rattle.book.specs.RowLaws.{wide}
 
 -- ---- cost bytes
@@ -31,37 +33,36 @@ unfolding costBytes
 cost-bytes-length [] = refl
 cost-bytes-length (c ∷ column) = omega (arith, cost-bytes-length column)
 
--- n costs from their bytes
-costs : ℕ → List ℕ → List ℕ
-costs n bytes = listed n (costAt bytes)
-
-costs-cons : (n h l : ℕ) (bytes : List ℕ) → costs (suc n) (h ∷ l ∷ bytes) ≡ (256 * h + l) ∷ costs n bytes
-unfolding costs
+costs-cons : (n h l : ℕ) (bytes : List ℕ) → costsFrom (suc n) (h ∷ l ∷ bytes) ≡ (h * 256 + l) ∷ costsFrom n bytes
+unfolding costsFrom
 costs-cons n h l bytes =
-    listed-cons n (costAt (h ∷ l ∷ bytes))
-    ∙ ap (λ (r : List ℕ). (256 * h + l) ∷ r) (listed-ext n (λ k. costAt (h ∷ l ∷ bytes) (suc k)) (costAt bytes) later)
+    listed-cons n (costFrom (h ∷ l ∷ bytes))
+    ∙ ap (λ (r : List ℕ). (h * 256 + l) ∷ r) (listed-ext n (λ k. costFrom (h ∷ l ∷ bytes) (suc k)) (costFrom bytes) later)
   where
-    later : (k : ℕ) → k < n → costAt (h ∷ l ∷ bytes) (suc k) ≡ costAt bytes k
+    later : (k : ℕ) → k < n → costFrom (h ∷ l ∷ bytes) (suc k) ≡ costFrom bytes k
     later k b =
-        let e : 2 * suc k ≡ suc (suc (2 * k)) = omega arith in
-        let f : 2 * suc k + 1 ≡ suc (suc (2 * k + 1)) = omega arith in
+        let e : suc k * 2 ≡ suc (suc (k * 2)) = omega arith in
+        let f : suc k * 2 + 1 ≡ suc (suc (k * 2 + 1)) = omega arith in
         rw (f, e)
 
-costs-written : (column : List ℕ) → costs (length column) (costBytes column) ≡ column
+no-costs : (bytes : List ℕ) → costsFrom 0 bytes ≡ []
+unfolding costsFrom
+no-costs bytes = listed-nil (costFrom bytes)
+
+costs-written : (column : List ℕ) → costsFrom (length column) (costBytes column) ≡ column
 unfolding costBytes
-costs-written [] = unfold costs in listed-nil (costAt [])
+costs-written [] = no-costs []
 costs-written (c ∷ column) =
     costs-cons (length column) (c / 256) (c % 256) (costBytes column)
     ∙ ap₂ (λ x (l : List ℕ). x ∷ l) (omega arith) (costs-written column)
 
 -- costs written and read are the costs,
-pub costs-bytes : (column : List ℕ) → length column ≡ width → costsFrom (costBytes column) ≡ column
-unfolding costsFrom costs
-costs-bytes column e = ap (λ n. costs n (costBytes column)) (sym e) ∙ costs-written column
+pub costs-bytes : (column : List ℕ) → length column ≡ width → costsFrom width (costBytes column) ≡ column
+costs-bytes column e = ap (λ n. costsFrom n (costBytes column)) (sym e) ∙ costs-written column
 
-bytes-read : (n : ℕ) (bytes : List ℕ) → length bytes ≡ 2 * n → below 256 bytes ≡ true → costBytes (costs n bytes) ≡ bytes
+bytes-read : (n : ℕ) (bytes : List ℕ) → length bytes ≡ 2 * n → below 256 bytes ≡ true → costBytes (costsFrom n bytes) ≡ bytes
 unfolding costBytes
-bytes-read zero [] e b = unfold costs in rw listed-nil
+bytes-read zero [] e b = rw no-costs
 bytes-read zero (h ∷ bytes) e b = absurd (omega arith)
 bytes-read (suc n) [] e b = absurd (omega arith)
 bytes-read (suc n) (h ∷ []) e b = absurd (omega arith)
@@ -69,19 +70,14 @@ bytes-read (suc n) (h ∷ l ∷ bytes) e b =
     let f : (h < 256) × (below 256 (l ∷ bytes) ≡ true) = below-cons 256 h (l ∷ bytes) b in
     let g : (l < 256) × (below 256 bytes ≡ true) = below-cons 256 l bytes (f .1) in
     let i : l < 256 = g .0 in
-    let high : (256 * h + l) / 256 ≡ h = omega arith in
-    let low : (256 * h + l) % 256 ≡ l = omega arith in
+    let high : (h * 256 + l) / 256 ≡ h = omega arith in
+    let low : (h * 256 + l) % 256 ≡ l = omega arith in
     ap costBytes (costs-cons n h l bytes)
     ∙ ap₂ (λ x (r : List ℕ). x ∷ r) high (ap₂ (λ x (r : List ℕ). x ∷ r) low (bytes-read n bytes (omega arith) (g .1)))
 
 -- and bytes read and written are the bytes
-pub bytes-costs : (bytes : List ℕ) → length bytes ≡ 32 → below 256 bytes ≡ true → costBytes (costsFrom bytes) ≡ bytes
-unfolding costsFrom costs
+pub bytes-costs : (bytes : List ℕ) → length bytes ≡ 32 → below 256 bytes ≡ true → costBytes (costsFrom width bytes) ≡ bytes
 bytes-costs bytes e b = bytes-read width bytes e b
-
-pub costs-length : (bytes : List ℕ) → length (costsFrom bytes) ≡ width
-unfolding costsFrom
-costs-length bytes = listed-length width (costAt bytes)
 
 -- ---- records
 
@@ -116,7 +112,7 @@ records-row (e ∷ row) w =
     let l : length (e .column) ≡ width = wide-cons e row w .0 in
     let n : length (costBytes (e .column)) ≡ 32 = omega (arith, cost-bytes-length (e .column)) in
     ap₂ (λ (c : List ℕ) (r : List Entry). record { place = e .place; column = c } ∷ r)
-    (ap costsFrom (take-at (costBytes (e .column)) (rowBytes row) 32 n) ∙ costs-bytes (e .column) l)
+    (ap (costsFrom width) (take-at (costBytes (e .column)) (rowBytes row) 32 n) ∙ costs-bytes (e .column) l)
     (ap (recordsOf (length row)) (drop-at (e .place ∷ costBytes (e .column)) (rowBytes row) recordLength (omega arith))
     ∙ records-row row (wide-cons e row w .1))
 
@@ -139,8 +135,8 @@ pub records-wide : (n : ℕ) (bytes : List ℕ) → wide (recordsOf n bytes) ≡
 unfolding recordsOf wide
 records-wide zero bytes = refl
 records-wide (suc n) bytes =
-    and-both (eqb (length (costsFrom (take 32 (drop 1 bytes)))) width) (wide (recordsOf n (drop recordLength bytes)))
-    (eq-eqb (length (costsFrom (take 32 (drop 1 bytes)))) width (costs-length (take 32 (drop 1 bytes))))
+    and-both (eqb (length (costsFrom width (take 32 (drop 1 bytes)))) width) (wide (recordsOf n (drop recordLength bytes)))
+    (eq-eqb (length (costsFrom width (take 32 (drop 1 bytes)))) width (costs-length width (take 32 (drop 1 bytes))))
     (records-wide n (drop recordLength bytes))
 
 pub records-length : (n : ℕ) (bytes : List ℕ) → length (recordsOf n bytes) ≡ n

@@ -17,8 +17,9 @@ use lib.Seq.{length-take-le, drop-drop}
 use borrow.Author.Tests.{eq-eqb, ne-eqb, lt-ltb, le-ltb}
 use Rattle.refusals.specs.Refusal.{accepted}
 use Rattle.lists.specs.Distinct.{among, below, below-take, below-drop, distinct-all}
-use Rattle.book.specs.Book.{places, columnOf, Outcome}
-use Rattle.book.specs.Capture.{recordLength, captureLength, costBytes, costsFrom, recordsOf}
+use Rattle.book.specs.Book.{places, width, columnOf, Outcome}
+use Rattle.book.specs.Capture.{recordLength, captureLength, costBytes, recordsOf}
+use Rattle.soft.specs.Column.{costsFrom}
 use Rattle.book.specs.CaptureOpening.{doubtIn, recordsIn, openCaptureOf}
 use Rattle.book.specs.LookUp.{recordWith, costsBegin, lookUpOf}
 use Rattle.book.specs.RowLaws.{placesOf, places-length}
@@ -28,7 +29,7 @@ use Rattle.book.specs.RoundTrip.{size-range, length-right}
 
 pub record Found (p n : ℕ) (bytes : List ℕ) : Type 0 where
   pub within : recordWith p n bytes < n
-  pub there : columnOf (recordsOf n bytes) p ≡ some (costsFrom (take 32 (drop (1 + recordLength * recordWith p n bytes) bytes)))
+  pub there : columnOf (recordsOf n bytes) p ≡ some (costsFrom width (take 32 (drop (1 + recordLength * recordWith p n bytes) bytes)))
 
 pub record-found : (p n : ℕ) (bytes : List ℕ) → among p (placesOf (recordsOf n bytes)) ≡ true → Found p n bytes
 unfolding recordWith recordsOf columnOf placesOf among
@@ -47,7 +48,7 @@ record-found p (suc n) bytes a = go (eqb (getD bytes 0 0) p) refl a (record-foun
           there =
               rw e
               (f .there
-              ∙ ap (λ (l : List ℕ). some (costsFrom (take 32 l)))
+              ∙ ap (λ (l : List ℕ). some (costsFrom width (take 32 l)))
               (drop-drop (1 + recordLength * i) recordLength bytes ∙ ap (λ k. drop k bytes) q));
         }
 
@@ -118,7 +119,7 @@ module _ (bytes : List ℕ) (p : ℕ) (h : p < places) (n : openCaptureOf bytes 
   unfolding bookIn records
   look-up-column b =
       let costs : List ℕ = take 32 (drop (1 + recordLength * recordWith p places records) records) in (
-        costsFrom costs,
+        costsFrom width costs,
         ap (λ (o : Outcome). columnOf (o .book .row) p) (fit .opens) ∙ found .there,
         part
             ∙ sym

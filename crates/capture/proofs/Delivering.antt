@@ -5,8 +5,9 @@ use Prim.Native.Nat.{ℕ, _+_, _-_, _*_, _<_, _≤_}
 use native.Mathlib.Omega.{arith}
 use lib.ListN.{getD, take, drop}
 use Rattle.refusals.specs.Refusal.{accepted}
-use Rattle.book.specs.Book.{places, Entry, Outcome}
-use Rattle.book.specs.Capture.{recordLength, costsFrom, recordsOf}
+use Rattle.book.specs.Book.{places, width, Entry, Outcome}
+use Rattle.book.specs.Capture.{recordLength, recordsOf}
+use Rattle.soft.specs.Column.{costsFrom}
 use Rattle.book.specs.CaptureOpening.{deliverRow}
 use Rattle.book.specs.CaptureCases.{row-none, row-on, row-refused}
 use Rattle.session.specs.declared.Session.{Session}
@@ -25,7 +26,7 @@ left current records i = deliverRow (bookOf current) (recordsOf (places - i) (dr
 
 module _ (start current : Session) (records column : List ℕ) (i : ℕ) (r : Delivered) (h : i < places) (good : Good current)
     (same : whole start records ≡ left current records i)
-    (read : column ≡ costsFrom (take (recordLength * i + recordLength - (recordLength * i + 1)) (drop (recordLength * i + 1) records)))
+    (read : column ≡ costsFrom width (take (recordLength * i + recordLength - (recordLength * i + 1)) (drop (recordLength * i + 1) records)))
     (d : Delivery current (getD records (recordLength * i) 0) column r) where
   entry : Entry
   entry = record { place = getD records (recordLength * i) 0; column = column }

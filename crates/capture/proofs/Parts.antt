@@ -15,7 +15,8 @@ use Rattle.lists.specs.Listed.{listed, listed-nil, listed-suc, listed-length}
 use Rattle.lists.specs.Block.{block}
 use Rattle.lists.specs.Stored.{stored-one, stored-part}
 use Rattle.book.specs.Book.{places, width, Entry}
-use Rattle.book.specs.Capture.{recordLength, costBytes, rowBytes, costsFrom, recordsOf}
+use Rattle.book.specs.Capture.{recordLength, costBytes, rowBytes, recordsOf}
+use Rattle.soft.specs.Column.{costsFrom}
 use Rattle.book.specs.LookUp.{recordWith}
 use Rattle.book.specs.CaptureLaws.{cost-bytes-append, cost-bytes-length, row-bytes-append, row-bytes-length}
 use Rattle.session.specs.View.{entryAt}
@@ -169,32 +170,27 @@ module _ (arrival costs : List ℕ) where
   unfolding rowOf
   records-start out = rw (listed-nil, no-records)
 
-  next-record : (i : ℕ)
-      → recordBytes (getD arrival i 0 % places)
-      (take (width * (getD arrival i 0 % places) + width - width * (getD arrival i 0 % places)) (drop (width * (getD arrival i 0 % places)) costs))
-      ≡ rowBytes (entryAt (wrapped arrival) costs i ∷ [])
+  next-record : (i p : ℕ) → p ≡ getD arrival i 0 % places
+      → recordBytes p (take (width * p + width - width * p) (drop (width * p) costs)) ≡ rowBytes (entryAt (wrapped arrival) costs i ∷ [])
   unfolding entryAt block
-  next-record i =
-      let p : ℕ = getD arrival i 0 % places in
+  next-record i p e =
       let q : width * p + width - width * p ≡ width = omega arith in
       ap (λ k. recordBytes p (take k (drop (width * p) costs))) q
-      ∙ ap (λ x. recordBytes x (take width (drop (width * x) costs))) (sym (wrapped-at i))
+      ∙ ap (λ x. recordBytes x (take width (drop (width * x) costs))) (e ∙ sym (wrapped-at i))
       ∙ sym (one-record (entryAt (wrapped arrival) costs i))
 
-  pub records-turn : (old out part : List ℕ) (i : ℕ) → length costs ≡ 1024
-      → part
-      ≡ recordBytes (getD arrival i 0 % places)
-      (take (width * (getD arrival i 0 % places) + width - width * (getD arrival i 0 % places)) (drop (width * (getD arrival i 0 % places)) costs))
+  pub records-turn : (old out part : List ℕ) (i p : ℕ) → length costs ≡ 1024 → p ≡ getD arrival i 0 % places
+      → part ≡ recordBytes p (take (width * p + width - width * p) (drop (width * p) costs))
       → out ≡ rowBytes (rowOf arrival costs i) ++ drop (recordLength * i) old
       → putMid (recordLength * i) (recordLength * i + recordLength - recordLength * i) out part
       ≡ rowBytes (rowOf arrival costs (i + 1)) ++ drop (recordLength * (i + 1)) old
   unfolding rowOf
-  records-turn old out part i e q f =
+  records-turn old out part i p e a q f =
       let at : ℕ = recordLength * i in
       let k : at + (at + recordLength - at) ≡ recordLength * (i + 1) = omega arith in
       stored-part out old (rowBytes (rowOf arrival costs i)) part at (at + recordLength - at) (written-length i e) f
       ∙ ap₂ (λ (l : List ℕ) n. l ++ drop n old)
-      (ap (λ (l : List ℕ). rowBytes (listed i (entryAt (wrapped arrival) costs)) ++ l) (q ∙ next-record i)
+      (ap (λ (l : List ℕ). rowBytes (listed i (entryAt (wrapped arrival) costs)) ++ l) (q ∙ next-record i p a)
       ∙ sym (row-bytes-append (listed i (entryAt (wrapped arrival) costs)) (entryAt (wrapped arrival) costs i ∷ []))
       ∙ ap rowBytes (sym (listed-suc i (entryAt (wrapped arrival) costs)) ∙ ap (λ n. listed n (entryAt (wrapped arrival) costs)) (sym (add-one i))))
       k
@@ -214,7 +210,7 @@ pub record-step : (records : List ℕ) (i : ℕ) → i < places
     → recordsOf (places - i) (drop (recordLength * i) records)
     ≡ record {
       place = getD records (recordLength * i) 0;
-      column = costsFrom (take (recordLength * i + recordLength - (recordLength * i + 1)) (drop (recordLength * i + 1) records));
+      column = costsFrom width (take (recordLength * i + recordLength - (recordLength * i + 1)) (drop (recordLength * i + 1) records));
     } ∷ recordsOf (places - (i + 1)) (drop (recordLength * (i + 1)) records)
 unfolding recordsOf
 record-step records i h =
@@ -224,7 +220,7 @@ record-step records i h =
     let g : 32 ≡ at + recordLength - (at + 1) = omega arith in
     ap (λ n. recordsOf n (drop at records)) e
     ∙ ap₂ (λ (x : Entry) (l : List Entry). x ∷ l)
-    (ap₂ (λ p (c : List ℕ). record { place = p; column = costsFrom c }) (record-here records at)
+    (ap₂ (λ p (c : List ℕ). record { place = p; column = costsFrom width c }) (record-here records at)
     (ap₂ (λ k (l : List ℕ). take k l) g (drop-drop 1 at records)))
     (ap (recordsOf (places - (i + 1))) (drop-drop recordLength at records ∙ ap (λ k. drop k records) f))
 

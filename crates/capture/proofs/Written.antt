@@ -36,6 +36,7 @@ module _ (s : Session) (before : List ℕ) where
         number = λ good. absurd (omega (arith, good .doubt-fits));
         bytes = λ good. absurd (omega (arith, good .doubt-fits));
         kept = λ n. refl;
+        size = refl;
       }
 
   pub writing-size : (length before ≡ captureLength (s .doubt) → ⊥) → Writing s before wrongSize before
@@ -45,6 +46,7 @@ module _ (s : Session) (before : List ℕ) where
         number = λ good. sym (ap number (write-size (bookOf s) before (other good)));
         bytes = λ good. sym (ap bytes (write-size (bookOf s) before (other good)));
         kept = λ n. refl;
+        size = refl;
       }
     where
       other : Good s → length before ≡ captureLength (length (bookOf s .doubtful)) → ⊥
@@ -66,6 +68,7 @@ module _ (s : Session) (before : List ℕ) where
           number = λ good. sym (ap number (write-missing (bookOf s) before (fits good) (missing good)));
           bytes = λ good. sym (ap bytes (write-missing (bookOf s) before (fits good) (missing good)));
           kept = λ n. refl;
+          size = refl;
         }
       where
         missing : Good s → someMissing (bookOf s .row) ≡ true
@@ -87,16 +90,17 @@ module _ (s : Session) (before : List ℕ) where
     whole-capture good h =
         ap (λ (r : List Entry). headBytes (s .rate) (take (s .doubt) (s .doubtful)) ++ rowBytes r) (same-row good h)
 
-    pub writing-accepted : (after : List ℕ) → places ≤ s .taken
+    pub writing-accepted : (after : List ℕ) → length after ≡ length before → places ≤ s .taken
         → after ≡ headBytes (s .rate) (take (s .doubt) (s .doubtful)) ++ rowBytes (rowOf (s .arrival) (s .costs) places)
         → Writing s before accepted after
     unfolding number bytes
-    writing-accepted after h e =
+    writing-accepted after long h e =
         record {
           number = λ good. sym (ap number (write-accepted (bookOf s) before (fits good) (present good)));
           bytes = λ good.
               e ∙ whole-capture good h ∙ sym (ap bytes (write-accepted (bookOf s) before (fits good) (present good)));
           kept = λ n. absurd (n refl);
+          size = long;
         }
       where
         present : Good s → someMissing (bookOf s .row) ≡ false

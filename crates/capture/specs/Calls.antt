@@ -4,8 +4,8 @@
 --   recordBytes p column     a place and its 32 cost bytes
 --   wrapped arrival          the places modulo 64: no session from opening has one above 63
 --   rowOf arrival costs n    the first n of them, with their columns in the table
---   Writing s before r after   writing the session s into a buffer: of a good session the number and the buffer afterwards are the book's; a refused
---                            call leaves the buffer as it was, whatever the session
+--   Writing s before r after   writing the session s into a buffer: of a good session the number and the buffer afterwards are the book's; whatever
+--                            the session, a refused call leaves the buffer as it was, and the buffer keeps its length
 use mathlib.Core.Path.{_≡_}
 use mathlib.Core.List.{List, _∷_, map}
 use Prim.Native.Nat.{ℕ, _/_, _%_}
@@ -34,3 +34,4 @@ pub record Writing (s : Session) (before : List ℕ) (r : ℕ) (after : List ℕ
   pub number : Good s → r ≡ writeOf (bookOf s) before .number
   pub bytes : Good s → after ≡ writeOf (bookOf s) before .bytes
   pub kept : (r ≡ accepted → ⊥) → after ≡ before
+  pub size : length after ≡ length before

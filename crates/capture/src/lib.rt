@@ -2,10 +2,10 @@
 // It knows a session only by its fields and by `open` and `deliver`, and a column only as sixteen costs.
 // What a capture holds is written in `book`; every call here answers as the book does.
 ghost use mathlib.Core.Path.{_≡_};
-ghost use Prim.Native.Nat.{_+_, _*_, _≤_};
-ghost use lib.ListN.{length, take};
+ghost use Prim.Native.Nat.{_+_, _%_, _≤_, _<_};
+ghost use lib.ListN.{length, getD, take};
 ghost use Rattle.book.specs.Book.{places, width};
-ghost use Rattle.book.specs.Capture.{costBytes, rowBytes, costsFrom, recordsOf, recordLength};
+ghost use Rattle.book.specs.Capture.{costBytes, rowBytes, recordsOf, recordLength};
 ghost use Rattle.book.specs.CaptureOpening.{deliverRow, openCaptureOf};
 ghost use Rattle.book.specs.LookUp.{recordWith, lookUpOf};
 ghost use Rattle.session.specs.View.{bookOf, Good};
@@ -37,14 +37,22 @@ fn write_record(place: u8, column: &[u16], out: &mut [u8])
     write_costs(column, &mut out[1..]);
 }
 
-// The 64 records, in the order of arrival. No session from opening holds a place above 63.
+// The place that arrived as number i. No session from opening holds one above 63.
+fn arrived(arrival: &[u8], i: usize) -> u8
+    requires { ⌜ i < length (now arrival) ⌝ }
+    ensures { λ r. ⌜ r ≡ getD (now (arrival .entry)) i 0 % places ⌝ }
+{
+    arrival[i] % 64
+}
+
+// The 64 records, in the order of arrival.
 fn write_records(arrival: &[u8], costs: &[u16], out: &mut [u8])
     requires { ⌜ (length (now arrival) ≡ places) × (length (now costs) ≡ 1024) × (length (now out) ≡ 2112) ⌝ }
     ensures { λ _. ⌜ now (out .exit) ≡ rowBytes (rowOf (now (arrival .entry)) (now (costs .entry)) places) ⌝ }
 {
     let mut i = 0;
     while i < 64 {
-        let place = arrival[i] % 64;
+        let place = arrived(arrival, i);
         let from = 16 * (place as usize);
         let at = 33 * i;
         write_record(place, &costs[from..from + 16], &mut out[at..at + 33]);
@@ -101,20 +109,6 @@ pub fn write_capture(session: Session, out: &mut [u8]) -> u8
     refusals::ACCEPTED
 }
 
-// A column from its 32 bytes.
-fn read_column(bytes: &[u8]) -> [u16; 16]
-    requires { ⌜ length (now bytes) ≡ 32 ⌝ }
-    ensures { λ r. ⌜ r ≡ costsFrom (now (bytes .entry)) ⌝ }
-{
-    let mut out = [0u16; 16];
-    let mut j = 0;
-    while j < 16 {
-        out[j] = 256 * (bytes[2 * j] as u16) + bytes[2 * j + 1] as u16;
-        j += 1;
-    }
-    out
-}
-
 // The 64 records delivered in their order, up to the first that is refused.
 fn deliver_records(opened: Session, records: &[u8]) -> Opened
     requires { ⌜ Good opened × (length (now records) ≡ 2112) ⌝ }
@@ -125,7 +119,7 @@ fn deliver_records(opened: Session, records: &[u8]) -> Opened
     while i < 64 {
         let at = 33 * i;
         let place = records[at] as usize;
-        let column = read_column(&records[at + 1..at + 33]);
+        let column = soft::costs::column_from(&records[at + 1..at + 33]);
         let delivered = session::deliver(current, place, column);
         let number = delivered.refusal;
         if number != refusals::ACCEPTED {

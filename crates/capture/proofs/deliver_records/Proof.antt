@@ -1,14 +1,13 @@
 -- `capture::deliver_records` meets its contract. The loop's invariant: what is left to deliver answers as the whole row does.
 use borrow.Author.Needs.{needs}
 use mathlib.Core.Path.{_≡_, refl}
-use Prim.Native.Nat.{ℕ, _+_, _-_, _*_, _≤_}
+use Prim.Native.Nat.{_-_, _*_, _≤_}
 use native.Mathlib.Omega.{arith}
 use lib.ListN.{drop}
 use Rattle.book.specs.Book.{places}
 use Rattle.book.specs.Capture.{recordsOf}
 use Rattle.book.specs.CaptureOpening.{deliverRow}
 use Rattle.session.specs.View.{bookOf, Good}
-use Rattle.capture.proofs.Parts.{part-length}
 use Rattle.capture.proofs.Delivering.{turn, stop, finish}
 use Rattle.capture.proofs.deliver_records.Statement.{statement}
 use Rattle.capture.proofs.deliver_records.Tie as tie
@@ -33,25 +32,23 @@ shared-slice-read-place c = search needs
 cast-place : tie.Need-cast-place Inv-loop μ-loop
 cast-place c = omega (arith, c .shared-slice-known2 .given (33 * c .before .before .loop .i))
 
-add-read-column : tie.Need-add-read-column Inv-loop μ-loop
-add-read-column c = search needs
+add-column-from : tie.Need-add-column-from Inv-loop μ-loop
+add-column-from c = search needs
 
-add-read-column-2 : tie.Need-add-read-column-2 Inv-loop μ-loop
-add-read-column-2 c = search needs
+add-column-from-2 : tie.Need-add-column-from-2 Inv-loop μ-loop
+add-column-from-2 c = search needs
 
-sub-read-column : tie.Need-sub-read-column Inv-loop μ-loop
-sub-read-column c = search needs
+sub-column-from : tie.Need-sub-column-from Inv-loop μ-loop
+sub-column-from c = search needs
 
-part-read-column-start : tie.Need-part-read-column-start Inv-loop μ-loop
-part-read-column-start c = search needs
+part-column-from-start : tie.Need-part-column-from-start Inv-loop μ-loop
+part-column-from-start c = search needs
 
-part-read-column-end : tie.Need-part-read-column-end Inv-loop μ-loop
-part-read-column-end c = search needs
+part-column-from-end : tie.Need-part-column-from-end Inv-loop μ-loop
+part-column-from-end c = search needs
 
-read-column-requires : tie.Need-read-column-requires Inv-loop μ-loop
-read-column-requires c κs =
-    let i : ℕ = c .before .before .before .loop .i in
-    part-length (33 * i + 1) (33 * i + 33) 32 (c .before .before .before .before .before .args .records .now) (omega arith) (omega arith)
+column-from-requires : tie.Need-column-from-requires Inv-loop μ-loop
+column-from-requires c κs = search needs
 
 deliver-requires : tie.Need-deliver-requires Inv-loop μ-loop
 deliver-requires c κs = search needs
@@ -64,8 +61,8 @@ returns c =
     let s = c .before .before .before .before .before .before .before .before .before .args in
     let l = c .before .before .before .before .before .before .before .loop in
     rw (c .refused .ensures)
-    (stop (s .opened) (l .current) (s .records .now) (c .before .before .before .read-column .result) (l .i) (c .before .before .deliver .result)
-    (c .before .before .before .before .before .before .loop-test .taken) (l .inv .1) (l .inv .2) (c .before .before .before .read-column .ensures)
+    (stop (s .opened) (l .current) (s .records .now) (c .before .before .before .column-from .result) (l .i) (c .before .before .deliver .result)
+    (c .before .before .before .before .before .before .loop-test .taken) (l .inv .1) (l .inv .2) (c .before .before .before .column-from .ensures)
     (c .before .before .deliver .ensures) (c .before .if1 .taken))
 
 add-i : tie.Need-add-i Inv-loop μ-loop
@@ -80,8 +77,8 @@ loop-again c =
     let l = c .before .before .before .before .before .before .before .loop in (
       omega arith,
       c .before .before .deliver .ensures .good (l .inv .1),
-      turn (s .opened) (l .current) (s .records .now) (c .before .before .before .read-column .result) (l .i) (c .before .before .deliver .result)
-          (c .before .before .before .before .before .before .loop-test .taken) (l .inv .1) (l .inv .2) (c .before .before .before .read-column .ensures)
+      turn (s .opened) (l .current) (s .records .now) (c .before .before .before .column-from .result) (l .i) (c .before .before .deliver .result)
+          (c .before .before .before .before .before .before .loop-test .taken) (l .inv .1) (l .inv .2) (c .before .before .before .column-from .ensures)
           (c .before .before .deliver .ensures) (c .before .if1 .left),
     )
 
@@ -101,12 +98,12 @@ deliver-records-spec =
     mul-at
     shared-slice-read-place
     cast-place
-    add-read-column
-    add-read-column-2
-    sub-read-column
-    part-read-column-start
-    part-read-column-end
-    read-column-requires
+    add-column-from
+    add-column-from-2
+    sub-column-from
+    part-column-from-start
+    part-column-from-end
+    column-from-requires
     deliver-requires
     refused-requires
     returns

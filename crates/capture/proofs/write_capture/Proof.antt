@@ -1,6 +1,6 @@
 -- `capture::write_capture` meets its contract: each refusal is a case of writing; else the head and the records make up the capture.
 use borrow.Author.Needs.{needs}
-use mathlib.Core.Path.{_≡_, sym, ap₂, _∙_}
+use mathlib.Core.Path.{_≡_, sym, ap, ap₂, _∙_}
 use mathlib.Core.List.{List, _++_}
 use Prim.Native.Nat.{ℕ, _+_}
 use native.Mathlib.Omega.{arith}
@@ -84,8 +84,10 @@ returns-4 c =
     c .before .before .write-records .kept .1 .1 .0
     ∙ rest-length start 2112 (head ++ drop start out)
     (length-append head (drop start out) ∙ omega (arith, length-drop start out)) in
-    writing-accepted (a .session) out sized _ (c .before .before .before .before .before .before .before .before .before .before .before .before .before .if3 .left)
-    (both-parts out head rest start n (omega arith) ∙ ap₂ (λ (x y : List ℕ). x ++ y) (c .before .before .before .before .before .before .before .before .write-head .ensures) (c .before .before .write-records .ensures))
+    let whole = both-parts out head rest start n (omega arith) in
+    let long : length (head ++ rest) ≡ length out = length-append head rest ∙ omega arith in
+    writing-accepted (a .session) out sized _ (ap length whole ∙ long) (c .before .before .before .before .before .before .before .before .before .before .before .before .before .if3 .left)
+    (whole ∙ ap₂ (λ (x y : List ℕ). x ++ y) (c .before .before .before .before .before .before .before .before .write-head .ensures) (c .before .before .write-records .ensures))
 
 pub write-capture-spec : {M : Type 1} → statement M
 write-capture-spec =

@@ -3,9 +3,9 @@ use borrow.Author.Needs.{needs}
 use mathlib.Core.Path.{_≡_, refl, _∙_}
 use borrow.Rule.Slice.PartMut.{same-len-mid}
 use mathlib.Core.List.{List, _++_}
-use Prim.Native.Nat.{ℕ, _+_, _-_, _*_, _%_, _≤_}
+use Prim.Native.Nat.{ℕ, _+_, _-_, _*_, _≤_}
 use native.Mathlib.Omega.{arith}
-use lib.ListN.{length, getD, drop}
+use lib.ListN.{length, drop}
 use Rattle.book.specs.Capture.{rowBytes}
 use Rattle.capture.specs.Calls.{rowOf}
 use Rattle.capture.proofs.Parts.{part-length, records-start, records-turn, records-end}
@@ -24,8 +24,8 @@ loop-holds c =
     let a = c .before .before .before .args in
     (omega arith, refl, records-start (a .arrival .now) (a .costs .now) (a .out .now))
 
-shared-slice-read-place : tie.Need-shared-slice-read-place Inv-loop μ-loop
-shared-slice-read-place c = search needs
+arrived-requires : tie.Need-arrived-requires Inv-loop μ-loop
+arrived-requires c κs = search needs
 
 cast-from : tie.Need-cast-from Inv-loop μ-loop
 cast-from c = search needs
@@ -67,8 +67,8 @@ write-record-requires : tie.Need-write-record-requires Inv-loop μ-loop
 write-record-requires c κs =
     let a = c .before .before .before .before .before .before .before .before .args in
     let i : ℕ = c .before .before .before .before .loop .i in
-    let from : ℕ = 16 * (getD (a .arrival .now) i 0 % 64) in (
-      part-length from (from + 16) 16 (a .costs .now) refl (omega arith),
+    let from : ℕ = 16 * c .before .before .arrived .result in (
+      part-length from (from + 16) 16 (a .costs .now) refl (omega (arith, c .before .before .arrived .ensures)),
       part-length (33 * i) (33 * i + 33) 33 (c .before .before .before .before .loop .out) refl (omega arith),
     )
 
@@ -81,14 +81,13 @@ loop-less c = search needs
 loop-again : tie.Need-loop-again Inv-loop μ-loop
 loop-again c =
     let s = c .before .before .before .before .before .before .before .before .before .before .before in
-    let i : ℕ = c .before .before .before .before .before .before .before .loop .i in
-    let out : List ℕ = c .before .before .before .before .before .before .before .loop .out in
+    let l = c .before .before .before .before .before .before .before .loop in
+    let p = c .before .before .before .before .before .arrived in
     let part : List ℕ = c .before .before .write-record .last .1 .1 .0 in (
       omega arith,
-      same-len-mid (33 * i) (33 * i + 33 - 33 * i) out part (c .before .before .write-record .kept .1 .1 .0)
-          ∙ c .before .before .before .before .before .before .before .loop .inv .1,
-      records-turn (s .args .arrival .now) (s .args .costs .now) (s .args .out .now) out part i (s .pre .1) (c .before .before .write-record .ensures)
-          (c .before .before .before .before .before .before .before .loop .inv .2),
+      same-len-mid (33 * l .i) (33 * l .i + 33 - 33 * l .i) (l .out) part (c .before .before .write-record .kept .1 .1 .0) ∙ l .inv .1,
+      records-turn (s .args .arrival .now) (s .args .costs .now) (s .args .out .now) (l .out) part (l .i) (p .result) (s .pre .1) (p .ensures)
+          (c .before .before .write-record .ensures) (l .inv .2),
     )
 
 same-length : tie.Need-same-length Inv-loop μ-loop
@@ -107,7 +106,7 @@ write-records-spec =
     Inv-loop
     μ-loop
     loop-holds
-    shared-slice-read-place
+    arrived-requires
     cast-from
     mul-from
     mul-at
