@@ -4,6 +4,7 @@
 //!   rates and the doubts.
 //! - [`Kind`], [`KINDS`], [`frame`]: what a frame is made to try.
 //! - [`some_places`], [`random_codeword`]: what they are made from.
+//! - [`frame_s`]: the columns of the bench sheet's frames.
 
 use crate::code::Code;
 use crate::curve::PLACES;
@@ -111,6 +112,21 @@ pub fn frame(kind: Kind, rate: u64, doubt: usize, random: &mut Random) -> Frame 
         doubtful,
         columns,
     }
+}
+
+/// "Frame S(m), rate 39: at the first m of places 0, 10, 20, 30, 40, 50, 60, symbol 1 costs 0,
+/// symbol 0 costs 30, others 40; elsewhere symbol 0 costs 0, others 40."
+pub fn frame_s(m: usize) -> Columns {
+    std::array::from_fn(|place| {
+        let mut column = [40; 16];
+        if place % 10 == 0 && place / 10 < m {
+            column[1] = 0;
+            column[0] = 30;
+        } else {
+            column[0] = 0;
+        }
+        column
+    })
 }
 
 /// A strictly rising list of places.

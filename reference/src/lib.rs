@@ -31,8 +31,8 @@
 //! distance, [`damage`] captures with faults. The binary `compare` runs them in two ways.
 //!
 //! Calls that cross as numbers and byte slices are linked: with the feature `proved`, and with
-//! `MODEM_LIB_DIR` naming the folder of `libmodem.a`, `compare code` and `compare table` run the
-//! trials of [`trials`] on both libraries.
+//! `MODEM_LIB_DIR` naming the folder of `libmodem.a`, `compare code` runs the trials of
+//! [`trials`] on both libraries.
 //!
 //! Sessions and captures are compared by stream: a program reads calls on its standard input and
 //! writes answers on its standard output, laid out as in [`calls`]; `compare run` starts it on the
@@ -42,7 +42,7 @@
 //! ```text
 //! cargo test --offline
 //! cargo run --offline --release --bin compare -- run OCDRWXL 1 3000 PROGRAM
-//! MODEM_LIB_DIR=.. cargo run --offline --release --features proved --bin compare -- table 1 3000
+//! MODEM_LIB_DIR=.. cargo run --offline --release --features proved --bin compare -- code 1 20000
 //! ```
 
 pub mod call_lists;

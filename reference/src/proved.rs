@@ -1,65 +1,44 @@
-//! The proved library's calls, from `libmodem.a`.
+//! The proved library's calls, from `libmodem.a`, declared as in `include/hermitian.h`.
 //!
-//! - [`PROVED`]: the three calls of the firmware.
-//!
-//! "Numbers pass as themselves, and a `&[u8]` passes as a pointer and then a length." Nothing
-//! checks these declarations against the library: they follow its header.
+//! - [`PROVED`]: encoding and reading back.
 
-use crate::trials::Library;
+use crate::trials::Coding;
 
 extern "C" {
-    fn encode(
-        rate: u64,
+    fn hermitian_encode(
+        rate: usize,
         message: *const u8,
-        message_len: usize,
+        message_length: usize,
         frame: *mut u8,
-        frame_len: usize,
+        frame_length: usize,
         start: usize,
     ) -> u8;
 
-    fn read_back(
-        rate: u64,
+    fn hermitian_read_back(
+        rate: usize,
         word: *const u8,
-        word_len: usize,
+        word_length: usize,
         message: *mut u8,
-        message_len: usize,
-    ) -> u8;
-
-    fn decode_table(
-        rate: u64,
-        table: *const u8,
-        table_len: usize,
-        doubt: u64,
-        message: *mut u8,
-        message_len: usize,
-        report: *mut u8,
-        report_len: usize,
+        message_length: usize,
     ) -> u8;
 }
 
 /// The proved library. Its calls ask nothing of their arguments, and Rust's references keep the
 /// buffers apart from each other.
-pub const PROVED: Library = Library {
+pub const PROVED: Coding = Coding {
     encode: |rate, message, frame, start| unsafe {
         let (to, room) = (frame.as_mut_ptr(), frame.len());
-        encode(rate, message.as_ptr(), message.len(), to, room, start)
+        hermitian_encode(
+            rate as usize,
+            message.as_ptr(),
+            message.len(),
+            to,
+            room,
+            start,
+        )
     },
     read_back: |rate, word, message| unsafe {
         let (to, room) = (message.as_mut_ptr(), message.len());
-        read_back(rate, word.as_ptr(), word.len(), to, room)
-    },
-    decode_table: |rate, table, doubt, message, report| unsafe {
-        let (to, room) = (message.as_mut_ptr(), message.len());
-        let (report, report_room) = (report.as_mut_ptr(), report.len());
-        decode_table(
-            rate,
-            table.as_ptr(),
-            table.len(),
-            doubt,
-            to,
-            room,
-            report,
-            report_room,
-        )
+        hermitian_read_back(rate as usize, word.as_ptr(), word.len(), to, room)
     },
 };

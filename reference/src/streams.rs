@@ -1,9 +1,11 @@
 //! Running another program on lists of calls, and on captures, and comparing what it writes.
 //!
 //! - [`compare_calls`]: one process for each share of the frames; it reads calls and writes
-//!   answers, as [`crate::calls`] lays them out.
+//!   answers, as [`crate::calls`] lays them out. The [`Tally`] says what was compared.
 //! - [`compare_shows`]: a process for each capture, valid or damaged, that prints as `show` does.
 
+use std::collections::BTreeMap;
+use std::fmt;
 use std::io::{Read, Write};
 use std::process::{Command, Stdio};
 use std::thread;
@@ -16,6 +18,49 @@ use crate::random::Random;
 use crate::session::Session;
 use crate::show::show;
 
+/// How often each call was answered with each number; a look-up's number is the part's length.
+#[derive(Clone, Debug, Default, PartialEq, Eq)]
+pub struct Tally(BTreeMap<(char, u16), usize>);
+
+impl Tally {
+    /// How many calls were compared.
+    pub fn calls(&self) -> usize {
+        self.0.values().sum()
+    }
+
+    fn count(&mut self, call: &Call, answer: &[u8]) {
+        let number = match call {
+            Call::LookUp { .. } => u16::from_be_bytes([answer[0], answer[1]]),
+            _ => u16::from(answer[0]),
+        };
+        *self
+            .0
+            .entry((char::from(call.letter()), number))
+            .or_default() += 1;
+    }
+
+    fn add(&mut self, other: Tally) {
+        for (answer, times) in other.0 {
+            *self.0.entry(answer).or_default() += times;
+        }
+    }
+}
+
+impl fmt::Display for Tally {
+    /// Each letter once, then its numbers and how often they came.
+    fn fmt(&self, out: &mut fmt::Formatter) -> fmt::Result {
+        let mut last = ' ';
+        for ((letter, number), times) in &self.0 {
+            if *letter != last {
+                write!(out, "{}{letter}", if last == ' ' { "" } else { "; " })?;
+            }
+            write!(out, " {number}: {times}")?;
+            last = *letter;
+        }
+        Ok(())
+    }
+}
+
 /// The calls of one numbered frame whose letters are among those chosen.
 pub fn chosen_calls(letters: &str, seed: u64, number: u64) -> Vec<Call> {
     let mut calls = call_list(seed, number);
@@ -23,51 +68,64 @@ pub fn chosen_calls(letters: &str, seed: u64, number: u64) -> Vec<Call> {
     calls
 }
 
-/// Runs a program on the chosen calls of `count` frames. The number of calls compared, or a line
-/// that names the first difference.
+/// Runs a program on the chosen calls of `count` frames. What was compared, or a line that names
+/// the first difference.
 pub fn compare_calls(
     program: &[String],
     letters: &str,
     seed: u64,
     count: u64,
-) -> Result<usize, String> {
-    in_shares(count, |numbers| {
+) -> Result<Tally, String> {
+    let tallies = in_shares(count, |numbers| {
         let frames: Vec<(u64, Vec<Call>)> = numbers
             .map(|number| (number, chosen_calls(letters, seed, number)))
             .collect();
         let calls = frames.iter().flat_map(|(_, calls)| calls);
         let answers = output_of(program, calls.flat_map(Call::bytes).collect())?;
         check_answers(&frames, &answers)
-    })
+    })?;
+    let mut sum = Tally::default();
+    for tally in tallies {
+        sum.add(tally);
+    }
+    Ok(sum)
 }
 
 /// Checks a program's answers to the frames' calls, which one session after the other takes.
-pub fn check_answers(frames: &[(u64, Vec<Call>)], answers: &[u8]) -> Result<usize, String> {
+pub fn check_answers(frames: &[(u64, Vec<Call>)], answers: &[u8]) -> Result<Tally, String> {
     let mut rest = answers;
-    let mut checked = 0;
+    let mut tally = Tally::default();
     let mut session = Session::default();
     for (number, calls) in frames {
         for (at, call) in calls.iter().enumerate() {
             let expected = call.answer(&mut session);
-            let place = format!("frame {number}, call {at} ({})", char::from(call.letter()));
             rest = rest.strip_prefix(&expected[..]).ok_or_else(|| {
-                let got = &rest[..rest.len().min(expected.len())];
-                format!("{place}: expected {expected:02x?}, got {got:02x?}")
+                let letter = char::from(call.letter());
+                let difference = difference(&expected, rest);
+                format!("frame {number}, call {at} ({letter}): {difference}")
             })?;
-            checked += 1;
+            tally.count(call, &expected);
         }
     }
     if rest.is_empty() {
-        Ok(checked)
+        Ok(tally)
     } else {
         Err(format!("{} bytes after the last answer", rest.len()))
     }
 }
 
+/// A few bytes from the first that differs.
+fn difference(expected: &[u8], got: &[u8]) -> String {
+    let same = expected.iter().zip(got).take_while(|(e, g)| e == g).count();
+    let some = |bytes: &[u8]| format!("{:02x?}", &bytes[same..bytes.len().min(same + 8)]);
+    let (length, expected, got) = (expected.len(), some(expected), some(got));
+    format!("byte {same} of {length}: expected {expected}, got {got}")
+}
+
 /// Runs a program on the captures of `count` frames, every second one damaged. The number of
 /// captures compared, or a line that names the first difference.
 pub fn compare_shows(program: &[String], seed: u64, count: u64) -> Result<usize, String> {
-    in_shares(count, |numbers| {
+    let compared = in_shares(count, |numbers| {
         let mut compared = 0;
         for number in numbers {
             let capture = numbered_capture(seed, number);
@@ -82,7 +140,8 @@ pub fn compare_shows(program: &[String], seed: u64, count: u64) -> Result<usize,
             compared += 1;
         }
         Ok(compared)
-    })
+    })?;
+    Ok(compared.into_iter().sum())
 }
 
 /// The capture of a numbered frame in random order; damaged where the number is odd.
@@ -98,10 +157,10 @@ pub fn numbered_capture(seed: u64, number: u64) -> Vec<u8> {
 }
 
 /// Does the numbers below `count` in as many shares as there are processors.
-fn in_shares(
+fn in_shares<T: Send>(
     count: u64,
-    share: impl Fn(std::iter::StepBy<std::ops::Range<u64>>) -> Result<usize, String> + Sync,
-) -> Result<usize, String> {
+    share: impl Fn(std::iter::StepBy<std::ops::Range<u64>>) -> Result<T, String> + Sync,
+) -> Result<Vec<T>, String> {
     let shares = thread::available_parallelism().map_or(1, |shares| shares.get());
     let share = &share;
     thread::scope(|scope| {
@@ -110,7 +169,7 @@ fn in_shares(
         started
             .into_iter()
             .map(|share| share.join().expect("a thread that ends"))
-            .sum()
+            .collect()
     })
 }
 
@@ -151,8 +210,8 @@ mod tests {
         let frames = [(3, chosen_calls(ALL, 70, 3)), (4, chosen_calls(ALL, 70, 4))];
         let calls = frames.iter().flat_map(|(_, calls)| calls);
         let answers = answer_all(&calls.flat_map(Call::bytes).collect::<Vec<u8>>()).unwrap();
-        let count = frames.iter().map(|(_, calls)| calls.len()).sum();
-        assert_eq!(check_answers(&frames, &answers), Ok(count));
+        let count: usize = frames.iter().map(|(_, calls)| calls.len()).sum();
+        assert_eq!(check_answers(&frames, &answers).unwrap().calls(), count);
         let mut random = Random::new(71, 0);
         for _ in 0..20 {
             let mut wrong = answers.clone();
@@ -164,6 +223,15 @@ mod tests {
         }
         assert!(check_answers(&frames, &answers[1..]).is_err());
         assert!(check_answers(&frames, &[&answers[..], &[0]].concat()).is_err());
+    }
+
+    #[test]
+    fn a_difference_shows_where_it_is() {
+        assert_eq!(
+            difference(&[2, 0xee, 0xee], &[2, 0xee, 0]),
+            "byte 2 of 3: expected [ee], got [00]"
+        );
+        assert_eq!(difference(&[7], &[]), "byte 0 of 1: expected [07], got []");
     }
 
     #[test]

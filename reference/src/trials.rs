@@ -1,7 +1,7 @@
 //! The three calls of the firmware, and random trials that compare two libraries on them.
 //!
-//! - [`Library`]: encoding, reading back and table decoding, each returning the refusal or 0;
-//!   [`REFERENCE`] is this package's.
+//! - [`Coding`]: encoding and reading back; [`DecodeTable`]: table decoding; each returns the refusal
+//!   or 0. [`REFERENCE`] and [`REFERENCE_TABLE`] are this package's.
 //! - [`encode_trial`], [`read_back_trial`], [`table_trial`]: one numbered call, right or damaged,
 //!   on a library; the [`Outcome`] is its number and every byte of its buffers.
 //! - [`compare`]: many trials on two libraries; the [`Tally`] of numbers, or a [`Difference`].
@@ -14,25 +14,26 @@ use crate::frames::{random_codeword, Frame, RATES};
 use crate::random::Random;
 use crate::refusal::number;
 
-/// Table decoding: rate, table, doubt, message, report.
-pub type DecodeTable = fn(u64, &[u8], u64, &mut [u8], &mut [u8]) -> u8;
-
-/// The calls of the firmware: "these return the refusal, or 0."
-pub struct Library {
+/// Encoding and reading back, as the firmware calls them: "these return the refusal, or 0."
+pub struct Coding {
     /// Rate, message, frame, start.
     pub encode: fn(u64, &[u8], &mut [u8], usize) -> u8,
     /// Rate, word, message.
     pub read_back: fn(u64, &[u8], &mut [u8]) -> u8,
-    pub decode_table: DecodeTable,
 }
 
-/// This package's calls.
-pub const REFERENCE: Library = Library {
+/// Table decoding, as the firmware calls it: rate, table, doubt, message, report.
+pub type DecodeTable = fn(u64, &[u8], u64, &mut [u8], &mut [u8]) -> u8;
+
+/// This package's encoding and reading back.
+pub const REFERENCE: Coding = Coding {
     encode: |rate, message, frame, start| number(&encode(rate, message, frame, start)),
     read_back: |rate, word, message| number(&read_back(rate, word, message)),
-    decode_table: |rate, table, doubt, message, report| {
-        number(&decode_table(rate, table, doubt, message, report))
-    },
+};
+
+/// This package's table decoding.
+pub const REFERENCE_TABLE: DecodeTable = |rate, table, doubt, message, report| {
+    number(&decode_table(rate, table, doubt, message, report))
 };
 
 /// What a call returned, and every byte of its lent buffers afterwards.
@@ -50,13 +51,13 @@ pub struct Difference {
 }
 
 /// One call of a library, the same for the same random stream.
-pub type Trial = fn(&Library, Random) -> Outcome;
+pub type Trial<L> = fn(&L, Random) -> Outcome;
 
 /// How often each number was returned.
 pub type Tally = [u64; 12];
 
 /// Encoding into the middle of a frame.
-pub fn encode_trial(library: &Library, mut random: Random) -> Outcome {
+pub fn encode_trial(library: &Coding, mut random: Random) -> Outcome {
     let symbols = random.one_of(&RATES) as usize;
     let rate = perhaps_unknown(symbols as u64, &mut random);
     let length = perhaps_other(symbols, &mut random);
@@ -81,7 +82,7 @@ pub fn encode_trial(library: &Library, mut random: Random) -> Outcome {
 }
 
 /// Reading back a codeword, one with a few wrong symbols, or any word.
-pub fn read_back_trial(library: &Library, mut random: Random) -> Outcome {
+pub fn read_back_trial(library: &Coding, mut random: Random) -> Outcome {
     let symbols = random.one_of(&RATES) as usize;
     let code = Code::of_rate(symbols as u64).expect("a known rate");
     let mut word = random_codeword(code, &mut random).elements().to_vec();
@@ -101,7 +102,7 @@ pub fn read_back_trial(library: &Library, mut random: Random) -> Outcome {
 }
 
 /// Table decoding of one of the numbered frames.
-pub fn table_trial(library: &Library, mut random: Random) -> Outcome {
+pub fn table_trial(decode_table: &DecodeTable, mut random: Random) -> Outcome {
     let frame = Frame::numbered(random.number(), random.below(1 << 20) as u64);
     let mut table = table_of_columns(&frame.columns);
     table.resize(perhaps_other(table.len(), &mut random), 0);
@@ -113,7 +114,7 @@ pub fn table_trial(library: &Library, mut random: Random) -> Outcome {
     let rate = perhaps_unknown(frame.rate, &mut random);
     let mut message = bytes(perhaps_other(frame.rate as usize, &mut random), &mut random);
     let mut report = bytes(perhaps_other(8, &mut random), &mut random);
-    let number = (library.decode_table)(rate, &table, doubt, &mut message, &mut report);
+    let number = decode_table(rate, &table, doubt, &mut message, &mut report);
     Outcome {
         number,
         buffers: vec![message, report],
@@ -162,9 +163,9 @@ fn spoil_symbol(symbols: &mut [u8], random: &mut Random) {
 
 /// Runs trials 0 to `count` − 1 of a seed on both libraries: how often each number came, or the
 /// first trial found whose outcomes differ.
-pub fn compare(
-    trial: Trial,
-    libraries: [&Library; 2],
+pub fn compare<L: Sync>(
+    trial: Trial<L>,
+    libraries: [&L; 2],
     seed: u64,
     count: u64,
 ) -> Result<Tally, Difference> {
@@ -202,46 +203,47 @@ pub fn compare(
 mod tests {
     use super::*;
 
+    /// The numbers that come often when a library is compared with itself.
+    fn reached<L: Sync>(trial: Trial<L>, library: &L, count: u64) -> Vec<usize> {
+        let tally = compare(trial, [library, library], 60, count).unwrap();
+        (0..12).filter(|number| tally[*number] >= 10).collect()
+    }
+
     #[test]
     fn trials_reach_every_answer() {
-        let both = [&REFERENCE, &REFERENCE];
-        let reached = |trial, count| -> Vec<usize> {
-            let tally = compare(trial, both, 60, count).unwrap();
-            (0..12).filter(|number| tally[*number] >= 10).collect()
-        };
-        assert_eq!(reached(encode_trial, 4000), [0, 1, 2, 3]);
-        assert_eq!(reached(read_back_trial, 4000), [0, 1, 2, 3, 8]);
-        assert_eq!(reached(table_trial, 1200), [0, 1, 2, 4, 9]);
+        assert_eq!(reached(encode_trial, &REFERENCE, 4000), [0, 1, 2, 3]);
+        assert_eq!(reached(read_back_trial, &REFERENCE, 4000), [0, 1, 2, 3, 8]);
+        assert_eq!(
+            reached(table_trial, &REFERENCE_TABLE, 1200),
+            [0, 1, 2, 4, 9]
+        );
     }
 
     /// Libraries with one fault each.
     #[test]
     fn faults_are_found() {
-        let shifted = Library {
+        let shifted = Coding {
             encode: |rate, message, frame, start| {
                 (REFERENCE.encode)(rate, message, frame, start.saturating_sub(1))
             },
             ..REFERENCE
         };
-        let lenient = Library {
+        let lenient = Coding {
             read_back: |rate, word, message| match (REFERENCE.read_back)(rate, word, message) {
                 8 => 0,
                 number => number,
             },
             ..REFERENCE
         };
-        let miscounting = Library {
-            decode_table: |rate, table, doubt, message, report| {
-                let number = (REFERENCE.decode_table)(rate, table, doubt, message, report);
-                if number == 0 && doubt == 8 {
-                    report[5] = report[5].wrapping_add(1);
-                }
-                number
-            },
-            ..REFERENCE
+        let miscounting: DecodeTable = |rate, table, doubt, message, report| {
+            let number = REFERENCE_TABLE(rate, table, doubt, message, report);
+            if number == 0 && doubt == 8 {
+                report[5] = report[5].wrapping_add(1);
+            }
+            number
         };
         assert!(compare(encode_trial, [&REFERENCE, &shifted], 61, 400).is_err());
         assert!(compare(read_back_trial, [&REFERENCE, &lenient], 61, 400).is_err());
-        assert!(compare(table_trial, [&REFERENCE, &miscounting], 61, 400).is_err());
+        assert!(compare(table_trial, [&REFERENCE_TABLE, &miscounting], 61, 400).is_err());
     }
 }

@@ -5,6 +5,7 @@ use reference::code::encode;
 use reference::curve::{monomials, points, Monomial, Point, PLACES};
 use reference::decode::{decode_table, table_of_columns, Answer};
 use reference::field::times;
+use reference::frames::frame_s;
 use reference::refusal::Refusal;
 use reference::session::Session;
 use reference::show::show;
@@ -82,21 +83,6 @@ fn c10_all_sixteen_at_the_ceiling() {
     assert_eq!((best(&column), second(&column), gap(&column)), (0, 1, 0));
 }
 
-/// "Frame S(m), rate 39: at the first m of places 0, 10, 20, 30, 40, 50, 60, symbol 1 costs 0,
-/// symbol 0 costs 30, others 40; elsewhere symbol 0 costs 0, others 40."
-fn frame_s(m: usize) -> Columns {
-    std::array::from_fn(|place| {
-        let mut column = [40; 16];
-        if place % 10 == 0 && place / 10 < m {
-            column[1] = 0;
-            column[0] = 30;
-        } else {
-            column[0] = 0;
-        }
-        column
-    })
-}
-
 /// Table decoding's answer, taken from the buffers.
 fn decoded(rate: u64, columns: &Columns, doubt: u64) -> Result<Answer, Refusal> {
     let mut message = vec![99; rate as usize];
@@ -150,6 +136,7 @@ fn r3_seven_wrong_places_one_of_them_doubtful() {
     assert_eq!(write_capture(&session, &mut capture), Ok(()));
     let expected = format!("39 1 210 1 0 7\n{}\n", "0".repeat(39));
     assert_eq!(show(&capture), expected);
+    assert_eq!(show(include_bytes!("../../examples/r3.capture")), expected);
 }
 
 #[test]

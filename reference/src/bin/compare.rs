@@ -7,8 +7,9 @@ use std::process::ExitCode;
 use std::time::Instant;
 
 use reference::calls::{answer_all, Call};
+use reference::damage::capture_of;
 use reference::decode::{decode, test_words};
-use reference::frames::{frame, Kind, RATES};
+use reference::frames::{frame, frame_s, Frame, Kind, RATES};
 use reference::nearest::Finder;
 use reference::random::Random;
 use reference::show::show;
@@ -18,11 +19,11 @@ const USAGE: &str = "\
 compare calls LETTERS SEED COUNT            write the calls of COUNT frames
 compare answers                             read calls, write their answers
 compare run LETTERS SEED COUNT PROGRAM ..   run a program on these calls and compare its answers
+compare example                             write the capture of the bench sheet's R3
 compare show                                read a capture, print what `show` prints
 compare shows SEED COUNT PROGRAM ..         run a program on COUNT captures and compare
 compare time COUNT                          decode COUNT frames of each sort and time them
 compare code SEED COUNT                     the proved encoding and reading back (feature proved)
-compare table SEED COUNT                    the proved table decoding (feature proved)
 LETTERS are those of the calls wanted, of OCDRWXL.";
 
 fn main() -> ExitCode {
@@ -45,9 +46,11 @@ fn run(arguments: &[String]) -> Result<(), String> {
             output(&answers)
         }
         ["run", letters, seed, count, _, ..] => {
-            let calls = compare_calls(&arguments[4..], letters, number(seed)?, number(count)?)?;
-            output(format!("{count} frames, {calls} calls alike\n").as_bytes())
+            let tally = compare_calls(&arguments[4..], letters, number(seed)?, number(count)?)?;
+            let calls = tally.calls();
+            output(format!("{count} frames, {calls} calls alike ({tally})\n").as_bytes())
         }
+        ["example"] => output(&example()),
         ["show"] => output(show(&input()?).as_bytes()),
         ["shows", seed, count, _, ..] => {
             let captures = compare_shows(&arguments[3..], number(seed)?, number(count)?)?;
@@ -56,10 +59,19 @@ fn run(arguments: &[String]) -> Result<(), String> {
         ["time", count] => time(number(count)?),
         #[cfg(feature = "proved")]
         ["code", seed, count] => proved::code(number(seed)?, number(count)?),
-        #[cfg(feature = "proved")]
-        ["table", seed, count] => proved::table(number(seed)?, number(count)?),
         _ => Err(USAGE.to_string()),
     }
+}
+
+/// The capture of R3, its places in their order.
+fn example() -> Vec<u8> {
+    let frame = Frame {
+        rate: 39,
+        doubtful: vec![0],
+        columns: frame_s(7),
+    };
+    let places: Vec<u8> = (0..64).collect();
+    capture_of(&frame, &places)
 }
 
 fn number(word: &str) -> Result<u64, String> {
@@ -120,7 +132,7 @@ fn time(count: u64) -> Result<(), String> {
 mod proved {
     use reference::proved::PROVED;
     use reference::trials::{
-        compare, encode_trial, read_back_trial, table_trial, Difference, Trial, REFERENCE,
+        compare, encode_trial, read_back_trial, Coding, Difference, Trial, REFERENCE,
     };
 
     pub fn code(seed: u64, count: u64) -> Result<(), String> {
@@ -128,12 +140,8 @@ mod proved {
         report("read back", read_back_trial, seed, count)
     }
 
-    pub fn table(seed: u64, count: u64) -> Result<(), String> {
-        report("table decoding", table_trial, seed, count)
-    }
-
     /// Prints how often each number was returned.
-    fn report(name: &str, trial: Trial, seed: u64, count: u64) -> Result<(), String> {
+    fn report(name: &str, trial: Trial<Coding>, seed: u64, count: u64) -> Result<(), String> {
         let tally = compare(trial, [&REFERENCE, &PROVED], seed, count).map_err(|difference| {
             let Difference {
                 trial,
