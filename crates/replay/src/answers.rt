@@ -1,10 +1,16 @@
-// The answer to each call: the refusal's number or 0, then all bytes of the lent buffers.
-// Each takes the session and hands back the one that the call leaves.
+// The answer to each call: the refusal's number or 0, then all bytes of the lent buffers; to a look-up, the part's length and the part.
+// Each call takes the session and hands back the one that it leaves.
 use crate::stream;
 use session::Session;
 
 fn open(rate: usize, doubtful: &[u8]) -> Session {
     let opened = session::open(rate, doubtful);
+    stream::write_byte(opened.refusal);
+    opened.session
+}
+
+fn open_capture(bytes: &[u8]) -> Session {
+    let opened = capture::open_capture(bytes);
     stream::write_byte(opened.refusal);
     opened.session
 }
@@ -15,17 +21,44 @@ fn deliver(current: Session, place: usize, column: &[u8]) -> Session {
     delivered.session
 }
 
+fn write_capture_to(current: Session, out: &mut [u8]) {
+    let refusal = capture::write_capture(current, out);
+    stream::write_byte(refusal);
+    stream::write(out);
+}
+
+fn write_capture(current: Session, size: usize) -> Session {
+    if stream::MOST_BYTES < size {
+        return current;
+    }
+    let mut space = stream::lent();
+    write_capture_to(current, &mut space[..size]);
+    current
+}
+
+fn look_up(current: Session, place: usize, bytes: &[u8]) -> Session {
+    let part = capture::look_up(bytes, place);
+    stream::write_number(part.len());
+    stream::write(part);
+    current
+}
+
 // By the letter of a call whose arguments start with a number.
 fn answer_numbered(current: Session, letter: u8, number: usize, rest: &[u8]) -> Session {
     match letter {
         b'O' => open(number, rest),
         b'D' => deliver(current, number, rest),
+        b'W' => write_capture(current, number),
+        b'L' => look_up(current, number, rest),
         _ => current,
     }
 }
 
 // A call that is none of these gets no answer.
 pub fn answer(current: Session, letter: u8, arguments: &[u8]) -> Session {
+    if letter == b'C' {
+        return open_capture(arguments);
+    }
     if arguments.len() < 2 {
         return current;
     }
