@@ -32,7 +32,7 @@ pub struct Delivered {
     pub session: Session,
 }
 
-fn known_rate(rate: usize) -> bool
+pub fn known_rate(rate: usize) -> bool
     ensures { λ r. ⌜ r ≡ knownRate rate ⌝ }
 {
     if rate == 39 {
@@ -123,7 +123,7 @@ pub fn open(rate: usize, doubtful: &[u8]) -> Opened
     }
 }
 
-fn is_among(place: usize, list: &[u8]) -> bool
+pub fn is_among(place: usize, list: &[u8]) -> bool
     ensures { λ r. ⌜ r ≡ among place (now (list .entry)) ⌝ }
 {
     let mut i = 0;

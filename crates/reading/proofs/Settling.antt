@@ -1,0 +1,84 @@
+-- The places flagged, each with the word's symbol, are the book's settled places.
+--
+--   flag-away, flag-doubtful, flag-settled   the three cases of a flag
+--   settled-session      the nodes of the word of best symbols and the flags are those of the session's book
+--   session-reading      so their reading is the book's
+--   m-of                 M is between 32 and 127 at a known rate
+use mathlib.Core.Bool.{Bool, true, false, cond, not, _&&_, _||_}
+use mathlib.Core.Path.{_≡_, refl, sym, ap, ap₂, _∙_}
+use mathlib.Core.List.{List, [], _∷_}
+use Prim.Native.Nat.{ℕ, zero, suc, _+_, _<_, _≤_}
+use native.Mathlib.Omega.{arith}
+use lib.Dec.{eqb}
+use lib.ListN.{getD, take}
+use borrow.Author.Tests.{eqb-true}
+use Rattle.lists.specs.Count.{bit}
+use Rattle.lists.specs.Listed.{listed, listed-at}
+use Rattle.lists.specs.Distinct.{among}
+use Rattle.soft.specs.Column.{symbols, columnOf}
+use Rattle.soft.specs.TestWord.{bestWord}
+use Rattle.soft.specs.TestWordLaws.{bestWord-at}
+use Rattle.code.specs.Nodes.{Node, node}
+use Rattle.near.specs.Near.{mOf}
+use Rattle.interpolant.specs.LeastQ.{readingOf}
+use Rattle.interpolation.specs.Settled.{settled, settled-nil, settled-suc}
+use Rattle.book.specs.Book.{places}
+use Rattle.book.specs.Opening.{knownRate}
+use Rattle.book.specs.Reading.{isSettled, settledAt, settledBelow, settledOf}
+use Rattle.session.specs.declared.Session.{Session}
+use Rattle.session.specs.View.{bookOf, Good}
+use Rattle.session.specs.Table.{settled-arrived, settled-table}
+use Rattle.reading.specs.Flags.{flagOf}
+
+module _ (arrived doubtful : List ℕ) (p : ℕ) where
+  pub flag-away : among p arrived ≡ false → 0 ≡ flagOf arrived doubtful p
+  unfolding flagOf
+  flag-away e = rw e
+
+  pub flag-doubtful : among p arrived ≡ true → among p doubtful ≡ true → 0 ≡ flagOf arrived doubtful p
+  unfolding flagOf
+  flag-doubtful e d = rw (e, d)
+
+  pub flag-settled : among p arrived ≡ true → among p doubtful ≡ false → 1 ≡ flagOf arrived doubtful p
+  unfolding flagOf
+  flag-settled e d = rw (e, d)
+
+bit-one : (b : Bool) → eqb (bit b) 1 ≡ b
+bit-one true = refl
+bit-one false = refl
+
+module _ (s : Session) (good : Good s) (word flags : List ℕ) (w : word ≡ bestWord places (columnOf symbols (s .costs)))
+    (f : flags ≡ listed places (flagOf (take (s .taken) (s .arrival)) (take (s .doubt) (s .doubtful)))) where
+  flagged : (p : ℕ) → p < places → eqb (getD flags p 0) 1 ≡ isSettled (bookOf s) p
+  unfolding flagOf
+  flagged p h =
+      ap (λ x. eqb x 1)
+      (ap (λ (l : List ℕ). getD l p 0) f ∙ listed-at places p (flagOf (take (s .taken) (s .arrival)) (take (s .doubt) (s .doubtful))) 0 h)
+      ∙ bit-one (among p (take (s .taken) (s .arrival)) && not (among p (take (s .doubt) (s .doubtful))))
+      ∙ sym (settled-arrived s good p)
+
+  noded : (p : ℕ) → p < places → node p (getD word p 0) ≡ settledAt (bookOf s) p
+  noded p h =
+      ap (λ (l : List ℕ). node p (getD l p 0)) w ∙ ap (node p) (bestWord-at places (columnOf symbols (s .costs)) p h)
+      ∙ sym (settled-table s good p)
+
+  pub settled-session : (n : ℕ) → n ≤ places → settled word flags n ≡ settledBelow (bookOf s) n
+  unfolding settledBelow
+  settled-session zero h = settled-nil word flags
+  settled-session (suc n) h =
+      let ih : settled word flags n ≡ settledBelow (bookOf s) n = settled-session n (omega arith) in
+      settled-suc word flags n
+      ∙ ap (λ b. cond b (node n (getD word n 0) ∷ settled word flags n) (settled word flags n)) (flagged n h)
+      ∙ ap₂ (λ (x : Node) (l : List Node). cond (isSettled (bookOf s) n) (x ∷ l) l) (noded n h) ih
+
+  pub session-reading : readingOf (s .rate + 5) (settled word flags 64) ≡ readingOf (mOf (s .rate)) (settledOf (bookOf s))
+  unfolding settledOf mOf
+  session-reading = ap (readingOf (s .rate + 5)) (settled-session 64 (omega arith))
+
+pub m-of : (rate : ℕ) → knownRate rate ≡ true → (32 ≤ rate + 5) × (rate + 5 ≤ 127)
+unfolding knownRate
+m-of rate k = go (eqb rate 39) refl k
+  where
+    go : (b : Bool) → eqb rate 39 ≡ b → (b || eqb rate 49) ≡ true → (32 ≤ rate + 5) × (rate + 5 ≤ 127)
+    go true e t = let q : rate ≡ 39 = eqb-true rate 39 e in (omega arith, omega arith)
+    go false e t = let q : rate ≡ 49 = eqb-true rate 49 t in (omega arith, omega arith)

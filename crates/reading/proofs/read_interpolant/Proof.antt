@@ -1,0 +1,111 @@
+-- `reading::read_interpolant` meets its contract: the flags and the word of best symbols give the book's settled places, so the bytes are the book's; a record that fails a later test is of no session from opening.
+use mathlib.Core.Bool.{true, true≢false}
+use mathlib.Core.Path.{_≡_, sym, ap, _∙_}
+use Prim.Native.Nat.{_≤_}
+use native.Mathlib.Omega.{arith}
+use lib.ListN.{length}
+use lib.Seq.{length-take-le}
+use borrow.Author.Needs.{needs}
+use borrow.Author.Tests.{not-true, not-false}
+use Rattle.interpolant.specs.Reading.{reading-size}
+use Rattle.book.specs.Opening.{knownRate}
+use Rattle.session.specs.declared.Session.{Session}
+use Rattle.session.specs.AnsweringLaws.{reading-by-hand, reading-wrong-size, reading-read}
+use Rattle.reading.proofs.Settling.{session-reading, m-of}
+use Rattle.reading.proofs.read_interpolant.Statement.{statement}
+use Rattle.reading.proofs.read_interpolant.Tie as tie
+
+returns : tie.Need-returns
+returns c = reading-wrong-size _ _ (c .if1 .taken)
+
+cast-rate : tie.Need-cast-rate
+cast-rate c = search needs
+
+known-rate-requires : tie.Need-known-rate-requires
+known-rate-requires c κs = search needs
+
+-- past the second check the rate is known
+known : (c : tie.Else2) → knownRate (c .before .before .before .before .before .args .session .rate) ≡ true
+known c = sym (c .before .known-rate .ensures) ∙ not-false _ (c .if2 .left)
+
+returns-2 : tie.Need-returns-2
+returns-2 c =
+    reading-by-hand _ _ _
+    (λ good. true≢false (sym (good .rate-known) ∙ sym (c .before .known-rate .ensures) ∙ not-true _ (c .if2 .taken)))
+
+returns-3 : tie.Need-returns-3
+returns-3 c = reading-by-hand _ _ _ (λ good. omega (arith, good .taken-fits, c .if3 .taken))
+
+returns-4 : tie.Need-returns-4
+returns-4 c = reading-by-hand _ _ _ (λ good. omega (arith, good .doubt-fits, c .if4 .taken))
+
+slice-aggregate-best-word : tie.Need-slice-aggregate-best-word
+slice-aggregate-best-word c = search needs
+
+best-word-requires : tie.Need-best-word-requires
+best-word-requires c κs = search needs
+
+array-share-prefix-arrival : tie.Need-array-share-prefix-arrival
+array-share-prefix-arrival c =
+    let l : length (c .before .before .before .before .before .before .before .before .before .before .before .before .args .session .arrival) ≡ 64 = search needs in
+    omega (arith, c .before .before .before .before .before .before .if3 .left)
+
+slice-aggregate-flags : tie.Need-slice-aggregate-flags
+slice-aggregate-flags c =
+    let s : Session = c .before .before .before .before .before .before .before .before .before .before .before .before .before .args .session in
+    sym (length-take-le (s .taken) (s .arrival) (array-share-prefix-arrival (c .before)))
+
+array-share-prefix-doubtful : tie.Need-array-share-prefix-doubtful
+array-share-prefix-doubtful c =
+    let l : length (c .before .before .before .before .before .before .before .before .before .before .before .before .before .args .session .doubtful) ≡ 8 = search needs in
+    omega (arith, c .before .before .before .before .before .before .if4 .left)
+
+slice-aggregate-flags-2 : tie.Need-slice-aggregate-flags-2
+slice-aggregate-flags-2 c =
+    let s : Session = c .before .before .before .before .before .before .before .before .before .before .before .before .before .before .args .session in
+    sym (length-take-le (s .doubt) (s .doubtful) (array-share-prefix-doubtful (c .before)))
+
+flags-requires : tie.Need-flags-requires
+flags-requires c κs = search needs
+
+add-reading : tie.Need-add-reading
+add-reading c = search needs
+
+reading-requires : tie.Need-reading-requires
+reading-requires c κs = m-of _ (known (c .before .before .before .before .before .before .before .before .before .before))
+
+put-requires : tie.Need-put-requires
+put-requires c κs = search needs
+
+same-length : tie.Need-same-length
+same-length c = search needs
+
+returns-5 : tie.Need-returns-5
+returns-5 c =
+    let s : Session = c .before .before .before .before .before .before .before .before .before .before .before .before .before .before .before .before .before .before .before .before .args .session in
+    let read = c .before .before .put .ensures ∙ c .before .before .before .before .reading .ensures in
+    reading-read s _ _ (c .before .before .before .before .before .before .before .before .before .before .before .before .before .before .before .before .before .before .if1 .left) (ap length read ∙ reading-size _ _)
+    (λ good. read ∙ session-reading s good _ _ (c .before .before .before .before .before .before .before .before .best-word .ensures) (c .before .before .before .before .before .flags .ensures))
+
+pub read-interpolant-spec : {M : Type 1} → statement M
+read-interpolant-spec =
+    tie.close
+    (tie.spec
+    returns
+    cast-rate
+    known-rate-requires
+    returns-2
+    returns-3
+    returns-4
+    slice-aggregate-best-word
+    best-word-requires
+    array-share-prefix-arrival
+    slice-aggregate-flags
+    array-share-prefix-doubtful
+    slice-aggregate-flags-2
+    flags-requires
+    add-reading
+    reading-requires
+    put-requires
+    same-length
+    returns-5)

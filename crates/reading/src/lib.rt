@@ -1,0 +1,85 @@
+// Interpolant reading of a session: the least Q through its settled places, into the caller's 82 bytes.
+// It keeps nothing between calls and writes nothing but the buffer; how Q is found is `interpolation`'s.
+ghost use mathlib.Core.Path.{_≡_};
+ghost use lib.ListN.{length};
+ghost use Rattle.lists.specs.Listed.{listed};
+ghost use Rattle.book.specs.Book.{places};
+ghost use Rattle.session.specs.Answering.{Reading};
+ghost use Rattle.reading.specs.Flags.{flagOf};
+use interpolation::PLACES;
+use interpolation::READING;
+use refusals::ACCEPTED;
+use refusals::PLACE_TAKEN;
+use refusals::UNKNOWN_RATE;
+use refusals::WRONG_DOUBT;
+use refusals::WRONG_SIZE;
+use session::Session;
+use soft::doubt::MOST_DOUBT;
+
+// M above the rate: a message of k symbols uses the orders up to k + 5.
+const M_ABOVE_RATE: usize = 5;
+
+// 1 for a settled place that is taken, else 0.
+fn flag(arrived: &[u8], doubtful: &[u8], place: usize) -> u8
+    ensures { λ r. ⌜ r ≡ flagOf (now (arrived .entry)) (now (doubtful .entry)) place ⌝ }
+{
+    if !session::is_among(place, arrived) {
+        return 0;
+    }
+    if session::is_among(place, doubtful) {
+        return 0;
+    }
+    1
+}
+
+fn flags(arrived: &[u8], doubtful: &[u8]) -> [u8; PLACES]
+    ensures { λ r. ⌜ r ≡ listed places (flagOf (now (arrived .entry)) (now (doubtful .entry))) ⌝ }
+{
+    let mut out = [0u8; PLACES];
+    let mut place = 0;
+    while place < PLACES {
+        out[place] = flag(arrived, doubtful, place);
+        place += 1;
+    }
+    out
+}
+
+fn put(bytes: [u8; READING], out: &mut [u8])
+    requires { ⌜ length (now out) ≡ 82 ⌝ }
+    ensures { λ _. ⌜ now (out .exit) ≡ bytes ⌝ }
+{
+    let mut i = 0;
+    while i < READING {
+        out[i] = bytes[i];
+        i += 1;
+    }
+}
+
+// Only a session record that was built by hand meets a refusal after the first.
+pub fn read_interpolant(session: Session, out: &mut [u8]) -> u8
+    ensures { λ r. ⌜ Reading session (now (out .entry)) r (now (out .exit)) ⌝ }
+{
+    if out.len() != READING {
+        return WRONG_SIZE;
+    }
+    let rate = session.rate as usize;
+    if !session::known_rate(rate) {
+        return UNKNOWN_RATE;
+    }
+    let taken = session.taken;
+    if PLACES < taken {
+        return PLACE_TAKEN;
+    }
+    let doubt = session.doubt;
+    if MOST_DOUBT < doubt {
+        return WRONG_DOUBT;
+    }
+    let arrival = session.arrival;
+    let doubtful = session.doubtful;
+    let costs = session.costs;
+    let word = soft::doubt::best_word(&costs);
+    let settled = flags(&arrival[..taken], &doubtful[..doubt]);
+    let bytes = interpolation::reading::reading(word, settled, rate + M_ABOVE_RATE);
+    put(bytes, out);
+    ACCEPTED
+}
