@@ -13,14 +13,17 @@ use mathlib.Core.Bool.{Bool, true, false}
 use mathlib.Core.Path.{_≡_, refl, sym, ap, ap₂, _∙_}
 use mathlib.Core.List.{List, [], _∷_}
 use Prim.Native.Nat.{ℕ, _<_}
-use native.Mathlib.Decide.{decLt}
+use native.Mathlib.Decide.{decLt, ℕ-discrete}
 use native.Mathlib.Omega.{arith}
 use lib.ListN.{length, take}
 use Rattle.lists.specs.Distinct.{among}
-use Rattle.book.specs.Book.{places, width}
+use Rattle.book.specs.Book.{places, width, Book, someMissing}
 use Rattle.book.specs.Reading.{readOf}
 use Rattle.book.specs.ReadingLaws.{read-kept, read-sized}
-use Rattle.book.specs.Writing.{writeOf}
+use Rattle.book.specs.Writing.{Filled, writeOf}
+use Rattle.book.specs.Capture.{captureLength}
+use Rattle.book.specs.RowLaws.{Proper}
+use Rattle.book.specs.RoundTrip.{capture-length, write-size, write-missing, write-accepted}
 use Rattle.book.specs.Closing.{closeOf}
 use Rattle.book.specs.ClosingLaws.{close-kept, close-sized}
 use Rattle.book.specs.Calls.{Call, deliver, reading, writing, closing, Answer, answer, after, answers, afterAll}
@@ -30,7 +33,7 @@ use Rattle.session.specs.declared.Delivered.{Delivered}
 use Rattle.session.specs.View.{bookOf, Good}
 use Rattle.session.specs.Calls.{Delivery}
 use Rattle.session.specs.Answering.{Reading, Closing}
-use Rattle.session.specs.Laws.{delivery-above, delivery-taken, delivery-accepted, full-taken, one-session}
+use Rattle.session.specs.Laws.{delivery-above, delivery-taken, delivery-accepted, full-taken, one-session, good-proper}
 use Rattle.capture.specs.Calls.{Writing}
 
 pub data Run : Session → List Call → List Answer → Session → Type 0 where
@@ -104,8 +107,24 @@ some-reading : (s : Session) (out : List ℕ) → Reading s out (readOf (bookOf 
 some-reading s out =
     record { number = λ good. refl; bytes = λ good. refl; kept = read-kept (bookOf s) out; size = read-sized (bookOf s) out }
 
-some-writing : (s : Session) (out : List ℕ) → Writing s out (writeOf (bookOf s) out .number) (writeOf (bookOf s) out .bytes)
-some-writing s out = record { number = λ good. refl; bytes = λ good. refl; kept = write-kept (bookOf s) out }
+-- the capture of a proper book fills the buffer that it was asked into
+write-sized : (book : Book) (out : List ℕ) → Proper book → length (writeOf book out .bytes) ≡ length out
+write-sized book out proper = go (ℕ-discrete (length out) (captureLength (length (book .doubtful)))) (someMissing (book .row)) refl
+  where
+    go : Dec (length out ≡ captureLength (length (book .doubtful))) → (b : Bool) → someMissing (book .row) ≡ b
+        → length (writeOf book out .bytes) ≡ length out
+    go (yes h) true m = ap (λ (f : Filled). length (f .bytes)) (write-missing book out h m)
+    go (yes h) false m = ap (λ (f : Filled). length (f .bytes)) (write-accepted book out h m) ∙ capture-length book proper m ∙ sym h
+    go (no h) b m = ap (λ (f : Filled). length (f .bytes)) (write-size book out h)
+
+some-writing : (s : Session) (out : List ℕ) → Good s → Writing s out (writeOf (bookOf s) out .number) (writeOf (bookOf s) out .bytes)
+some-writing s out good =
+    record {
+      number = λ g. refl;
+      bytes = λ g. refl;
+      kept = write-kept (bookOf s) out;
+      size = write-sized (bookOf s) out (good-proper s good);
+    }
 
 some-closing : (s : Session) (message report : List ℕ)
     → Closing s message report (closeOf (bookOf s) message report .number) (closeOf (bookOf s) message report .message)
@@ -134,7 +153,7 @@ some-run (fit-cons {call = reading out} u fit) s good =
     (_, r .1, read (some-reading s out) (r .2))
 some-run (fit-cons {call = writing out} u fit) s good =
     let r = some-run fit s good in
-    (_, r .1, wrote (some-writing s out) (r .2))
+    (_, r .1, wrote (some-writing s out good) (r .2))
 some-run (fit-cons {call = closing message report} u fit) s good =
     let r = some-run fit s good in
     (_, r .1, closed (some-closing s message report) (r .2))
