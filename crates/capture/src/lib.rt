@@ -11,8 +11,29 @@ ghost use Rattle.book.specs.LookUp.{recordWith, lookUpOf};
 ghost use Rattle.session.specs.View.{bookOf, Good};
 ghost use Rattle.session.specs.Calls.{Opening};
 ghost use Rattle.capture.specs.Calls.{recordBytes, headBytes, rowOf, Writing};
+use session::MOST_DOUBT;
 use session::Opened;
 use session::Session;
+use soft::costs::PLACES;
+use soft::costs::SYMBOLS;
+
+// The version of captures that are written and read.
+const VERSION: u8 = 1;
+
+// Version, two bytes of length, rate and d: the bytes before the doubtful list.
+const HEAD_BYTES: usize = 5;
+
+// The two bytes of a cost for each symbol, and a record: a place and its cost bytes.
+const COLUMN_BYTES: usize = 32;
+
+const RECORD_BYTES: usize = 33;
+
+// A capture without doubtful places: the bytes that follow its length, and all of them; and the longest capture.
+const BODY_BYTES: usize = 2114;
+
+const LEAST_BYTES: usize = 2117;
+
+const MOST_BYTES: usize = 2125;
 
 // The costs of a column, two bytes each, high byte first.
 fn write_costs(column: &[u16], out: &mut [u8])
@@ -20,7 +41,7 @@ fn write_costs(column: &[u16], out: &mut [u8])
     ensures { λ _. ⌜ now (out .exit) ≡ costBytes (now (column .entry)) ⌝ }
 {
     let mut j = 0;
-    while j < 16 {
+    while j < SYMBOLS {
         let cost = column[j];
         out[2 * j] = (cost / 256) as u8;
         out[2 * j + 1] = (cost % 256) as u8;
@@ -42,7 +63,7 @@ fn arrived(arrival: &[u8], i: usize) -> u8
     requires { ⌜ i < length (now arrival) ⌝ }
     ensures { λ r. ⌜ r ≡ getD (now (arrival .entry)) i 0 % places ⌝ }
 {
-    arrival[i] % 64
+    arrival[i] % (PLACES as u8)
 }
 
 // The 64 records, in the order of arrival.
@@ -51,17 +72,21 @@ fn write_records(arrival: &[u8], costs: &[u16], out: &mut [u8])
     ensures { λ _. ⌜ now (out .exit) ≡ rowBytes (rowOf (now (arrival .entry)) (now (costs .entry)) places) ⌝ }
 {
     let mut i = 0;
-    while i < 64 {
+    while i < PLACES {
         let place = arrived(arrival, i);
-        let from = 16 * (place as usize);
-        let at = 33 * i;
-        write_record(place, &costs[from..from + 16], &mut out[at..at + 33]);
+        let from = SYMBOLS * (place as usize);
+        let at = RECORD_BYTES * i;
+        write_record(
+            place,
+            &costs[from..from + SYMBOLS],
+            &mut out[at..at + RECORD_BYTES],
+        );
         i += 1;
     }
 }
 
 // The doubtful places.
-fn write_list(list: [u8; 8], count: usize, out: &mut [u8])
+fn write_list(list: [u8; MOST_DOUBT], count: usize, out: &mut [u8])
     requires { ⌜ (count ≤ 8) × (length (now out) ≡ count) ⌝ }
     ensures { λ _. ⌜ now (out .exit) ≡ take count list ⌝ }
 {
@@ -73,17 +98,17 @@ fn write_list(list: [u8; 8], count: usize, out: &mut [u8])
 }
 
 // Version, length, rate, d and the d doubtful places.
-fn write_head(rate: u8, list: [u8; 8], count: usize, out: &mut [u8])
+fn write_head(rate: u8, list: [u8; MOST_DOUBT], count: usize, out: &mut [u8])
     requires { ⌜ (count ≤ 8) × (length (now out) ≡ 5 + count) ⌝ }
     ensures { λ _. ⌜ now (out .exit) ≡ headBytes rate (take count list) ⌝ }
 {
-    let length = 2114 + count;
-    out[0] = 1;
+    let length = BODY_BYTES + count;
+    out[0] = VERSION;
     out[1] = (length / 256) as u8;
     out[2] = (length % 256) as u8;
     out[3] = rate;
     out[4] = count as u8;
-    write_list(list, count, &mut out[5..]);
+    write_list(list, count, &mut out[HEAD_BYTES..]);
 }
 
 // The first test keeps a session record that was built by hand from running past the list.
@@ -91,19 +116,19 @@ pub fn write_capture(session: Session, out: &mut [u8]) -> u8
     ensures { λ r. ⌜ Writing session (now (out .entry)) r (now (out .exit)) ⌝ }
 {
     let doubt = session.doubt;
-    if 8 < doubt {
+    if MOST_DOUBT < doubt {
         return refusals::WRONG_SIZE;
     }
-    if out.len() != 2117 + doubt {
+    if out.len() != LEAST_BYTES + doubt {
         return refusals::WRONG_SIZE;
     }
-    if session.taken < 64 {
+    if session.taken < PLACES {
         return refusals::PLACE_MISSING;
     }
     let doubtful = session.doubtful;
     let arrival = session.arrival;
     let costs = session.costs;
-    let start = 5 + doubt;
+    let start = HEAD_BYTES + doubt;
     write_head(session.rate, doubtful, doubt, &mut out[..start]);
     write_records(&arrival, &costs, &mut out[start..]);
     refusals::ACCEPTED
@@ -116,10 +141,10 @@ fn deliver_records(opened: Session, records: &[u8]) -> Opened
 {
     let mut current = opened;
     let mut i = 0;
-    while i < 64 {
-        let at = 33 * i;
+    while i < PLACES {
+        let at = RECORD_BYTES * i;
         let place = records[at] as usize;
-        let column = soft::costs::column_from(&records[at + 1..at + 33]);
+        let column = soft::costs::column_from(&records[at + 1..at + RECORD_BYTES]);
         let delivered = session::deliver(current, place, column);
         let number = delivered.refusal;
         if number != refusals::ACCEPTED {
@@ -137,13 +162,13 @@ fn deliver_records(opened: Session, records: &[u8]) -> Opened
 pub fn open_capture(bytes: &[u8]) -> Opened
     ensures { λ r. ⌜ Opening (openCaptureOf (now (bytes .entry))) r ⌝ }
 {
-    if bytes.len() < 2117 {
+    if bytes.len() < LEAST_BYTES {
         return session::refused(refusals::WRONG_LENGTH);
     }
-    if 2125 < bytes.len() {
+    if MOST_BYTES < bytes.len() {
         return session::refused(refusals::WRONG_LENGTH);
     }
-    if bytes[0] != 1 {
+    if bytes[0] != VERSION {
         return session::refused(refusals::WRONG_VERSION);
     }
     let length = 256 * (bytes[1] as usize) + bytes[2] as usize;
@@ -151,11 +176,11 @@ pub fn open_capture(bytes: &[u8]) -> Opened
     if length + 3 != bytes.len() {
         return session::refused(refusals::WRONG_LENGTH);
     }
-    if length != 2114 + doubt {
+    if length != BODY_BYTES + doubt {
         return session::refused(refusals::WRONG_LENGTH);
     }
-    let start = 5 + doubt;
-    let opened = session::open(bytes[3] as usize, &bytes[5..start]);
+    let start = HEAD_BYTES + doubt;
+    let opened = session::open(bytes[3] as usize, &bytes[HEAD_BYTES..start]);
     if opened.refusal != refusals::ACCEPTED {
         return opened;
     }
@@ -168,8 +193,8 @@ fn record_of(place: usize, records: &[u8]) -> usize
     ensures { λ r. ⌜ r ≡ recordWith place places (now (records .entry)) ⌝ }
 {
     let mut i = 0;
-    while i < 64 {
-        if records[33 * i] as usize == place {
+    while i < PLACES {
+        if records[RECORD_BYTES * i] as usize == place {
             return i;
         }
         i += 1;
@@ -181,13 +206,13 @@ fn record_of(place: usize, records: &[u8]) -> usize
 pub fn look_up<'a>(capture: &'a [u8], place: usize) -> &'a [u8]
     ensures { λ r. ⌜ now r ≡ lookUpOf (now (capture .entry)) place ⌝ }
 {
-    if 63 < place {
+    if PLACES <= place {
         return &capture[..0];
     }
     if open_capture(capture).refusal != refusals::ACCEPTED {
         return &capture[..0];
     }
-    let start = 5 + capture[4] as usize;
-    let at = start + 33 * record_of(place, &capture[start..]) + 1;
-    &capture[at..at + 32]
+    let start = HEAD_BYTES + capture[4] as usize;
+    let at = start + RECORD_BYTES * record_of(place, &capture[start..]) + 1;
+    &capture[at..at + COLUMN_BYTES]
 }

@@ -30,12 +30,12 @@ module _ (list : List ℕ) (n i : ℕ) (h : i < length list) (e : fitPlaces list
   here : fitPlaces list ≡ fitsFrom n (getD list i 0 ∷ drop (suc i) list)
   here = e ∙ ap (fitsFrom n) (drop-cons list i 0 h)
 
-  pub fits-next : getD list i 0 ≤ 63 → n ≤ getD list i 0 → fitPlaces list ≡ fitsFrom (getD list i 0 + 1) (drop (i + 1) list)
+  pub fits-next : getD list i 0 < places → n ≤ getD list i 0 → fitPlaces list ≡ fitsFrom (getD list i 0 + 1) (drop (i + 1) list)
   unfolding fitsFrom below risingFrom
   fits-next a b =
-      here ∙ rw (add-one i, add-one (getD list i 0), lt-ltb (getD list i 0) places (omega arith), le-leb n (getD list i 0) b)
+      here ∙ rw (add-one i, add-one (getD list i 0), lt-ltb (getD list i 0) places a, le-leb n (getD list i 0) b)
 
-  pub fits-above : 63 < getD list i 0 → false ≡ fitPlaces list
+  pub fits-above : places ≤ getD list i 0 → false ≡ fitPlaces list
   unfolding fitsFrom below
   fits-above a = sym (here ∙ rw (le-ltb (getD list i 0) places a))
 

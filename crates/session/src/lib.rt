@@ -10,14 +10,20 @@ ghost use Rattle.book.specs.Book.{places, width};
 ghost use Rattle.book.specs.Opening.{knownRate, fitPlaces};
 ghost use Rattle.session.specs.View.{padded, newSession};
 ghost use Rattle.session.specs.Calls.{refusedWith, openedOf, declinedWith, Delivery};
+use soft::costs::COSTS;
+use soft::costs::PLACES;
+use soft::costs::SYMBOLS;
+
+// The most places that a doubtful list may name.
+pub const MOST_DOUBT: usize = 8;
 
 pub struct Session {
     pub rate: u8,
     pub doubt: usize,
-    pub doubtful: [u8; 8],
+    pub doubtful: [u8; MOST_DOUBT],
     pub taken: usize,
-    pub arrival: [u8; 64],
-    pub costs: [u16; 1024],
+    pub arrival: [u8; PLACES],
+    pub costs: [u16; COSTS],
 }
 
 // What an opening answers: 0 or the refusal's number, and the session.
@@ -49,7 +55,7 @@ fn fit_places(list: &[u8]) -> bool
     let mut i = 0;
     while i < list.len() {
         let place = list[i] as usize;
-        if 63 < place {
+        if PLACES <= place {
             return false;
         }
         if place < least {
@@ -62,11 +68,11 @@ fn fit_places(list: &[u8]) -> bool
 }
 
 // A list of at most eight places, with zeros behind them.
-fn padded_list(list: &[u8]) -> [u8; 8]
+fn padded_list(list: &[u8]) -> [u8; MOST_DOUBT]
     requires { ⌜ length (now list) ≤ 8 ⌝ }
     ensures { λ r. ⌜ r ≡ padded (now (list .entry)) ⌝ }
 {
-    let mut out = [0u8; 8];
+    let mut out = [0u8; MOST_DOUBT];
     let mut i = 0;
     while i < list.len() {
         out[i] = list[i];
@@ -81,8 +87,8 @@ fn new_session(rate: u8, list: &[u8]) -> Session
     ensures { λ r. ⌜ r ≡ newSession rate (now (list .entry)) ⌝ }
 {
     let doubtful = padded_list(list);
-    let arrival = [0u8; 64];
-    let costs = [0u16; 1024];
+    let arrival = [0u8; PLACES];
+    let costs = [0u16; COSTS];
     Session {
         rate: rate,
         doubt: list.len(),
@@ -110,7 +116,7 @@ pub fn open(rate: usize, doubtful: &[u8]) -> Opened
     if !known_rate(rate) {
         return refused(refusals::UNKNOWN_RATE);
     }
-    if 8 < doubtful.len() {
+    if MOST_DOUBT < doubtful.len() {
         return refused(refusals::WRONG_DOUBT);
     }
     if !fit_places(doubtful) {
@@ -137,14 +143,14 @@ pub fn is_among(place: usize, list: &[u8]) -> bool
 }
 
 // The table of costs with the column of one place.
-fn with_column(costs: [u16; 1024], place: usize, column: [u16; 16]) -> [u16; 1024]
+fn with_column(costs: [u16; COSTS], place: usize, column: [u16; SYMBOLS]) -> [u16; COSTS]
     requires { ⌜ place < places ⌝ }
     ensures { λ r. ⌜ r ≡ putBlock width place column costs ⌝ }
 {
     let mut out = costs;
     let mut j = 0;
-    while j < 16 {
-        out[16 * place + j] = column[j];
+    while j < SYMBOLS {
+        out[SYMBOLS * place + j] = column[j];
         j += 1;
     }
     out
@@ -162,15 +168,15 @@ fn declined(number: u8, session: Session) -> Delivered
 
 // The test of `taken` keeps a session record that was built by hand from running past the row; no session from opening meets it
 // before every place is taken.
-pub fn deliver(session: Session, place: usize, column: [u16; 16]) -> Delivered
+pub fn deliver(session: Session, place: usize, column: [u16; SYMBOLS]) -> Delivered
     ensures { λ r. ⌜ Delivery session place column r ⌝ }
 {
-    if 63 < place {
+    if PLACES <= place {
         return declined(refusals::NO_PLACE, session);
     }
     let taken = session.taken;
     let arrival = session.arrival;
-    if 63 < taken {
+    if PLACES <= taken {
         return declined(refusals::PLACE_TAKEN, session);
     }
     if is_among(place, &arrival[..taken]) {
