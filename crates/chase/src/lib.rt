@@ -1,6 +1,27 @@
 // The search over test words: a tree of doubtful places, and at each leaf the codeword within T of a test word. It knows of no session and
 // no buffers.
 ghost use mathlib.Core.Path.{_≡_};
+ghost use mathlib.Core.Bool.{true, false};
+ghost use Prim.Native.Nat.{_+_, _-_, _*_, _/_, _<_, _≤_, _^_};
+ghost use lib.ListN.{length, take, drop};
+ghost use Rattle.lists.specs.Words.{isBefore};
+ghost use Rattle.lists.specs.Listed.{listed};
+ghost use Rattle.hermitian.specs.Orders.{orderOf};
+ghost use Rattle.basis.specs.Choice.{leadAt};
+ghost use Rattle.code.specs.Encoding.{encodeOf};
+ghost use Rattle.soft.specs.Column.{columnOf};
+ghost use Rattle.soft.specs.Total.{differing, totalOf};
+ghost use Rattle.soft.specs.TestWord.{testWords};
+ghost use Rattle.near.specs.Interpolated.{limitOf};
+ghost use Rattle.chase.specs.Nearest.{Asked, Nearest};
+ghost use Rattle.chase.specs.Searching.{symbolIn, Lowest, Ranged, LeafOf, SearchOf, BetterOf};
+use basis::Leads;
+use code::encoding::write_codeword;
+use division::dividing::divide;
+use division::parts::with_z;
+use division::parts::without_z;
+use soft::total::differing;
+use soft::total::total;
 
 // Document 01's answer: no codeword is near, or the total of the cheapest near one, whose message stands beside it.
 pub enum Answer {
@@ -23,4 +44,170 @@ fn none_near() -> Found
         message: [0u8; 49],
         tests: 0,
     }
+}
+
+// The order that message symbol t multiplies: 1, 2, 3, 6, 7 and 11 are missing.
+fn order_of(t: usize) -> usize
+    requires { ⌜ t < 49 ⌝ }
+    ensures { λ r. ⌜ (r ≡ orderOf 4 t) × (r < 64) ⌝ }
+{
+    if 6 <= t {
+        return t + 6;
+    }
+    if 3 <= t {
+        return t + 5;
+    }
+    if 1 <= t {
+        return t + 3;
+    }
+    0
+}
+
+// The message of a function by order.
+fn message_of(function: [u8; 64], k: usize) -> [u8; 49]
+    requires { ⌜ k ≤ 49 ⌝ }
+    ensures { λ r. ⌜ take k r ≡ listed k (symbolIn function) ⌝ }
+{
+    let mut out = [0u8; 49];
+    let mut t = 0;
+    while t < k {
+        out[t] = function[order_of(t)];
+        t += 1;
+    }
+    out
+}
+
+fn encoded(message: [u8; 49], k: usize) -> [u8; 64]
+    requires { ⌜ k ≤ 49 ⌝ }
+    ensures { λ r. ⌜ r ≡ encodeOf k (take k message) ⌝ }
+{
+    let mut codeword = [0u8; 64];
+    write_codeword(&message[0..k], &mut codeword);
+    codeword
+}
+
+fn distance(codeword: [u8; 64], word: [u8; 64]) -> usize
+    ensures { λ r. ⌜ r ≡ differing 64 codeword word ⌝ }
+{
+    differing(&codeword, &word) as usize
+}
+
+fn cost(costs: &[u16], codeword: [u8; 64]) -> u32
+    ensures { λ r. ⌜ r ≡ totalOf 64 (columnOf 16 (now (costs .entry))) codeword ⌝ }
+{
+    total(costs, &codeword)
+}
+
+// One test word: what its row holds, if its codeword is within T of the word.
+fn leaf(row: [u8; 96], word: [u8; 64], costs: &[u16], k: usize) -> Found
+    requires { ⌜ Ranged k ⌝ }
+    ensures { λ r. ⌜ LeafOf k (columnOf 16 (now (costs .entry))) word row r ⌝ }
+{
+    let function = divide(without_z(row), with_z(row), k + 5);
+    let message = message_of(function, k);
+    let codeword = encoded(message, k);
+    if (52 - k) / 2 < distance(codeword, word) {
+        return none_near();
+    }
+    Found {
+        answer: Answer::Near {
+            total: cost(costs, codeword),
+        },
+        message,
+        tests: 1,
+    }
+}
+
+// Compared from symbol 0 on.
+fn before(a: [u8; 49], b: [u8; 49], k: usize) -> bool
+    requires { ⌜ k ≤ 49 ⌝ }
+    ensures { λ r. ⌜ r ≡ isBefore (take k a) (take k b) ⌝ }
+{
+    let mut t = 0;
+    while t < k {
+        if a[t] < b[t] {
+            return true;
+        }
+        if b[t] < a[t] {
+            return false;
+        }
+        t += 1;
+    }
+    false
+}
+
+// Two branches together: the counts add, the cheaper answer wins, equal totals go to the smaller message.
+fn better(a: Found, b: Found, k: usize) -> Found
+    requires { ⌜ (k ≤ 49) × (a .tests + b .tests ≤ 65535) ⌝ }
+    ensures { λ r. ⌜ BetterOf k a b r ⌝ }
+{
+    let tests = a.tests + b.tests;
+    let first = a.answer;
+    let other = b.answer;
+    let message = a.message;
+    let rival = b.message;
+    let Answer::Near { total } = first else {
+        return Found {
+            answer: other,
+            message: rival,
+            tests,
+        };
+    };
+    let Answer::Near { total: dues } = other else {
+        return Found {
+            answer: first,
+            message,
+            tests,
+        };
+    };
+    if total < dues {
+        return Found {
+            answer: first,
+            message,
+            tests,
+        };
+    }
+    if dues < total {
+        return Found {
+            answer: other,
+            message: rival,
+            tests,
+        };
+    }
+    if before(message, rival, k) {
+        return Found {
+            answer: first,
+            message,
+            tests,
+        };
+    }
+    Found {
+        answer: other,
+        message: rival,
+        tests,
+    }
+}
+
+// Of two classes the one with the smaller lead.
+fn lower(leads: Leads, r: usize, q: usize) -> usize
+    requires { ⌜ (r < 8) × (q < 8) ⌝ }
+    ensures { λ p. ⌜ (p < 8) × (leadAt leads p ≤ leadAt leads r) × (leadAt leads p ≤ leadAt leads q) ⌝ }
+{
+    if leads[q] < leads[r] {
+        return q;
+    }
+    r
+}
+
+// The class of least lead.
+fn least(leads: Leads) -> usize
+    ensures { λ r. ⌜ Lowest leads 8 r ⌝ }
+{
+    let mut r = 0;
+    let mut q = 0;
+    while q < 8 {
+        r = lower(leads, r, q);
+        q += 1;
+    }
+    r
 }

@@ -1,0 +1,59 @@
+-- Each symbol passed is that of its order.
+use mathlib.Core.Path.{_≡_, ap}
+use Prim.Native.Nat.{_≤_, _-_}
+use native.Mathlib.Omega.{arith}
+use lib.ListN.{replicate, getD}
+use Rattle.lists.specs.Filled.{Filled, filled-start, filled-turn}
+use Rattle.chase.specs.Searching.{symbolIn}
+use Rattle.chase.proofs.Message.{message-end}
+use borrow.Author.Needs.{needs}
+use Rattle.chase.proofs.message_of.Statement.{statement}
+use Rattle.chase.proofs.message_of.Tie as tie
+
+abbrev Inv-loop : tie.InvT-loop
+Inv-loop k function out₀ t₀ out t = (t ≤ k) × Filled (replicate 49 0) (symbolIn function) t out
+
+abbrev μ-loop : tie.MeasureT-loop
+μ-loop k function out₀ t₀ out t = k - t
+
+loop-holds : tie.Need-loop-holds Inv-loop μ-loop
+loop-holds c = (search needs, filled-start _ _)
+
+order-of-requires : tie.Need-order-of-requires Inv-loop μ-loop
+order-of-requires c κs = search needs
+
+array-read-out : tie.Need-array-read-out Inv-loop μ-loop
+array-read-out c = search needs
+
+array-write-out : tie.Need-array-write-out Inv-loop μ-loop
+array-write-out c = search needs
+
+add-t : tie.Need-add-t Inv-loop μ-loop
+add-t c = search needs
+
+loop-less : tie.Need-loop-less Inv-loop μ-loop
+loop-less c = search needs
+
+loop-again : tie.Need-loop-again Inv-loop μ-loop
+unfolding symbolIn
+loop-again c = (search needs, filled-turn 0 (c .before .before .loop .inv .1) _ (search needs) (ap (λ o. getD (c .before .before .before .args .t1) o 0) (c .order-of .ensures .0)))
+
+returns : tie.Need-returns Inv-loop μ-loop
+returns c =
+    let e : c .before .loop .t ≡ c .before .before .args .k = omega arith in
+    message-end _ _ _ _ _ e (c .before .loop .inv .1)
+
+pub message-of-spec : {M : Type 1} → statement M
+message-of-spec =
+    tie.close
+    (tie.spec
+    Inv-loop
+    μ-loop
+    loop-holds
+    order-of-requires
+    array-read-out
+    array-write-out
+    add-t
+    loop-less
+    loop-again
+    returns)
