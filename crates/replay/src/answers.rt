@@ -21,18 +21,26 @@ fn deliver(current: Session, place: usize, column: &[u8]) -> Session {
     delivered.session
 }
 
-fn write_capture_to(current: Session, out: &mut [u8]) {
-    let refusal = capture::write_capture(current, out);
+// The calls that are lent one buffer.
+fn call_with(current: Session, letter: u8, out: &mut [u8]) -> u8 {
+    match letter {
+        b'R' => reading::read_interpolant(current, out),
+        _ => capture::write_capture(current, out),
+    }
+}
+
+fn answer_with(current: Session, letter: u8, out: &mut [u8]) {
+    let refusal = call_with(current, letter, out);
     stream::write_byte(refusal);
     stream::write(out);
 }
 
-fn write_capture(current: Session, size: usize) -> Session {
+fn lend(current: Session, letter: u8, size: usize) -> Session {
     if stream::MOST_BYTES < size {
         return current;
     }
     let mut space = stream::lent();
-    write_capture_to(current, &mut space[..size]);
+    answer_with(current, letter, &mut space[..size]);
     current
 }
 
@@ -48,7 +56,7 @@ fn answer_numbered(current: Session, letter: u8, number: usize, rest: &[u8]) -> 
     match letter {
         b'O' => open(number, rest),
         b'D' => deliver(current, number, rest),
-        b'W' => write_capture(current, number),
+        b'R' | b'W' => lend(current, letter, number),
         b'L' => look_up(current, number, rest),
         _ => current,
     }

@@ -3,8 +3,8 @@ use mathlib.Core.Path.{sym}
 use native.Mathlib.Omega.{arith}
 use lib.Seq.{length-take-le}
 use borrow.Author.Needs.{needs}
-use Rattle.replay.proofs.answers.write_capture.Statement.{statement}
-use Rattle.replay.proofs.answers.write_capture.Tie as tie
+use Rattle.replay.proofs.answers.lend.Statement.{statement}
+use Rattle.replay.proofs.answers.lend.Tie as tie
 
 returns : tie.Need-returns
 returns c = search needs
@@ -15,22 +15,22 @@ lent-requires c κs = search needs
 array-borrow-prefix-space : tie.Need-array-borrow-prefix-space
 array-borrow-prefix-space c = search needs
 
-slice-aggregate-write-capture-to : tie.Need-slice-aggregate-write-capture-to
-slice-aggregate-write-capture-to c = sym (length-take-le (c .before .before .before .args .size) (c .before .lent .result) (omega arith))
+slice-aggregate-answer-with : tie.Need-slice-aggregate-answer-with
+slice-aggregate-answer-with c = sym (length-take-le (c .before .before .before .args .size) (c .before .lent .result) (omega arith))
 
-write-capture-to-requires : tie.Need-write-capture-to-requires
-write-capture-to-requires c κs = search needs
+answer-with-requires : tie.Need-answer-with-requires
+answer-with-requires c κs = search needs
 
 returns-2 : tie.Need-returns-2
 returns-2 c = search needs
 
-pub write-capture-spec : {M : Type 1} → statement M
-write-capture-spec =
+pub lend-spec : {M : Type 1} → statement M
+lend-spec =
     tie.close
     (tie.spec
     returns
     lent-requires
     array-borrow-prefix-space
-    slice-aggregate-write-capture-to
-    write-capture-to-requires
+    slice-aggregate-answer-with
+    answer-with-requires
     returns-2)
