@@ -17,8 +17,7 @@ use Rattle.algebra.specs.Koetter.{Basis}
 use Rattle.galois.specs.Field16.{K16}
 use Rattle.basis.specs.Rows.{coef}
 use Rattle.basis.specs.Choice.{leadAt}
-use Rattle.interpolation.specs.Polynomial.{polynomial}
-use Rattle.interpolation.specs.Stepping.{polynomials}
+use Rattle.interpolation.specs.Polynomial.{polynomial, polynomials}
 use Rattle.hermitian.specs.Orders.{orderOf}
 use Rattle.code.specs.Nodes.{Node, ThroughNodes}
 use Rattle.soft.specs.TestWord.{expand}
