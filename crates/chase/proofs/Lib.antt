@@ -1,3 +1,4 @@
 pub mod Message
 pub mod Candidate
 pub mod Joining
+pub mod Descending

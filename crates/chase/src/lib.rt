@@ -16,10 +16,15 @@ ghost use Rattle.near.specs.Interpolated.{limitOf};
 ghost use Rattle.chase.specs.Nearest.{Asked, Nearest};
 ghost use Rattle.chase.specs.Searching.{symbolIn, Lowest, Ranged, LeafOf, SearchOf, BetterOf};
 use basis::Leads;
+use basis::Rows;
 use code::encoding::write_codeword;
 use division::dividing::divide;
 use division::parts::with_z;
 use division::parts::without_z;
+use interpolation::node::extend;
+use soft::column::best;
+use soft::column::second;
+use soft::costs::column_of;
 use soft::total::differing;
 use soft::total::total;
 
@@ -210,4 +215,63 @@ fn least(leads: Leads) -> usize
         q += 1;
     }
     r
+}
+
+// The test words below a node: the doubtful places left are doubled one after the other, first with the best symbol and then with the
+// second. Each branch gets the basis of its node by value, and a node whose classes are all spent ends its part of the tree.
+fn search(
+    rows: Rows,
+    leads: Leads,
+    word: [u8; 64],
+    costs: &[u16],
+    k: usize,
+    doubtful: [u8; 8],
+    doubt: usize,
+    left: usize,
+) -> Found
+    requires { ⌜ Ranged k × (doubt ≤ 8) × (left ≤ doubt) ⌝ }
+    ensures { λ r.
+        ⌜ SearchOf k (columnOf 16 (now (costs .entry))) word (drop (doubt - left) (take doubt doubtful)) rows leads left r ⌝ }
+{
+    let limit = 2 * ((52 - k) / 2 + 6 + (k + 5)) + 1;
+    let class = least(leads);
+    if limit < leads[class] {
+        return none_near();
+    }
+    if left == 0 {
+        return leaf(rows[class], word, costs, k);
+    }
+    let place = (doubtful[doubt - left] % 64) as usize;
+    let column = column_of(costs, place);
+    let symbol = best(column);
+    let other = second(column);
+    let mut first_leads = leads;
+    let first_rows = extend(rows, &mut first_leads, limit, place, symbol);
+    let mut first_word = word;
+    first_word[place] = symbol;
+    let first = search(
+        first_rows,
+        first_leads,
+        first_word,
+        costs,
+        k,
+        doubtful,
+        doubt,
+        left - 1,
+    );
+    let mut other_leads = leads;
+    let other_rows = extend(rows, &mut other_leads, limit, place, other);
+    let mut other_word = word;
+    other_word[place] = other;
+    let rest = search(
+        other_rows,
+        other_leads,
+        other_word,
+        costs,
+        k,
+        doubtful,
+        doubt,
+        left - 1,
+    );
+    better(first, rest, k)
 }
