@@ -2,3 +2,4 @@ pub mod Message
 pub mod Candidate
 pub mod Joining
 pub mod Descending
+pub mod Settling

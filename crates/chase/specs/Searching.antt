@@ -3,15 +3,16 @@
 --   symbolIn f t           symbol t of the message of the function f
 --   Lowest leads n r       of the first n classes none has a smaller lead than r
 --   Ranged k               the rates that rows have room for: 27 to 49
+--   Flagged ps flags       the settled places have the flag 1, the doubtful ones, ps, have 0
 --   Held k word row        the row is a Q through the word, with its lead up to the limit
 --   Ready k word ps rows leads   a basis up to the limit through the nodes decided so far: those of the word but for the places ps
 --   LeafOf k columns word row f  what a leaf finds from its row
 --   SearchOf …             what a search of the tree finds
 --   BetterOf k a b r       r answers two lists of test words where a and b answer one each
 use mathlib.Core.Path.{_≡_}
-use mathlib.Core.List.{List, [], _∷_, _++_}
+use mathlib.Core.List.{List, [], _∷_, _++_, List·Memᴰ}
 use Prim.Native.Nat.{ℕ, _+_, _^_, _<_, _≤_}
-use lib.ListN.{getD}
+use lib.ListN.{length, getD}
 use Rattle.algebra.specs.Coefficients.{Lead}
 use Rattle.algebra.specs.Koetter.{Basis}
 use Rattle.galois.specs.Field16.{K16}
@@ -38,6 +39,12 @@ pub record Lowest (leads : List ℕ) (n r : ℕ) : Type 0 where
 pub record Ranged (k : ℕ) : Type 0 where
   pub least : 27 ≤ k
   pub most : k ≤ 49
+
+-- 0 at the places ps and 1 at the others
+pub record Flagged (ps flags : List ℕ) : Type 0 where
+  pub size : length flags ≡ 64
+  pub on : (p : ℕ) → p < 64 → ¬ List·Memᴰ p ps → getD flags p 0 ≡ 1
+  pub off : (p : ℕ) → List·Memᴰ p ps → getD flags p 0 ≡ 0
 
 pub record Held (k : ℕ) (word row : List ℕ) : Type 0 where
   pub lead : ℕ

@@ -12,9 +12,9 @@ ghost use Rattle.code.specs.Encoding.{encodeOf};
 ghost use Rattle.soft.specs.Column.{columnOf};
 ghost use Rattle.soft.specs.Total.{differing, totalOf};
 ghost use Rattle.soft.specs.TestWord.{testWords};
-ghost use Rattle.near.specs.Interpolated.{limitOf};
+ghost use Rattle.near.specs.Tree.{Places};
 ghost use Rattle.chase.specs.Nearest.{Asked, Nearest};
-ghost use Rattle.chase.specs.Searching.{symbolIn, Lowest, Ranged, LeafOf, SearchOf, BetterOf};
+ghost use Rattle.chase.specs.Searching.{symbolIn, Lowest, Flagged, Ranged, LeafOf, SearchOf, BetterOf};
 use basis::Leads;
 use basis::Rows;
 use code::encoding::write_codeword;
@@ -22,9 +22,11 @@ use division::dividing::divide;
 use division::parts::with_z;
 use division::parts::without_z;
 use interpolation::node::extend;
+use interpolation::settle::settle;
 use soft::column::best;
 use soft::column::second;
 use soft::costs::column_of;
+use soft::doubt::best_word;
 use soft::total::differing;
 use soft::total::total;
 
@@ -274,4 +276,43 @@ fn search(
         left - 1,
     );
     better(first, rest, k)
+}
+
+// A flag of 1 for the settled places.
+fn settled_places(doubtful: [u8; 8], doubt: usize) -> [u8; 64]
+    requires { ⌜ doubt ≤ 8 ⌝ }
+    ensures { λ r. ⌜ (Places (take doubt doubtful) → Flagged (take doubt doubtful) r) ⌝ }
+{
+    let mut out = [1u8; 64];
+    let mut i = 0;
+    while i < doubt {
+        let place = (doubtful[i] % 64) as usize;
+        out[place] = 0;
+        i += 1;
+    }
+    out
+}
+
+// The answer by a table of costs and a list of doubtful places. Arguments that no session has, find nothing.
+pub fn nearest(rate: usize, costs: &[u16], doubtful: [u8; 8], doubt: usize) -> Found
+    ensures { λ r.
+        ⌜ (Asked rate (now (costs .entry)) doubtful doubt
+        → Nearest rate (columnOf 16 (now (costs .entry))) (testWords 64 (columnOf 16 (now (costs .entry))) (take doubt doubtful)) r) ⌝ }
+{
+    if rate < 27 {
+        return none_near();
+    }
+    if 49 < rate {
+        return none_near();
+    }
+    if 8 < doubt {
+        return none_near();
+    }
+    let word = best_word(costs);
+    let m = rate + 5;
+    let limit = 2 * ((52 - rate) / 2 + 6 + m) + 1;
+    let flags = settled_places(doubtful, doubt);
+    let mut leads = [0usize; 8];
+    let rows = settle(word, flags, m, limit, &mut leads);
+    search(rows, leads, word, costs, rate, doubtful, doubt, doubt)
 }

@@ -57,7 +57,6 @@ search-lengths : (t : ℕ) (c : search-lts.Start (
     → (length (c .args .word) ≡ 64) × (length (c .args .t6) ≡ 8)
 search-lengths t c = (search needs, search needs)
 
--- src/lib.rt:214:23
 search-sub-limit : (t : ℕ) → search-lts.Need-sub-limit (
   least-reads.Asked,
   least-reads.Learnt,
@@ -80,7 +79,6 @@ search-sub-limit : (t : ℕ) → search-lts.Need-sub-limit (
 ) (search-at t) search′.Post
 search-sub-limit t c = search needs
 
--- src/lib.rt:214:22
 search-add-limit : (t : ℕ) → search-lts.Need-add-limit (
   least-reads.Asked,
   least-reads.Learnt,
@@ -103,7 +101,6 @@ search-add-limit : (t : ℕ) → search-lts.Need-add-limit (
 ) (search-at t) search′.Post
 search-add-limit t c = search needs
 
--- src/lib.rt:214:42
 search-add-limit-2 : (t : ℕ) → search-lts.Need-add-limit-2 (
   least-reads.Asked,
   least-reads.Learnt,
@@ -126,7 +123,6 @@ search-add-limit-2 : (t : ℕ) → search-lts.Need-add-limit-2 (
 ) (search-at t) search′.Post
 search-add-limit-2 t c = search needs
 
--- src/lib.rt:214:22
 search-add-limit-3 : (t : ℕ) → search-lts.Need-add-limit-3 (
   least-reads.Asked,
   least-reads.Learnt,
@@ -149,7 +145,6 @@ search-add-limit-3 : (t : ℕ) → search-lts.Need-add-limit-3 (
 ) (search-at t) search′.Post
 search-add-limit-3 t c = search needs
 
--- src/lib.rt:214:17
 search-mul-limit : (t : ℕ) → search-lts.Need-mul-limit (
   least-reads.Asked,
   least-reads.Learnt,
@@ -172,7 +167,6 @@ search-mul-limit : (t : ℕ) → search-lts.Need-mul-limit (
 ) (search-at t) search′.Post
 search-mul-limit t c = search needs
 
--- src/lib.rt:214:17
 search-add-limit-4 : (t : ℕ) → search-lts.Need-add-limit-4 (
   least-reads.Asked,
   least-reads.Learnt,
@@ -195,7 +189,6 @@ search-add-limit-4 : (t : ℕ) → search-lts.Need-add-limit-4 (
 ) (search-at t) search′.Post
 search-add-limit-4 t c = search needs
 
--- src/lib.rt:215:9
 search-least-requires : (t : ℕ) → search-lts.Need-least-requires (
   least-reads.Asked,
   least-reads.Learnt,
@@ -218,7 +211,6 @@ search-least-requires : (t : ℕ) → search-lts.Need-least-requires (
 ) (search-at t) search′.Post
 search-least-requires t c κs = search needs
 
--- src/lib.rt:216:16
 search-mul-if1 : (t : ℕ) → search-lts.Need-mul-if1 (
   least-reads.Asked,
   least-reads.Learnt,
@@ -241,7 +233,6 @@ search-mul-if1 : (t : ℕ) → search-lts.Need-mul-if1 (
 ) (search-at t) search′.Post
 search-mul-if1 t c = search needs
 
--- src/lib.rt:216:16
 search-array-read-if1 : (t : ℕ) → search-lts.Need-array-read-if1 (
   least-reads.Asked,
   least-reads.Learnt,
@@ -264,7 +255,6 @@ search-array-read-if1 : (t : ℕ) → search-lts.Need-array-read-if1 (
 ) (search-at t) search′.Post
 search-array-read-if1 t c = search needs
 
--- src/lib.rt:217:9
 search-none-near-requires : (t : ℕ) → search-lts.Need-none-near-requires (
   least-reads.Asked,
   least-reads.Learnt,
@@ -287,7 +277,6 @@ search-none-near-requires : (t : ℕ) → search-lts.Need-none-near-requires (
 ) (search-at t) search′.Post
 search-none-near-requires t c κs = search needs
 
--- src/lib.rt:217:9
 search-returns : (t : ℕ) → search-lts.Need-returns (
   least-reads.Asked,
   least-reads.Learnt,
@@ -311,7 +300,6 @@ search-returns : (t : ℕ) → search-lts.Need-returns (
 unfolding leadAt
 search-returns t c = node-spent (c .before .before .before .before .pre .1 .0) _ _ _ _ _ _ _ (limit-is (c .before .before .before .before .pre .1 .0)) _ (c .before .before .least .ensures) _ (c .none-near .ensures .0) (c .none-near .ensures .1) (c .before .if1 .taken)
 
--- src/lib.rt:220:21
 search-mul-leaf : (t : ℕ) → search-lts.Need-mul-leaf (
   least-reads.Asked,
   least-reads.Learnt,
@@ -334,7 +322,6 @@ search-mul-leaf : (t : ℕ) → search-lts.Need-mul-leaf (
 ) (search-at t) search′.Post
 search-mul-leaf t c = search needs
 
--- src/lib.rt:220:21
 search-array-copy-out-leaf : (t : ℕ) → search-lts.Need-array-copy-out-leaf (
   least-reads.Asked,
   least-reads.Learnt,
@@ -357,7 +344,6 @@ search-array-copy-out-leaf : (t : ℕ) → search-lts.Need-array-copy-out-leaf (
 ) (search-at t) search′.Post
 search-array-copy-out-leaf t c = search needs
 
--- src/lib.rt:220:9
 search-leaf-requires : (t : ℕ) → search-lts.Need-leaf-requires (
   least-reads.Asked,
   least-reads.Learnt,
@@ -380,7 +366,6 @@ search-leaf-requires : (t : ℕ) → search-lts.Need-leaf-requires (
 ) (search-at t) search′.Post
 search-leaf-requires t c κs = search needs
 
--- src/lib.rt:220:9
 search-returns-2 : (t : ℕ) → search-lts.Need-returns-2 (
   least-reads.Asked,
   least-reads.Learnt,
@@ -404,7 +389,6 @@ search-returns-2 : (t : ℕ) → search-lts.Need-returns-2 (
 unfolding leadAt
 search-returns-2 t c = node-leaf (c .before .before .before .before .before .before .pre .1 .0) _ _ _ _ _ _ _ (limit-is (c .before .before .before .before .before .before .pre .1 .0)) _ (c .before .before .before .before .least .ensures) _ (c .before .before .if2 .taken) (none-left _ _ _ (c .before .before .if2 .taken) (search-lengths t (c .before .before .before .before .before .before) .1)) (c .before .before .before .if1 .left) (c .leaf .ensures)
 
--- src/lib.rt:222:27
 search-sub-place : (t : ℕ) → search-lts.Need-sub-place (
   least-reads.Asked,
   least-reads.Learnt,
@@ -427,7 +411,6 @@ search-sub-place : (t : ℕ) → search-lts.Need-sub-place (
 ) (search-at t) search′.Post
 search-sub-place t c = search needs
 
--- src/lib.rt:222:18
 search-array-read-place : (t : ℕ) → search-lts.Need-array-read-place (
   least-reads.Asked,
   least-reads.Learnt,
@@ -450,7 +433,6 @@ search-array-read-place : (t : ℕ) → search-lts.Need-array-read-place (
 ) (search-at t) search′.Post
 search-array-read-place t c = search needs
 
--- src/lib.rt:222:17
 search-cast-place : (t : ℕ) → search-lts.Need-cast-place (
   least-reads.Asked,
   least-reads.Learnt,
@@ -473,7 +455,6 @@ search-cast-place : (t : ℕ) → search-lts.Need-cast-place (
 ) (search-at t) search′.Post
 search-cast-place t c = search needs
 
--- src/lib.rt:223:9
 search-column-of-requires : (t : ℕ) → search-lts.Need-column-of-requires (
   least-reads.Asked,
   least-reads.Learnt,
@@ -496,7 +477,6 @@ search-column-of-requires : (t : ℕ) → search-lts.Need-column-of-requires (
 ) (search-at t) search′.Post
 search-column-of-requires t c κs = search needs
 
--- src/lib.rt:224:9
 search-best-requires : (t : ℕ) → search-lts.Need-best-requires (
   least-reads.Asked,
   least-reads.Learnt,
@@ -519,7 +499,6 @@ search-best-requires : (t : ℕ) → search-lts.Need-best-requires (
 ) (search-at t) search′.Post
 search-best-requires t c κs = search needs
 
--- src/lib.rt:225:9
 search-second-requires : (t : ℕ) → search-lts.Need-second-requires (
   least-reads.Asked,
   least-reads.Learnt,
@@ -542,7 +521,6 @@ search-second-requires : (t : ℕ) → search-lts.Need-second-requires (
 ) (search-at t) search′.Post
 search-second-requires t c κs = search needs
 
--- src/lib.rt:227:9
 search-extend-requires : (t : ℕ) → search-lts.Need-extend-requires (
   least-reads.Asked,
   least-reads.Learnt,
@@ -565,7 +543,6 @@ search-extend-requires : (t : ℕ) → search-lts.Need-extend-requires (
 ) (search-at t) search′.Post
 search-extend-requires t c κs = search needs
 
--- src/lib.rt:229:5
 search-array-write-first-word : (t : ℕ) → search-lts.Need-array-write-first-word (
   least-reads.Asked,
   least-reads.Learnt,
@@ -588,7 +565,6 @@ search-array-write-first-word : (t : ℕ) → search-lts.Need-array-write-first-
 ) (search-at t) search′.Post
 search-array-write-first-word t c = search needs
 
--- src/lib.rt:230:88
 search-sub-search : (t : ℕ) → search-lts.Need-sub-search (
   least-reads.Asked,
   least-reads.Learnt,
@@ -611,7 +587,6 @@ search-sub-search : (t : ℕ) → search-lts.Need-sub-search (
 ) (search-at t) search′.Post
 search-sub-search t c = search needs
 
--- src/lib.rt:230:9
 search-search-requires : (t : ℕ) → search-lts.Need-search-requires (
   least-reads.Asked,
   least-reads.Learnt,
@@ -634,7 +609,6 @@ search-search-requires : (t : ℕ) → search-lts.Need-search-requires (
 ) (search-at t) search′.Post
 search-search-requires t c κs = (omega (arith, c .before .before .before .before .before .before .before .before .before .pre .0, c .before .before .before .before .before .if2 .left), (c .before .before .before .before .before .before .before .before .before .pre .1 .0, c .before .before .before .before .before .before .before .before .before .pre .1 .1, omega (arith, c .before .before .before .before .before .before .before .before .before .pre .1 .2)))
 
--- src/lib.rt:232:9
 search-extend-requires-2 : (t : ℕ) → search-lts.Need-extend-requires-2 (
   least-reads.Asked,
   least-reads.Learnt,
@@ -657,7 +631,6 @@ search-extend-requires-2 : (t : ℕ) → search-lts.Need-extend-requires-2 (
 ) (search-at t) search′.Post
 search-extend-requires-2 t c κs = search needs
 
--- src/lib.rt:234:5
 search-array-write-other-word : (t : ℕ) → search-lts.Need-array-write-other-word (
   least-reads.Asked,
   least-reads.Learnt,
@@ -680,7 +653,6 @@ search-array-write-other-word : (t : ℕ) → search-lts.Need-array-write-other-
 ) (search-at t) search′.Post
 search-array-write-other-word t c = search needs
 
--- src/lib.rt:235:87
 search-sub-search-2 : (t : ℕ) → search-lts.Need-sub-search-2 (
   least-reads.Asked,
   least-reads.Learnt,
@@ -703,7 +675,6 @@ search-sub-search-2 : (t : ℕ) → search-lts.Need-sub-search-2 (
 ) (search-at t) search′.Post
 search-sub-search-2 t c = search needs
 
--- src/lib.rt:235:9
 search-search-requires-2 : (t : ℕ) → search-lts.Need-search-requires-2 (
   least-reads.Asked,
   least-reads.Learnt,
@@ -726,7 +697,6 @@ search-search-requires-2 : (t : ℕ) → search-lts.Need-search-requires-2 (
 ) (search-at t) search′.Post
 search-search-requires-2 t c κs = (omega (arith, c .before .before .before .before .before .before .before .before .before .before .before .before .pre .0, c .before .before .before .before .before .before .before .before .if2 .left), (c .before .before .before .before .before .before .before .before .before .before .before .before .pre .1 .0, c .before .before .before .before .before .before .before .before .before .before .before .before .pre .1 .1, omega (arith, c .before .before .before .before .before .before .before .before .before .before .before .before .pre .1 .2)))
 
--- src/lib.rt:236:5
 search-better-requires : (t : ℕ) → search-lts.Need-better-requires (
   least-reads.Asked,
   least-reads.Learnt,
@@ -749,7 +719,6 @@ search-better-requires : (t : ℕ) → search-lts.Need-better-requires (
 ) (search-at t) search′.Post
 search-better-requires t c κs = (c .before .before .before .before .before .before .before .before .before .before .before .before .before .pre .1 .0 .most, tests-fit _ _ _ (omega (arith, c .before .before .before .before .before .before .before .before .before .before .before .before .before .pre .1 .1, c .before .before .before .before .before .before .before .before .before .before .before .before .before .pre .1 .2)) (c .before .before .before .search .ensures .few) (c .search2 .ensures .few))
 
--- src/lib.rt:200:1
 search-returns-3 : (t : ℕ) → search-lts.Need-returns-3 (
   least-reads.Asked,
   least-reads.Learnt,

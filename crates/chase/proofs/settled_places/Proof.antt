@@ -1,0 +1,63 @@
+-- The places passed have the flag 0.
+use mathlib.Core.Path.{_≡_, subst}
+use Prim.Native.Nat.{_≤_, _-_, _<_}
+use native.Mathlib.Omega.{arith}
+use lib.ListN.{length, take}
+use Rattle.near.specs.Tree.{Places}
+use Rattle.chase.specs.Searching.{Flagged}
+use Rattle.chase.proofs.Settling.{flag-start, flag-turn, place-small}
+use borrow.Author.Needs.{needs}
+use Rattle.chase.proofs.settled_places.Statement.{statement}
+use Rattle.chase.proofs.settled_places.Tie as tie
+
+abbrev Inv-loop : tie.InvT-loop
+Inv-loop doubt doubtful out₀ i₀ out i = (i ≤ doubt) × (length doubtful ≡ 8) × (length out ≡ 64) × (Places (take doubt doubtful) → Flagged (take i doubtful) out)
+
+abbrev μ-loop : tie.MeasureT-loop
+μ-loop doubt doubtful out₀ i₀ out i = doubt - i
+
+loop-holds : tie.Need-loop-holds Inv-loop μ-loop
+loop-holds c = (search needs, search needs, search needs, λ P. flag-start (c .args .t1))
+
+array-read-place : tie.Need-array-read-place Inv-loop μ-loop
+array-read-place c = search needs
+
+cast-place : tie.Need-cast-place Inv-loop μ-loop
+cast-place c = search needs
+
+array-write-out : tie.Need-array-write-out Inv-loop μ-loop
+array-write-out c = search needs
+
+add-i : tie.Need-add-i Inv-loop μ-loop
+add-i c = search needs
+
+loop-less : tie.Need-loop-less Inv-loop μ-loop
+loop-less c = search needs
+
+loop-again : tie.Need-loop-again Inv-loop μ-loop
+loop-again c =
+    let i = c .before .loop .inv in
+    let b : c .before .loop .i < c .before .before .args .doubt = search needs in
+    let h : c .before .before .args .doubt ≤ 8 = search needs in
+    let n : c .before .loop .i < length (c .before .before .args .t1) = omega (arith, i .1) in
+    (search needs, i .1, search needs, λ P. flag-turn _ _ _ n (place-small _ _ _ (i .1) h b P) (i .3 P))
+
+returns : tie.Need-returns Inv-loop μ-loop
+returns c =
+    let e : c .before .loop .i ≡ c .before .before .args .doubt = omega arith in
+    λ P. subst (λ n. Flagged (take n (c .before .before .args .t1)) (c .before .loop .out)) e (c .before .loop .inv .3 P)
+
+pub settled-places-spec : {M : Type 1} → statement M
+settled-places-spec =
+    tie.close
+    (tie.spec
+    Inv-loop
+    μ-loop
+    loop-holds
+    array-read-place
+    cast-place
+    array-write-out
+    add-i
+    loop-less
+    loop-again
+    returns)
