@@ -1,0 +1,75 @@
+-- From what the search found to what decoding answers.
+--
+--   listed-take        the first entries of a list
+--   tests-few          at most 256 test words have a codeword within T, so that their count fits two bytes
+--   answered-none      nobody near: refused with 9, the buffers as they were
+--   decoded-near       the same from the steps of the code
+--   answered-near      somebody near: the message, and the report with its total, the count, and the pinned and changed places of its codeword
+use mathlib.Core.Path.{_≡_, refl, sym, ap, ap₂, _∙_}
+use mathlib.Core.List.{List, [], _∷_}
+use Prim.Native.Nat.{ℕ, _^_, _≤_}
+use native.Mathlib.Omega.{arith}
+use lib.ListN.{length, take}
+use lib.Pow.{pow-mono}
+use lib.Seq.{length-take-le}
+use Rattle.refusals.specs.Refusal.{accepted, noneNear}
+use Rattle.lists.specs.Count.{bit-le}
+use Rattle.lists.specs.Listed.{listed, take-listed, listed-getD}
+use Rattle.soft.specs.Doubt.{entryOf}
+use Rattle.soft.specs.TestWord.{testWords}
+use Rattle.soft.specs.TestWordLaws.{testWords-count}
+use Rattle.soft.specs.Total.{totalOf, pinnedOf, changedOf, reportOf}
+use Rattle.code.specs.Encoding.{encodeOf}
+use Rattle.near.specs.Near.{isSome, codewordNear, testsNear, messageCost}
+use Rattle.near.specs.Laws.{tests-nil, tests-cons}
+use Rattle.book.specs.Closing.{refusedClosing, reportFor, decodeOf}
+use Rattle.book.specs.ClosingLaws.{decode-none, decode-some}
+use Rattle.book.specs.Table.{closed}
+use Rattle.chase.specs.declared.Answer.the-variants.{NoneNear, Near}
+use Rattle.chase.specs.declared.Found.{Found}
+use Rattle.chase.specs.Nearest.{Nearest}
+
+-- the first entries of a list, by its rule
+pub listed-take : (n : ℕ) (l : List ℕ) → n ≤ length l → listed n (entryOf l) ≡ take n l
+listed-take n l h = sym (take-listed 0 n (length l) (entryOf l) h) ∙ ap (take n) (listed-getD l 0)
+
+pub tests-le : (k : ℕ) (ts : List (List ℕ)) → testsNear k ts ≤ length ts
+tests-le k [] = omega (arith, tests-nil k)
+tests-le k (t ∷ ts) = omega (arith, tests-cons k t ts, tests-le k ts, bit-le (isSome (codewordNear k t)))
+
+module _ (rate : ℕ) (columns : ℕ → List ℕ) (doubtful : List ℕ) (f : Found) (near : Nearest rate columns (testWords 64 columns doubtful) f) where
+  pub tests-few : length doubtful ≤ 8 → f .tests ≤ 256
+  tests-few h =
+      let p : 2 ^ length doubtful ≤ 256 = pow-mono h in
+      omega (arith, near .count, tests-le rate (testWords 64 columns doubtful), testWords-count 64 columns doubtful)
+
+  module _ (message report : List ℕ) where
+    pub answered-none : f .answer ≡ NoneNear → closed noneNear message report ≡ decodeOf rate columns doubtful message report
+    unfolding refusedClosing
+    answered-none e = sym (decode-none rate columns doubtful message report (near .nobody e))
+
+    pub answered-near : (t : ℕ) → f .answer ≡ Near t
+        → closed accepted (take rate (f .message))
+        (reportOf t (f .tests) (pinnedOf 64 columns (encodeOf rate (take rate (f .message))))
+        (changedOf 64 columns (encodeOf rate (take rate (f .message)))))
+        ≡ decodeOf rate columns doubtful message report
+    unfolding reportFor messageCost
+    answered-near t e =
+        let m = take rate (f .message) in
+        ap₂
+        (λ total tests. closed accepted m (reportOf total tests (pinnedOf 64 columns (encodeOf rate m)) (changedOf 64 columns (encodeOf rate m))))
+        (near .somebody t e .1) (near .count)
+        ∙ sym (decode-some rate columns doubtful message report (near .somebody t e .0))
+
+    -- the same, step by step as the code goes
+    pub decoded-near : {t pinned changed : ℕ} {message′ word report′ : List ℕ} → f .answer ≡ Near t → length message ≡ rate
+        → length (f .message) ≡ 49 → rate ≤ 49 → message′ ≡ take (length message) (f .message) → word ≡ encodeOf (length message′) message′
+        → pinned ≡ pinnedOf 64 columns word → changed ≡ changedOf 64 columns word → report′ ≡ reportOf t (f .tests) pinned changed
+        → closed accepted message′ report′ ≡ decodeOf rate columns doubtful message report
+    decoded-near {t} {pinned} {changed} {message′} {word} {report′} e long size small m w p q r =
+        let a : message′ ≡ take rate (f .message) = m ∙ ap (λ n. take n (f .message)) long in
+        let b : length message′ ≡ rate = ap length a ∙ length-take-le rate (f .message) (omega arith) in
+        let v : word ≡ encodeOf rate (take rate (f .message)) = w ∙ ap₂ (λ (n : ℕ) (l : List ℕ). encodeOf n l) b a in
+        ap₂ (λ (x y : List ℕ). closed accepted x y) a
+        (r ∙ ap₂ (λ (x y : ℕ). reportOf t (f .tests) x y) (p ∙ ap (pinnedOf 64 columns) v) (q ∙ ap (changedOf 64 columns) v))
+        ∙ answered-near t e

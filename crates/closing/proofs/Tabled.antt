@@ -1,0 +1,45 @@
+-- What table decoding hands to the search, and what comes of it.
+--
+--   table-list         the places picked, from the front of the array that holds them
+--   table-asked        the search may be asked for them
+--   table-answers      what decoding answers is what table decoding does
+use mathlib.Core.Bool.{true}
+use mathlib.Core.Path.{_≡_, sym, ap, ap₂, _∙_}
+use mathlib.Core.List.{List}
+use Prim.Native.Nat.{ℕ, _*_, _≤_}
+use native.Mathlib.Omega.{arith}
+use lib.ListN.{length, take}
+use Rattle.lists.specs.Padded.{padded, padded-take}
+use Rattle.soft.specs.Column.{places, symbols, costsFrom, columnOf}
+use Rattle.soft.specs.ColumnLaws.{costs-length}
+use Rattle.soft.specs.Doubt.{mostDoubt, doubtfulOf}
+use Rattle.code.specs.Encoding as Code
+use Rattle.book.specs.Opening.{fitDoubt}
+use Rattle.book.specs.Closing.{reportLength, Closed, decodeOf}
+use Rattle.book.specs.Table.{tableLength, tableColumns, pickedOf, tableOf, table-decoded, picked-length, picked-fit}
+use Rattle.chase.specs.Nearest.{Asked}
+use Rattle.closing.proofs.Asked.{rate-code, asked-fit}
+
+module _ (table : List ℕ) (doubt : ℕ) (few : doubt ≤ mostDoubt) {costs doubtful : List ℕ} (c : costs ≡ costsFrom (places * symbols) table)
+    (d : doubtful ≡ padded mostDoubt (doubtfulOf places doubt (columnOf symbols costs))) where
+  pub table-list : take doubt doubtful ≡ pickedOf table doubt
+  unfolding pickedOf tableColumns
+  table-list =
+      let list = doubtfulOf places doubt (columnOf symbols (costsFrom (places * symbols) table)) in
+      let n : length list ≡ doubt = picked-length table doubt few in
+      ap (take doubt) (d ∙ ap (λ (l : List ℕ). padded mostDoubt (doubtfulOf places doubt (columnOf symbols l))) c)
+      ∙ ap (λ k. take k (padded mostDoubt list)) (sym n) ∙ padded-take mostDoubt list (omega arith)
+
+  module _ (rate : ℕ) (known : Code.knownRate rate ≡ true) where
+    pub table-asked : Asked rate costs doubtful doubt
+    table-asked =
+        asked-fit rate costs doubtful doubt (sym (rate-code rate) ∙ known) (ap fitDoubt table-list ∙ picked-fit table doubt few)
+        (ap length c ∙ costs-length (places * symbols) table) few
+
+    pub table-answers : (message report : List ℕ) → length table ≡ tableLength → length message ≡ rate → length report ≡ reportLength
+        → {a : Closed} → a ≡ decodeOf rate (columnOf symbols costs) (take doubt doubtful) message report
+        → a ≡ tableOf rate table doubt message report
+    unfolding tableColumns
+    table-answers message report whole long eight e =
+        e ∙ ap₂ (λ (l list : List ℕ). decodeOf rate (columnOf symbols l) list message report) c table-list
+        ∙ sym (table-decoded rate table doubt message report (sym (rate-code rate) ∙ known) whole long eight few)

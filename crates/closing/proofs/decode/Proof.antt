@@ -1,0 +1,88 @@
+-- `decode` meets its contract: what the search found is the answer, and the report is that of its codeword.
+use mathlib.Core.Path.{_≡_, ap}
+use native.Mathlib.Omega.{arith}
+use lib.ListN.{length}
+use Rattle.closing.proofs.Asked.{rate-small, take-short, list-few}
+use Rattle.closing.proofs.Answered.{tests-few, answered-none, decoded-near}
+use borrow.Author.Needs.{needs}
+use Rattle.closing.proofs.decode.Statement.{statement}
+use Rattle.closing.proofs.decode.Tie as tie
+
+-- the message that was found has room for every rate
+found-room : (c : tie.After-nearest) → length (c .nearest .result .message) ≡ 49
+found-room c = search needs
+
+nearest-requires : tie.Need-nearest-requires
+nearest-requires c κs = search needs
+
+enum-known-answer : tie.Need-enum-known-answer
+enum-known-answer c = search needs
+
+enum-told : tie.Need-enum-told
+enum-told c = search needs
+
+returns : tie.Need-returns
+returns c =
+    answered-none _ _ _ _ (c .before .before .nearest .ensures (c .before .before .before .before .before .before .pre .asked)) _ _ (c .enum-told .given .1)
+
+copy-message-requires : tie.Need-copy-message-requires
+copy-message-requires c κs = omega (arith, c .before .before .before .before .before .before .before .before .before .pre .message-long, rate-small _ (c .before .before .before .before .before .before .before .before .before .pre .asked .known))
+
+slice-aggregate-write-codeword : tie.Need-slice-aggregate-write-codeword
+slice-aggregate-write-codeword c = search needs
+
+write-codeword-requires : tie.Need-write-codeword-requires
+write-codeword-requires c κs =
+    (omega (arith, c .before .before .before .before .before .before .before .before .before .before .before .before .before .before .pre .message-long, rate-small _ (c .before .before .before .before .before .before .before .before .before .before .before .before .before .before .pre .asked .known), ap length (c .before .before .before .before .copy-message .ensures), take-short (length (c .before .before .before .before .before .before .before .before .before .before .before .before .before .before .args .message .now)) (c .before .before .before .before .before .before .before .before .before .before .nearest .result .message)), search needs)
+
+slice-aggregate-pinned : tie.Need-slice-aggregate-pinned
+slice-aggregate-pinned c = search needs
+
+pinned-requires : tie.Need-pinned-requires
+pinned-requires c κs = search needs
+
+slice-aggregate-changed : tie.Need-slice-aggregate-changed
+slice-aggregate-changed c = search needs
+
+changed-requires : tie.Need-changed-requires
+changed-requires c κs = search needs
+
+cast-report : tie.Need-cast-report
+cast-report c =
+    omega (arith, tests-few _ _ _ _ (c .before .before .before .before .before .before .before .before .before .before .before .before .before .before .before .before .before .before .nearest .ensures (c .before .before .before .before .before .before .before .before .before .before .before .before .before .before .before .before .before .before .before .before .before .before .pre .asked)) (list-few (c .before .before .before .before .before .before .before .before .before .before .before .before .before .before .before .before .before .before .before .before .before .before .pre .asked)))
+
+report-requires : tie.Need-report-requires
+report-requires c κs = search needs
+
+same-length : tie.Need-same-length
+same-length c = search needs
+
+same-length-2 : tie.Need-same-length-2
+same-length-2 c = search needs
+
+returns-2 : tie.Need-returns-2
+returns-2 c =
+    decoded-near _ _ _ _ (c .before .before .before .before .before .before .before .before .before .before .before .before .before .before .before .before .before .before .before .before .before .nearest .ensures (c .before .before .before .before .before .before .before .before .before .before .before .before .before .before .before .before .before .before .before .before .before .before .before .before .before .pre .asked)) _ _ (c .before .before .before .before .before .before .before .before .before .before .before .before .before .before .before .before .before .before .before .answer .given .1) (c .before .before .before .before .before .before .before .before .before .before .before .before .before .before .before .before .before .before .before .before .before .before .before .before .before .pre .message-long) (found-room (c .before .before .before .before .before .before .before .before .before .before .before .before .before .before .before .before .before .before .before .before .before))
+    (rate-small _ (c .before .before .before .before .before .before .before .before .before .before .before .before .before .before .before .before .before .before .before .before .before .before .before .before .before .pre .asked .known)) (c .before .before .before .before .before .before .before .before .before .before .before .before .before .before .before .copy-message .ensures) (c .before .before .before .before .before .before .before .before .before .before .write-codeword .ensures)
+    (c .before .before .before .before .before .before .before .pinned .ensures) (c .before .before .before .before .before .changed .ensures) (c .before .before .report .ensures)
+
+pub decode-spec : {M : Type 1} → statement M
+decode-spec =
+    tie.close
+    (tie.spec
+    nearest-requires
+    enum-known-answer
+    enum-told
+    returns
+    copy-message-requires
+    slice-aggregate-write-codeword
+    write-codeword-requires
+    slice-aggregate-pinned
+    pinned-requires
+    slice-aggregate-changed
+    changed-requires
+    cast-report
+    report-requires
+    same-length
+    same-length-2
+    returns-2)

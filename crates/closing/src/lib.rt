@@ -1,0 +1,120 @@
+// The two calls that decode: closing a session, and table decoding. Each checks its arguments in document 01's order and then decodes.
+// The search is `chase`'s; nothing here knows how it goes.
+use refusals::ACCEPTED;
+use refusals::NONE_NEAR;
+use refusals::PLACE_MISSING;
+use refusals::UNKNOWN_RATE;
+use refusals::WRONG_DOUBT;
+use refusals::WRONG_SIZE;
+use session::Session;
+ghost use mathlib.Core.Path.{_≡_};
+ghost use Prim.Native.Nat.{_≤_};
+ghost use lib.ListN.{length, take};
+ghost use Rattle.soft.specs.Column.{symbols, columnOf};
+ghost use Rattle.book.specs.Closing.{decodeOf};
+ghost use Rattle.book.specs.Table.{closed, tableOf};
+ghost use Rattle.session.specs.Answering.{Closing};
+ghost use Rattle.closing.specs.Decoding.{Decodable};
+
+const TABLE_BYTES: usize = 2048;
+
+const REPORT_BYTES: usize = 8;
+
+const PLACES: usize = 64;
+
+const MOST_DOUBT: usize = 8;
+
+// The first bytes of an array of 49, as many as there is room for.
+fn copy_message(from: [u8; 49], to: &mut [u8])
+    requires { ⌜ length (now to) ≤ 49 ⌝ }
+    ensures { λ _. ⌜ now (to .exit) ≡ take (length (now (to .entry))) from ⌝ }
+{
+    let mut i = 0;
+    while i < to.len() {
+        to[i] = from[i];
+        i += 1;
+    }
+}
+
+// 'None near', the buffers as they were; or the answer's message and its report.
+fn decode(
+    rate: usize,
+    costs: &[u16],
+    doubtful: [u8; 8],
+    doubt: usize,
+    message: &mut [u8],
+    report: &mut [u8],
+) -> u8
+    requires { ⌜ Decodable rate (now costs) doubtful doubt (now message) (now report) ⌝ }
+    ensures { λ r. ⌜ closed r (now (message .exit)) (now (report .exit)) ≡ decodeOf rate (columnOf symbols (now (costs .entry))) (take doubt doubtful) (now (message .entry)) (now (report .entry)) ⌝ }
+{
+    let found = chase::nearest(rate, costs, doubtful, doubt);
+    let answer = found.answer;
+    let chase::Answer::Near { total } = answer else {
+        return NONE_NEAR;
+    };
+    let best = found.message;
+    copy_message(best, message);
+    let mut word = [0u8; 64];
+    code::encoding::write_codeword(message, &mut word);
+    let pinned = soft::total::pinned(costs, &word);
+    let changed = soft::total::changed(costs, &word);
+    soft::report::report(report, total, found.tests as u16, pinned, changed);
+    ACCEPTED
+}
+
+// A session record that was built by hand, with a rate or a doubtful list that no opening accepts, gets the number of that refusal.
+pub fn close(session: Session, message: &mut [u8], report: &mut [u8]) -> u8
+    ensures { λ r. ⌜ Closing session (now (message .entry)) (now (report .entry)) r (now (message .exit)) (now (report .exit)) ⌝ }
+{
+    let rate = session.rate as usize;
+    if message.len() != rate {
+        return WRONG_SIZE;
+    }
+    if report.len() != REPORT_BYTES {
+        return WRONG_SIZE;
+    }
+    if session.taken < PLACES {
+        return PLACE_MISSING;
+    }
+    let doubt = session.doubt;
+    let doubtful = session.doubtful;
+    if MOST_DOUBT < doubt {
+        return WRONG_DOUBT;
+    }
+    let opened = session::open(rate, &doubtful[..doubt]);
+    if opened.refusal != ACCEPTED {
+        return opened.refusal;
+    }
+    let costs = session.costs;
+    decode(rate, &costs, doubtful, doubt, message, report)
+}
+
+pub fn decode_table(
+    rate: usize,
+    table: &[u8],
+    doubt: usize,
+    message: &mut [u8],
+    report: &mut [u8],
+) -> u8
+    ensures { λ r. ⌜ closed r (now (message .exit)) (now (report .exit)) ≡ tableOf rate (now (table .entry)) doubt (now (message .entry)) (now (report .entry)) ⌝ }
+{
+    if !code::encoding::known_rate(rate) {
+        return UNKNOWN_RATE;
+    }
+    if table.len() != TABLE_BYTES {
+        return WRONG_SIZE;
+    }
+    if message.len() != rate {
+        return WRONG_SIZE;
+    }
+    if report.len() != REPORT_BYTES {
+        return WRONG_SIZE;
+    }
+    if MOST_DOUBT < doubt {
+        return WRONG_DOUBT;
+    }
+    let costs = soft::costs::table_from(table);
+    let doubtful = soft::doubt::doubtful(&costs, doubt);
+    decode(rate, &costs, doubtful, doubt, message, report)
+}
