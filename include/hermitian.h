@@ -1,5 +1,5 @@
-/* What the modem's firmware calls: encoding and reading back for the Hermitian code
- * y^4 + y = x^5 over GF(16), 64 places. Link libmodem.a (rt staticlib modem).
+/* What the modem's firmware calls: encoding, reading back and table decoding for the
+ * Hermitian code y^4 + y = x^5 over GF(16), 64 places. Link libmodem.a (rt staticlib modem).
  *
  * A call returns 0, or the number of its refusal. A refused call leaves every buffer as
  * it was. The library keeps no state, allocates nothing and calls nothing back: any two
@@ -11,13 +11,17 @@
  *   message   exactly k bytes, one symbol each, 0 to 15
  *   word      exactly 64 bytes, one symbol each, place 0 first
  *   frame     any length; the codeword takes 64 bytes of it from start on
+ *   table     exactly 2048 bytes: 64 columns of sixteen costs, place 0 and symbol 0 first,
+ *             two bytes each, high byte first
+ *   report    exactly 8 bytes, high byte first: the total (4), the test words with a
+ *             codeword within T (2), the pinned places (1), the changed places (1)
  *
  * What C cannot check and the caller must see to:
  *   - a pointer is not null, also where its length is 0, and its bytes may be read, or
  *     written where the parameter is not const, for the length given;
  *   - no buffer is longer than PTRDIFF_MAX;
- *   - aliasing: the two buffers of a call do not overlap, and nobody else writes either,
- *     or reads the one that is not const, until the call returns.
+ *   - aliasing: the buffers of a call do not overlap, and nobody else writes any of them,
+ *     or reads one that is not const, until the call returns.
  */
 #ifndef HERMITIAN_H
 #define HERMITIAN_H
@@ -30,13 +34,18 @@ extern "C" {
 #endif
 
 #define HERMITIAN_PLACES 64
+#define HERMITIAN_TABLE_BYTES 2048
+#define HERMITIAN_REPORT_BYTES 8
+#define HERMITIAN_MOST_DOUBT 8
 
 enum hermitian_refusal {
     HERMITIAN_ACCEPTED = 0,
     HERMITIAN_UNKNOWN_RATE = 1, /* the rate is not 39 or 49 */
     HERMITIAN_WRONG_SIZE = 2,   /* a buffer of the wrong size, or no 64 bytes from the start */
     HERMITIAN_NO_SYMBOL = 3,    /* a symbol above 15 */
-    HERMITIAN_NO_CODEWORD = 8   /* the word is not a codeword */
+    HERMITIAN_WRONG_DOUBT = 4,  /* a doubt above 8 */
+    HERMITIAN_NO_CODEWORD = 8,  /* the word is not a codeword */
+    HERMITIAN_NONE_NEAR = 9     /* no codeword is near */
 };
 
 /* Writes the codeword of the message into frame[start] to frame[start + 63]; the other
@@ -55,6 +64,16 @@ uint8_t hermitian_encode(size_t rate,
 uint8_t hermitian_read_back(size_t rate,
                             const uint8_t *word, size_t word_length,
                             uint8_t *message, size_t message_length);
+
+/* Decodes a table of costs with doubt 0 to 8: writes the message of the near codeword of
+ * least total cost, and its report. The doubtful places are those of smallest gap.
+ * Checks, in this order: rate; table of 2048, message buffer of k and report of 8 bytes;
+ * doubt; nearness. Refusals: 1, 2, 4, 9. */
+uint8_t hermitian_decode_table(size_t rate,
+                               const uint8_t *table, size_t table_length,
+                               size_t doubt,
+                               uint8_t *message, size_t message_length,
+                               uint8_t *report, size_t report_length);
 
 #ifdef __cplusplus
 }

@@ -1,8 +1,9 @@
 //! The proved library's calls, from `libmodem.a`, declared as in `include/hermitian.h`.
 //!
 //! - [`PROVED`]: encoding and reading back.
+//! - [`PROVED_TABLE`]: table decoding.
 
-use crate::trials::Coding;
+use crate::trials::{Coding, DecodeTable};
 
 extern "C" {
     fn hermitian_encode(
@@ -20,6 +21,17 @@ extern "C" {
         word_length: usize,
         message: *mut u8,
         message_length: usize,
+    ) -> u8;
+
+    fn hermitian_decode_table(
+        rate: usize,
+        table: *const u8,
+        table_length: usize,
+        doubt: usize,
+        message: *mut u8,
+        message_length: usize,
+        report: *mut u8,
+        report_length: usize,
     ) -> u8;
 }
 
@@ -41,4 +53,18 @@ pub const PROVED: Coding = Coding {
         let (to, room) = (message.as_mut_ptr(), message.len());
         hermitian_read_back(rate as usize, word.as_ptr(), word.len(), to, room)
     },
+};
+
+/// The proved library's table decoding.
+pub const PROVED_TABLE: DecodeTable = |rate, table, doubt, message, report| unsafe {
+    hermitian_decode_table(
+        rate as usize,
+        table.as_ptr(),
+        table.len(),
+        doubt as usize,
+        message.as_mut_ptr(),
+        message.len(),
+        report.as_mut_ptr(),
+        report.len(),
+    )
 };

@@ -1,6 +1,7 @@
 // What the modem's firmware calls from C, on numbers and byte slices, each returning the refusal or 0. Nothing else stands here.
 ghost use mathlib.Core.Path.{_≡_};
 ghost use Rattle.code.specs.Calls.{outcome, encodeCall, readBackCall};
+ghost use Rattle.book.specs.Table.{closed, tableOf};
 
 #[no_mangle]
 pub extern "C" fn hermitian_encode(
@@ -19,4 +20,17 @@ pub extern "C" fn hermitian_read_back(rate: usize, word: &[u8], message: &mut [u
     ensures { λ r. ⌜ outcome r (now (message .exit)) ≡ readBackCall rate (now (word .entry)) (now (message .entry)) ⌝ }
 {
     code::reading::read_back(rate, word, message)
+}
+
+#[no_mangle]
+pub extern "C" fn hermitian_decode_table(
+    rate: usize,
+    table: &[u8],
+    doubt: usize,
+    message: &mut [u8],
+    report: &mut [u8],
+) -> u8
+    ensures { λ r. ⌜ closed r (now (message .exit)) (now (report .exit)) ≡ tableOf rate (now (table .entry)) doubt (now (message .entry)) (now (report .entry)) ⌝ }
+{
+    closing::decode_table(rate, table, doubt, message, report)
 }

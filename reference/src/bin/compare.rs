@@ -24,6 +24,7 @@ compare show                                read a capture, print what `show` pr
 compare shows SEED COUNT PROGRAM ..         run a program on COUNT captures and compare
 compare time COUNT                          decode COUNT frames of each sort and time them
 compare code SEED COUNT                     the proved encoding and reading back (feature proved)
+compare tables SEED COUNT                   the proved table decoding (feature proved)
 LETTERS are those of the calls wanted, of OCDRWXL.";
 
 fn main() -> ExitCode {
@@ -59,6 +60,8 @@ fn run(arguments: &[String]) -> Result<(), String> {
         ["time", count] => time(number(count)?),
         #[cfg(feature = "proved")]
         ["code", seed, count] => proved::code(number(seed)?, number(count)?),
+        #[cfg(feature = "proved")]
+        ["tables", seed, count] => proved::tables(number(seed)?, number(count)?),
         _ => Err(USAGE.to_string()),
     }
 }
@@ -130,19 +133,32 @@ fn time(count: u64) -> Result<(), String> {
 
 #[cfg(feature = "proved")]
 mod proved {
-    use reference::proved::PROVED;
+    use reference::proved::{PROVED, PROVED_TABLE};
     use reference::trials::{
-        compare, encode_trial, read_back_trial, Coding, Difference, Trial, REFERENCE,
+        compare, encode_trial, read_back_trial, table_trial, Difference, Trial, REFERENCE,
+        REFERENCE_TABLE,
     };
 
     pub fn code(seed: u64, count: u64) -> Result<(), String> {
-        report("encode", encode_trial, seed, count)?;
-        report("read back", read_back_trial, seed, count)
+        let both = [&REFERENCE, &PROVED];
+        report("encode", encode_trial, both, seed, count)?;
+        report("read back", read_back_trial, both, seed, count)
+    }
+
+    pub fn tables(seed: u64, count: u64) -> Result<(), String> {
+        let both = [&REFERENCE_TABLE, &PROVED_TABLE];
+        report("decode table", table_trial, both, seed, count)
     }
 
     /// Prints how often each number was returned.
-    fn report(name: &str, trial: Trial<Coding>, seed: u64, count: u64) -> Result<(), String> {
-        let tally = compare(trial, [&REFERENCE, &PROVED], seed, count).map_err(|difference| {
+    fn report<L: Sync>(
+        name: &str,
+        trial: Trial<L>,
+        libraries: [&L; 2],
+        seed: u64,
+        count: u64,
+    ) -> Result<(), String> {
+        let tally = compare(trial, libraries, seed, count).map_err(|difference| {
             let Difference {
                 trial,
                 outcomes: [expected, got],

@@ -1,0 +1,149 @@
+/* Table decoding as the firmware calls it: bench sheet R1, R2 and R4 to R6, every refusal in its
+ * order, and guard bytes around each buffer. */
+#include <stdio.h>
+#include <string.h>
+
+#include "hermitian.h"
+
+enum { GUARD = 32, ROOM = 64 };
+
+static unsigned checks, failures;
+
+static void expect(int held, const char *what)
+{
+    checks++;
+    if (!held) {
+        failures++;
+        fprintf(stderr, "failed: %s\n", what);
+    }
+}
+
+/* A buffer between two guards. */
+struct guarded {
+    uint8_t before[GUARD];
+    uint8_t bytes[ROOM];
+    uint8_t after[GUARD];
+};
+
+static void fill(struct guarded *g)
+{
+    memset(g->before, 0xA5, GUARD);
+    memset(g->bytes, 0xEE, ROOM);
+    memset(g->after, 0x5A, GUARD);
+}
+
+static int guards_stand(const struct guarded *g)
+{
+    for (size_t i = 0; i < GUARD; i++)
+        if (g->before[i] != 0xA5 || g->after[i] != 0x5A)
+            return 0;
+    return 1;
+}
+
+static int all_are(const uint8_t *bytes, size_t from, size_t to, uint8_t byte)
+{
+    for (size_t i = from; i < to; i++)
+        if (bytes[i] != byte)
+            return 0;
+    return 1;
+}
+
+static uint8_t table[HERMITIAN_TABLE_BYTES + 1];
+
+static void put_cost(size_t place, size_t symbol, unsigned cost)
+{
+    table[32 * place + 2 * symbol] = (uint8_t)(cost >> 8);
+    table[32 * place + 2 * symbol + 1] = (uint8_t)cost;
+}
+
+/* Frame S(m) of the bench sheet. */
+static void frame_s(size_t m)
+{
+    for (size_t place = 0; place < HERMITIAN_PLACES; place++) {
+        for (size_t symbol = 0; symbol < 16; symbol++)
+            put_cost(place, symbol, 40);
+        int leaning = place % 10 == 0 && place / 10 < m;
+        put_cost(place, leaning ? 1 : 0, 0);
+        if (leaning)
+            put_cost(place, 0, 30);
+    }
+}
+
+static void answers(size_t rate, size_t doubt, unsigned total, unsigned tests, unsigned pinned, unsigned changed, const char *what)
+{
+    static struct guarded message, report;
+    uint8_t given[HERMITIAN_TABLE_BYTES];
+    fill(&message);
+    fill(&report);
+    memcpy(given, table, sizeof given);
+    expect(hermitian_decode_table(rate, table, HERMITIAN_TABLE_BYTES, doubt, message.bytes, rate, report.bytes, HERMITIAN_REPORT_BYTES) == HERMITIAN_ACCEPTED, what);
+    const uint8_t *r = report.bytes;
+    expect(all_are(message.bytes, 0, rate, 0), "the message is zero");
+    expect((((uint32_t)r[0] << 24) | ((uint32_t)r[1] << 16) | ((uint32_t)r[2] << 8) | r[3]) == total, "total");
+    expect(((unsigned)r[4] << 8 | r[5]) == tests, "tests");
+    expect(r[6] == pinned, "pinned");
+    expect(r[7] == changed, "changed");
+    expect(all_are(message.bytes, rate, ROOM, 0xEE) && all_are(report.bytes, HERMITIAN_REPORT_BYTES, ROOM, 0xEE), "nothing is written after the buffers");
+    expect(memcmp(given, table, sizeof given) == 0, "decoding reads the table");
+    expect(guards_stand(&message) && guards_stand(&report), "guards stand");
+}
+
+static void refused(size_t rate, size_t table_length, size_t doubt, size_t message_length, size_t report_length, uint8_t refusal, const char *what)
+{
+    static struct guarded message, report;
+    fill(&message);
+    fill(&report);
+    expect(hermitian_decode_table(rate, table, table_length, doubt, message.bytes, message_length, report.bytes, report_length) == refusal, what);
+    expect(all_are(message.bytes, 0, ROOM, 0xEE) && all_are(report.bytes, 0, ROOM, 0xEE), "a refusal writes nothing");
+    expect(guards_stand(&message) && guards_stand(&report), "guards stand");
+}
+
+static void bench_sheet(void)
+{
+    frame_s(6);
+    answers(39, 0, 180, 1, 0, 6, "R1: S(6), no doubt");
+    frame_s(7);
+    refused(39, HERMITIAN_TABLE_BYTES, 0, 39, 8, HERMITIAN_NONE_NEAR, "R2: S(7), no doubt");
+    answers(39, 1, 210, 1, 0, 7, "S(7), doubt 1: the place picked is 0, as in R3");
+    answers(39, 2, 210, 3, 0, 7, "R4: S(7), doubt 2");
+    frame_s(1);
+    answers(49, 0, 30, 1, 0, 1, "R5: S(1)");
+    frame_s(2);
+    refused(49, HERMITIAN_TABLE_BYTES, 0, 49, 8, HERMITIAN_NONE_NEAR, "R5: S(2)");
+    memset(table, 0, sizeof table);
+    answers(39, 0, 0, 1, 0, 0, "R6: a table of zero bytes");
+    answers(49, 0, 0, 1, 0, 0, "a table of zero bytes at the other rate");
+    memset(table, 255, sizeof table);
+    answers(39, 0, 64u * 65535u, 1, 64, 0, "every cost at the ceiling");
+}
+
+/* Each wrong argument set beside those that a later check would refuse. */
+static void refusals(void)
+{
+    static const size_t unknown[] = {0, 38, 40, 48, 50, 64, SIZE_MAX};
+    frame_s(7);
+    for (size_t i = 0; i < sizeof unknown / sizeof unknown[0]; i++) {
+        refused(unknown[i], HERMITIAN_TABLE_BYTES, 0, 39, 8, HERMITIAN_UNKNOWN_RATE, "unknown rate");
+        refused(unknown[i], 5, 9, 3, 7, HERMITIAN_UNKNOWN_RATE, "the rate is checked first");
+    }
+    for (size_t rate = 39; rate <= 49; rate += 10) {
+        refused(rate, 0, 9, rate, 8, HERMITIAN_WRONG_SIZE, "no table");
+        refused(rate, HERMITIAN_TABLE_BYTES - 1, 9, rate, 8, HERMITIAN_WRONG_SIZE, "a short table");
+        refused(rate, HERMITIAN_TABLE_BYTES + 1, 9, rate, 8, HERMITIAN_WRONG_SIZE, "a long table");
+        refused(rate, HERMITIAN_TABLE_BYTES, 9, rate - 1, 8, HERMITIAN_WRONG_SIZE, "a short message buffer");
+        refused(rate, HERMITIAN_TABLE_BYTES, 9, rate + 1, 8, HERMITIAN_WRONG_SIZE, "a long message buffer");
+        refused(rate, HERMITIAN_TABLE_BYTES, 9, rate, 7, HERMITIAN_WRONG_SIZE, "a short report");
+        refused(rate, HERMITIAN_TABLE_BYTES, 9, rate, 9, HERMITIAN_WRONG_SIZE, "a long report");
+        refused(rate, HERMITIAN_TABLE_BYTES, 9, rate, 8, HERMITIAN_WRONG_DOUBT, "doubt 9");
+        refused(rate, HERMITIAN_TABLE_BYTES, SIZE_MAX, rate, 8, HERMITIAN_WRONG_DOUBT, "the largest doubt");
+        refused(rate, HERMITIAN_TABLE_BYTES, 0, rate, 8, HERMITIAN_NONE_NEAR, "none near");
+    }
+}
+
+int main(void)
+{
+    bench_sheet();
+    refusals();
+    printf("table decoding from C: %u checks, %u failed\n", checks, failures);
+    return failures == 0 ? 0 : 1;
+}
