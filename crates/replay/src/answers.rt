@@ -44,6 +44,33 @@ fn lend(current: Session, letter: u8, size: usize) -> Session {
     current
 }
 
+fn close_with(current: Session, message: &mut [u8], report: &mut [u8]) {
+    let refusal = closing::close(current, message, report);
+    stream::write_byte(refusal);
+    stream::write(message);
+    stream::write(report);
+}
+
+fn lend_two(current: Session, size: usize, report_size: usize) -> Session {
+    if stream::MOST_BYTES < size {
+        return current;
+    }
+    if stream::MOST_BYTES < report_size {
+        return current;
+    }
+    let mut message = stream::lent();
+    let mut report = stream::lent();
+    close_with(current, &mut message[..size], &mut report[..report_size]);
+    current
+}
+
+fn close(current: Session, size: usize, rest: &[u8]) -> Session {
+    if rest.len() < 2 {
+        return current;
+    }
+    lend_two(current, size, stream::number(rest[0], rest[1]))
+}
+
 fn look_up(current: Session, place: usize, bytes: &[u8]) -> Session {
     let part = capture::look_up(bytes, place);
     stream::write_number(part.len());
@@ -57,6 +84,7 @@ fn answer_numbered(current: Session, letter: u8, number: usize, rest: &[u8]) -> 
         b'O' => open(number, rest),
         b'D' => deliver(current, number, rest),
         b'R' | b'W' => lend(current, letter, number),
+        b'X' => close(current, number, rest),
         b'L' => look_up(current, number, rest),
         _ => current,
     }
