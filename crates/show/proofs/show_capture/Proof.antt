@@ -1,0 +1,55 @@
+-- The lines are those of the capture's book, opened or refused.
+use mathlib.Core.Path.{_∙_, ap, sym}
+use Rattle.book.specs.CaptureOpening.{openCaptureOf}
+use Rattle.show.specs.Text.{refusedLine}
+use Rattle.show.specs.Appended.{appended-as}
+use Rattle.show.specs.Shown.{closedLines, shownOf}
+use Rattle.show.proofs.Showing.{opened-refused, opened-accepted}
+use borrow.Author.Needs.{needs}
+use Rattle.show.proofs.show_capture.Statement.{statement}
+use Rattle.show.proofs.show_capture.Tie as tie
+
+open-capture-requires : tie.Need-open-capture-requires
+open-capture-requires c κs = search needs
+
+put-refused-requires : tie.Need-put-refused-requires
+put-refused-requires c κs = search needs
+
+same-length : tie.Need-same-length
+same-length c = search needs
+
+returns : tie.Need-returns
+unfolding shownOf
+returns c =
+    let opened = c .before .before .before .before .before .open-capture in
+    let o = openCaptureOf (c .before .before .before .before .before .before .before .before .args .bytes .now) in
+    appended-as
+    (ap refusedLine (opened .ensures .number) ∙ sym (opened-refused o (λ e. c .before .before .before .before .if1 .taken (opened .ensures .number ∙ e))))
+    (c .before .before .put-refused .ensures)
+
+show-session-requires : tie.Need-show-session-requires
+show-session-requires c κs = search needs
+
+same-length-2 : tie.Need-same-length-2
+same-length-2 c = search needs
+
+returns-2 : tie.Need-returns-2
+unfolding shownOf
+returns-2 c =
+    let opened = c .before .before .before .before .before .open-capture in
+    let o = openCaptureOf (c .before .before .before .before .before .before .before .before .args .bytes .now) in
+    appended-as
+    (ap closedLines (opened .ensures .book) ∙ sym (opened-accepted o (sym (opened .ensures .number) ∙ c .before .before .before .before .if1 .left)))
+    (c .before .before .show-session .ensures)
+
+pub show-capture-spec : {M : Type 1} → statement M
+show-capture-spec =
+    tie.close
+    (tie.spec
+    open-capture-requires
+    put-refused-requires
+    same-length
+    returns
+    show-session-requires
+    same-length-2
+    returns-2)

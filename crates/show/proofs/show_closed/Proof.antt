@@ -1,0 +1,73 @@
+-- The lines of a closing are the book's, by what closing ensures of a good session.
+use mathlib.Core.Path.{refl, ap}
+use Prim.Native.Nat.{ℕ}
+use native.Mathlib.Omega.{arith}
+use lib.ListN.{length, replicate, length-replicate}
+use Rattle.book.specs.Closing.{reportLength}
+use Rattle.show.specs.Appended.{appended-as}
+use Rattle.show.proofs.Showing.{shows-refused, shows-closed}
+use borrow.Author.Needs.{needs}
+use Rattle.show.proofs.show_closed.Statement.{statement}
+use Rattle.show.proofs.show_closed.Tie as tie
+
+slice-aggregate-close : tie.Need-slice-aggregate-close
+slice-aggregate-close c = search needs
+
+close-requires : tie.Need-close-requires
+close-requires c κs = search needs
+
+put-refused-requires : tie.Need-put-refused-requires
+put-refused-requires c κs = search needs
+
+same-length : tie.Need-same-length
+same-length c = search needs
+
+same-length-2 : tie.Need-same-length-2
+same-length-2 c = search needs
+
+returns : tie.Need-returns
+returns c =
+    let start = c .before .before .before .before .before .before .before .before .before .before .before .before .before in
+    let close = c .before .before .before .before .before .before .before .before .close in
+    appended-as
+    (shows-refused (start .args .opened) (start .args .message .now) (replicate reportLength 0) (close .last .1 .0) (close .last .1 .1 .0)
+    (close .result) (close .ensures) (start .pre .0) (start .pre .1) refl (c .before .before .before .before .if1 .taken))
+    (c .before .before .put-refused .ensures)
+
+put-answer-requires : tie.Need-put-answer-requires
+put-answer-requires c κs =
+    let start = c .before .before .before .before .before .before .before .before .before .before .before in
+    let close = c .before .before .before .before .before .before .close in (
+      start .pre .3,
+      omega (arith, close .ensures .message-size, ap length (start .pre .1), length-replicate {A = ℕ} (start .args .opened .rate) 0, start .pre .2),
+    )
+
+same-length-3 : tie.Need-same-length-3
+same-length-3 c = search needs
+
+same-length-4 : tie.Need-same-length-4
+same-length-4 c = search needs
+
+returns-2 : tie.Need-returns-2
+returns-2 c =
+    let start = c .before .before .before .before .before .before .before .before .before .before .before .before .before .before in
+    let close = c .before .before .before .before .before .before .before .before .before .close in
+    appended-as
+    (shows-closed (start .args .opened) (start .args .message .now) (replicate reportLength 0) (close .last .1 .0) (close .last .1 .1 .0)
+    (close .result) (close .ensures) (start .pre .0) (start .pre .1) refl (c .before .before .before .before .before .if1 .left))
+    (c .before .before .put-answer .ensures)
+
+pub show-closed-spec : {M : Type 1} → statement M
+show-closed-spec =
+    tie.close
+    (tie.spec
+    slice-aggregate-close
+    close-requires
+    put-refused-requires
+    same-length
+    same-length-2
+    returns
+    put-answer-requires
+    same-length-3
+    same-length-4
+    returns-2)

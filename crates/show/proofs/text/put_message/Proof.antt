@@ -1,0 +1,30 @@
+-- The digits, and then the end of the line.
+use native.Mathlib.Omega.{arith}
+use lib.ListN.{length-map}
+use Rattle.show.specs.Text.{hexOf, messageLine}
+use Rattle.show.specs.Appended.{appended-both}
+use borrow.Author.Needs.{needs}
+use Rattle.show.proofs.text.put_message.Statement.{statement}
+use Rattle.show.proofs.text.put_message.Tie as tie
+
+put-digits-requires : tie.Need-put-digits-requires
+put-digits-requires c κs = search needs
+
+slice-aggregate-put-bytes : tie.Need-slice-aggregate-put-bytes
+slice-aggregate-put-bytes c = search needs
+
+put-bytes-requires : tie.Need-put-bytes-requires
+put-bytes-requires c κs =
+    omega (arith, c .before .before .before .before .put-digits .ensures .end, c .before .before .before .before .put-digits .ensures .room, length-map (c .before .before .before .before .before .before .before .before .args .message .now) hexOf)
+
+same-length : tie.Need-same-length
+same-length c = search needs
+
+returns : tie.Need-returns
+unfolding messageLine
+returns c = appended-both (c .before .before .before .before .before .before .before .put-digits .ensures) (c .before .before .put-bytes .ensures)
+
+pub put-message-spec : {M : Type 1} → statement M
+put-message-spec =
+    tie.close
+    (tie.spec put-digits-requires slice-aggregate-put-bytes put-bytes-requires same-length returns)
