@@ -2,3 +2,4 @@ pub mod Binary
 pub mod BinaryField
 pub mod Gf16
 pub mod Field16
+pub mod Carryless

@@ -3,10 +3,9 @@
 //
 // A constant is built anew at every call of the function that names it: `product_by_table`, `inverse` and `power` are for calls
 // that are rare, and inner loops use `product`, which computes (`bench/products` shows the difference).
-ghost use Prim.Native.Nat.{_<_};
 ghost use mathlib.Core.Path.{_≡_};
 ghost use Rattle.galois.specs.Gf16.{times, alpha, inverse};
-ghost use Rattle.galois.specs.Binary.{xtime};
+ghost use Rattle.galois.specs.Carryless.{carryless, reduced};
 
 mod tables;
 
@@ -29,21 +28,24 @@ pub fn product_by_table(a: u8, b: u8) -> u8
     tables::PRODUCTS[(a % 16) as usize * 16 + (b % 16) as usize]
 }
 
-// x times α
-fn xtime(x: u8) -> u8
-    requires { ⌜ x < 16 ⌝ }
-    ensures { λ r. ⌜ (r ≡ xtime 4 3 x) × (r < 16) ⌝ }
+// The product before its reduction: the bits of b pick 1, 2, 4 and 8 times a. It stays below 128, and so do sums of such products.
+pub fn carryless(a: u8, b: u8) -> u8
+    ensures { λ r. ⌜ r ≡ carryless a b ⌝ }
 {
-    (x * 2 ^ x / 8 * 19) % 16
+    let a1 = a % 16;
+    (b % 2 * a1) ^ (b / 2 % 2 * (a1 * 2)) ^ (b / 4 % 2 * (a1 * 4)) ^ (b / 8 % 2 * (a1 * 8))
 }
 
-// The bits of b pick 1, 2, 4 and 8 times a.
+// What passes bit 3 comes back as α^4 = α + 1. A sum of products is reduced once.
+pub fn reduced(p: u8) -> u8
+    ensures { λ r. ⌜ r ≡ reduced p ⌝ }
+{
+    let high = p / 16;
+    (p % 16) ^ high ^ (high % 8 * 2)
+}
+
 pub fn product(a: u8, b: u8) -> u8
     ensures { λ r. ⌜ r ≡ times a b ⌝ }
 {
-    let a1 = a % 16;
-    let a2 = xtime(a1);
-    let a4 = xtime(a2);
-    let a8 = xtime(a4);
-    (b % 2 * a1) ^ (b / 2 % 2 * a2) ^ (b / 4 % 2 * a4) ^ (b / 8 % 2 * a8)
+    reduced(carryless(a, b))
 }
