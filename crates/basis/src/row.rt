@@ -7,7 +7,9 @@ ghost use Rattle.basis.specs.Rows.{coef, dot, raise, weighed};
 use crate::PLAIN;
 use crate::ROW;
 use crate::Row;
+use galois::carryless;
 use galois::product;
+use galois::reduced;
 
 // The values of the terms at a point with z: the monomials there by order, then z times them.
 pub fn weights(monomials: [u8; PLAIN], z: u8) -> Row
@@ -27,17 +29,17 @@ pub fn weights(monomials: [u8; PLAIN], z: u8) -> Row
     out
 }
 
-// The value of a row at the point of the weights.
+// The value of a row at the point of the weights: the one routine that evaluates at a place. The sum is reduced once.
 pub fn dot(row: Row, weights: Row) -> u8
     ensures { λ r. ⌜ r ≡ value (dot (coef row) (coef weights) 96) ⌝ }
 {
     let mut sum = 0u8;
     let mut i = 0;
     while i < ROW {
-        sum = sum ^ product(row[i], weights[i]);
+        sum = sum ^ carryless(row[i], weights[i]);
         i += 1;
     }
-    sum
+    reduced(sum)
 }
 
 // The row and a multiple of another.
@@ -47,7 +49,7 @@ pub fn added(row: Row, by: u8, other: Row) -> Row
     let mut out = [0u8; ROW];
     let mut i = 0;
     while i < ROW {
-        out[i] = row[i] ^ product(by, other[i]);
+        out[i] = row[i] ^ product(other[i], by);
         i += 1;
     }
     out
