@@ -15,7 +15,7 @@ use Rattle.lists.specs.Passed.{Passed}
 use Rattle.algebra.specs.Field.{Field, mul-zero, add-zero}
 use Rattle.algebra.specs.Coefficients.{plus, scale, shift, shift-high, shift-low}
 use Rattle.galois.specs.Gf16.{times}
-use Rattle.galois.specs.Field16.{GF, K16, toF, toF-add, toF-times}
+use Rattle.galois.specs.Field16.{GF, K16, toF, toF-add, toF-times, times-comm}
 use Rattle.basis.specs.Rows.{coef, coef-at, coef-beyond}
 use Rattle.division.specs.Parts.{cut, cut-low, cut-high}
 open Field K16 using (_⊕_, _⊗_, 𝟘)
@@ -27,11 +27,11 @@ module _ (rest : List ℕ) (by : ℕ) (f : List ℕ) (up : ℕ) where
   abbrev pub Taken : ℕ → ℕ → Type 0
   Taken k v = toF v ≡ taken k
 
-  pub taken-at : (k p : ℕ) → up ≤ k → p ≡ times by (getD f (k - up) 0) → Taken k (bitXor (getD rest k 0) p)
+  pub taken-at : (k p : ℕ) → up ≤ k → p ≡ times (getD f (k - up) 0) by → Taken k (bitXor (getD rest k 0) p)
   taken-at k p h e =
       toF-add _ _
       ∙ ap₂ (λ x y. x ⊕ y) (sym (coef-at rest k))
-      (ap toF e ∙ toF-times by _ ∙ ap (λ x. toF by ⊗ x) (sym (coef-at f (k - up)) ∙ sym (shift-high K16 up k (coef f) h)))
+      (ap toF (e ∙ times-comm _ by) ∙ toF-times by _ ∙ ap (λ x. toF by ⊗ x) (sym (coef-at f (k - up)) ∙ sym (shift-high K16 up k (coef f) h)))
 
   pub taken-all : {i : ℕ} (out : List ℕ) → length out ≡ 64 → 64 ≤ i → Passed 0 Taken up i rest out → coef out ≡ cut taken
   taken-all {i} out n l p = fun-ext (λ k. go k (decLt k 64) (decLt k up))

@@ -26,7 +26,7 @@ fn less(rest: [u8; 64], by: u8, function: [u8; 64], up: usize) -> [u8; 64]
     let mut out = rest;
     let mut k = up;
     while k < 64 {
-        out[k] = rest[k] ^ product(by, function[k - up]);
+        out[k] = rest[k] ^ product(function[k - up], by);
         k += 1;
     }
     out
