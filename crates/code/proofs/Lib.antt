@@ -5,4 +5,5 @@ pub mod Symbols
 pub mod Codeword
 pub mod Answers
 pub mod Moments
+pub mod Horner
 pub mod Copied

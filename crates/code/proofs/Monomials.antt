@@ -4,11 +4,10 @@ use mathlib.Core.List.{List}
 use Prim.Native.Nat.{ℕ, suc, _+_, _-_, _<_, _≤_}
 use native.Mathlib.Omega.{arith}
 use lib.ListN.{length, getD, set, replicate}
-use Rattle.lists.specs.Listed.{listed, listed-at}
 use Rattle.lists.specs.Filled.{Filled, filled-start, filled-turn, filled-read}
 use Rattle.galois.specs.Gf16.{times}
 use Rattle.code.specs.Curve.{xOf, yOf}
-use Rattle.code.specs.Evaluation.{monomialAt, nextOf, valueTerm, monomial-start, monomial-y, monomial-next, monomial-x}
+use Rattle.code.specs.Evaluation.{monomialAt, nextOf, monomial-start, monomial-y, monomial-next, monomial-x}
 
 -- an array of 64 bytes before it is filled
 abbrev pub blank : List ℕ
@@ -67,10 +66,3 @@ module _ {low high p x y o : ℕ} {out : List ℕ} (t : Turn low high p x y out 
 -- one loop ends where the next begins
 pub onward : {low mid high p x y o : ℕ} {out : List ℕ} → Turn low mid p x y out o → mid ≤ o → mid ≤ high → Turn mid high p x y out o
 onward t h l = record { above = h; below = omega (arith, t .below); x-is = t .x-is; y-is = t .y-is; held = t .held }
-
--- a term of a function's value, by the monomials stored
-pub term-stored : (f ms : List ℕ) (p o : ℕ) {v : ℕ} → ms ≡ listed 64 (monomialAt p) → o < 64 → v ≡ times (getD f o 0) (getD ms o 0)
-    → v ≡ valueTerm f p o
-unfolding valueTerm monomialAt
-term-stored f ms p o e h q =
-    q ∙ ap (λ l. times (getD f o 0) (getD l o 0)) e ∙ ap (times (getD f o 0)) (listed-at 64 o (monomialAt p) 0 h)

@@ -4,6 +4,7 @@ pub mod Encoding
 pub mod Calls
 pub mod Evaluation
 pub mod Bridge
+pub mod Horner
 pub mod Extraction
 pub mod Laws
 pub mod Nodes

@@ -1,7 +1,7 @@
 -- The constant points by place: their rule, computed once over the whole table.
 --
 --   yTable       the y of each place; its x is the place divided by 4
---   yTable-rule  at each of the 64 places it is the y of the definition
+--   yTable-rule  at each of the 64 places it is the y of the definition; yTable-listed: so it is the list of them
 --   yOf-below    every y is below 16
 --   on-curve     every place is a point of the curve
 use mathlib.Core.Bool.{Bool}
@@ -13,6 +13,7 @@ use native.Mathlib.Omega.{arith}
 use lib.Dec.{T, ltb, ltb→lt}
 use lib.ListN.{getD, take, drop}
 use lib.Seq.{getD-take, getD-drop}
+use Rattle.lists.specs.Listed.{listed, listed-ext, listed-getD}
 use Rattle.lists.specs.Every.{both, both-left, both-right, every, every-at}
 use Rattle.lists.specs.Same.{same, same-yes}
 use Rattle.galois.specs.Gf16.{times}
@@ -41,6 +42,10 @@ yTable-rule p h =
     ∙ sym (getD-drop (p / 4 * 4) yTable (p % 4) 0)
     ∙ sym (getD-take 4 (drop (p / 4 * 4) yTable) (p % 4) 0 (omega arith))
     ∙ ap (λ l. getD l (p % 4) 0) (same-yes _ _ (every-at 16 fibreListed fibres (p / 4) (omega arith)))
+
+pub yTable-listed : yTable ≡ listed 64 yOf
+unfolding yTable
+yTable-listed = sym (listed-getD yTable 0) ∙ listed-ext 64 _ yOf yTable-rule
 
 -- what else is asked of a place, computed on the table
 sound : ℕ → Bool

@@ -61,10 +61,10 @@ pub fn write_codeword(message: &[u8], part: &mut [u8])
     requires { ⌜ (length (now message) ≤ 58) × (length (now part) ≡ 64) ⌝ }
     ensures { λ _. ⌜ now (part .exit) ≡ encodeOf (length (now (message .entry))) (now (message .entry)) ⌝ }
 {
-    let function = function_of(message);
+    let values = crate::evaluation::codeword(function_of(message));
     let mut place = 0;
     while place < 64 {
-        part[place] = crate::evaluation::value_at(function, place);
+        part[place] = values[place];
         place += 1;
     }
 }

@@ -1,8 +1,10 @@
-// Functions on the curve by order: the coefficient of order o at o, 64 of them. One routine evaluates them.
+// Functions on the curve by order: the coefficient of order o at o, 64 of them. The monomials of one place, and a function's values
+// at all places.
 ghost use mathlib.Core.Path.{_≡_};
 ghost use Prim.Native.Nat.{_<_, _≤_};
 ghost use Rattle.lists.specs.Listed.{listed};
 ghost use Rattle.code.specs.Evaluation.{monomialAt, nextOf, valueOf};
+ghost use Rattle.code.specs.Horner.{nextSum, inX, spreadAt, timesPlus, OnlyPresent};
 use galois::product;
 
 // The monomial of this order, from the one four orders below.
@@ -41,17 +43,68 @@ pub fn monomials(place: usize) -> [u8; 64]
     out
 }
 
-// The value of a function at a place.
-pub fn value_at(function: [u8; 64], place: usize) -> u8
-    requires { ⌜ place < 64 ⌝ }
-    ensures { λ r. ⌜ r ≡ valueOf function place ⌝ }
+// One step of Horner's rule in x, at all sixteen x: each lane is one x.
+fn next_sums(sums: [u8; 16], coefficient: u8) -> [u8; 16]
+    ensures { λ r. ⌜ r ≡ listed 16 (nextSum sums coefficient) ⌝ }
 {
-    let monomials = monomials(place);
-    let mut sum = 0u8;
-    let mut order = 0;
-    while order < 64 {
-        sum = sum ^ product(function[order], monomials[order]);
-        order += 1;
+    let mut out = [0u8; 16];
+    let mut x = 0;
+    while x < 16 {
+        out[x] = product(x as u8, sums[x]) ^ coefficient % 16;
+        x += 1;
     }
-    sum
+    out
+}
+
+// What multiplies y^j, at all sixteen x: from the highest power of x down. The order of x^i y^j is 4i + 5j.
+fn in_x(function: [u8; 64], j: usize) -> [u8; 16]
+    requires { ⌜ j < 4 ⌝ }
+    ensures { λ r. ⌜ r ≡ listed 16 (inX function j) ⌝ }
+{
+    let mut sums = [0u8; 16];
+    let mut i = 16 - j;
+    while 0 < i {
+        i -= 1;
+        let next = next_sums(sums, function[4 * i + 5 * j]);
+        sums = next;
+    }
+    sums
+}
+
+// The sums by place.
+fn spread(sums: [u8; 16]) -> [u8; 64]
+    ensures { λ r. ⌜ r ≡ listed 64 (spreadAt sums) ⌝ }
+{
+    let mut out = [0u8; 64];
+    let mut place = 0;
+    while place < 64 {
+        out[place] = sums[place / 4];
+        place += 1;
+    }
+    out
+}
+
+// One step of Horner's rule in y, at all places.
+fn times_plus(ys: [u8; 64], values: [u8; 64], more: [u8; 64]) -> [u8; 64]
+    ensures { λ r. ⌜ r ≡ listed 64 (timesPlus ys values more) ⌝ }
+{
+    let mut out = [0u8; 64];
+    let mut place = 0;
+    while place < 64 {
+        out[place] = product(ys[place], values[place]) ^ more[place];
+        place += 1;
+    }
+    out
+}
+
+// The value of a function at each place.
+pub fn codeword(function: [u8; 64]) -> [u8; 64]
+    requires { ⌜ OnlyPresent function ⌝ }
+    ensures { λ r. ⌜ r ≡ listed 64 (valueOf function) ⌝ }
+{
+    let ys = crate::points::ys();
+    let v3 = spread(in_x(function, 3));
+    let v2 = times_plus(ys, v3, spread(in_x(function, 2)));
+    let v1 = times_plus(ys, v2, spread(in_x(function, 1)));
+    times_plus(ys, v1, spread(in_x(function, 0)))
 }

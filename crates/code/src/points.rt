@@ -1,9 +1,10 @@
 // The constant points by place: place 4X + r has x = X and the r-th smallest y on the curve.
 ghost use mathlib.Core.Path.{_≡_};
 ghost use Prim.Native.Nat.{_<_};
+ghost use Rattle.lists.specs.Listed.{listed};
 ghost use Rattle.code.specs.Curve.{xOf, yOf};
 
-// The y of each place. `y_at` names the table and proves its rule.
+// The y of each place. `ys` names the table and proves its rule.
 const YS: [u8; 64] = [
     // x = 0
     0,
@@ -94,9 +95,17 @@ pub fn x_at(place: usize) -> u8
     (place / 4) as u8
 }
 
+// The y of all places.
+pub fn ys() -> [u8; 64]
+    ensures { λ r. ⌜ r ≡ listed 64 yOf ⌝ }
+{
+    YS
+}
+
 pub fn y_at(place: usize) -> u8
     requires { ⌜ place < 64 ⌝ }
     ensures { λ r. ⌜ r ≡ yOf place ⌝ }
 {
-    YS[place]
+    let ys = ys();
+    ys[place]
 }

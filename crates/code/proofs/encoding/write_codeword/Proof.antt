@@ -1,28 +1,31 @@
 -- `write_codeword` meets its contract: each place passed holds the message's value there.
 use Prim.Native.Nat.{_-_}
 use native.Mathlib.Omega.{arith}
-use Rattle.code.proofs.Codeword.{Writing, writing-start, writing-length, writing-turn, writing-end}
+use Rattle.code.proofs.Codeword.{Writing, present-of, values-of, writing-start, writing-length, writing-turn, writing-end}
 use borrow.Author.Needs.{needs}
 use Rattle.code.proofs.encoding.write_codeword.Statement.{statement}
 use Rattle.code.proofs.encoding.write_codeword.Tie as tie
 
 abbrev Inv-loop : tie.InvT-loop
-Inv-loop message part₀ function place₀ part place = Writing message part₀ function place part
+Inv-loop message part₀ values place₀ part place = Writing message part₀ values place part
 
 abbrev μ-loop : tie.MeasureT-loop
-μ-loop message part₀ function place₀ part place = 64 - place
+μ-loop message part₀ values place₀ part place = 64 - place
 
 function-of-requires : tie.Need-function-of-requires Inv-loop μ-loop
 function-of-requires c κs = search needs
 
-loop-holds : tie.Need-loop-holds Inv-loop μ-loop
-loop-holds c = writing-start _ _ _ (search needs) (search needs) (c .function-of .ensures)
+codeword-requires : tie.Need-codeword-requires Inv-loop μ-loop
+codeword-requires c κs = present-of _ (c .function-of .ensures)
 
-value-at-requires : tie.Need-value-at-requires Inv-loop μ-loop
-value-at-requires c κs = search needs
+loop-holds : tie.Need-loop-holds Inv-loop μ-loop
+loop-holds c = writing-start _ _ _ (search needs) (values-of _ (search needs) (c .before .function-of .ensures) (c .codeword .ensures))
+
+array-read-part : tie.Need-array-read-part Inv-loop μ-loop
+array-read-part c = search needs
 
 slice-write-part : tie.Need-slice-write-part Inv-loop μ-loop
-slice-write-part c = omega (arith, writing-length (c .before .before .loop .inv))
+slice-write-part c = omega (arith, writing-length (c .before .loop .inv))
 
 add-place : tie.Need-add-place Inv-loop μ-loop
 add-place c = search needs
@@ -31,7 +34,7 @@ loop-less : tie.Need-loop-less Inv-loop μ-loop
 loop-less c = search needs
 
 loop-again : tie.Need-loop-again Inv-loop μ-loop
-loop-again c = writing-turn (c .before .before .loop .inv) _ (search needs) (c .value-at .ensures)
+loop-again c = writing-turn (c .before .loop .inv) (c .loop-test .taken)
 
 same-length : tie.Need-same-length Inv-loop μ-loop
 same-length c = omega (arith, writing-length (c .before .loop .inv), c .before .loop .inv .sized)
@@ -46,8 +49,9 @@ write-codeword-spec =
     Inv-loop
     μ-loop
     function-of-requires
+    codeword-requires
     loop-holds
-    value-at-requires
+    array-read-part
     slice-write-part
     add-place
     loop-less

@@ -1,15 +1,20 @@
--- `y_at` meets its contract: the table's rule, which is computed once over all its entries.
+-- `y_at` meets its contract: it reads the list of all y.
+use mathlib.Core.Path.{ap, _∙_}
+use lib.ListN.{getD}
+use Rattle.lists.specs.Listed.{listed-at}
+use Rattle.code.specs.Curve.{yOf}
 use borrow.Author.Needs.{needs}
-use Rattle.code.specs.Points.{yTable, yTable-rule}
 use Rattle.code.proofs.points.y_at.Statement.{statement}
 use Rattle.code.proofs.points.y_at.Tie as tie
+
+ys-requires : tie.Need-ys-requires
+ys-requires c κs = search needs
 
 array-read-result : tie.Need-array-read-result
 array-read-result c = search needs
 
 returns : tie.Need-returns
-unfolding yTable
-returns c = yTable-rule (c .args .place) (c .pre)
+returns c = ap (λ l. getD l (c .before .args .place) 0) (c .ys .ensures) ∙ listed-at 64 (c .before .args .place) yOf 0 (c .before .pre)
 
 pub y-at-spec : {M : Type 1} → statement M
-y-at-spec = tie.close (tie.spec array-read-result returns)
+y-at-spec = tie.close (tie.spec ys-requires array-read-result returns)

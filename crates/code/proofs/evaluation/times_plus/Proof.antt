@@ -1,0 +1,62 @@
+-- `times_plus` meets its contract: the loop stores the step at each place.
+use Prim.Native.Nat.{_-_}
+use Rattle.lists.specs.Filled.{Filled, filled-start, filled-turn, filled-end}
+use Rattle.code.specs.Horner.{timesPlus}
+use Rattle.code.proofs.Monomials.{blank, blank-length}
+use Rattle.code.proofs.Horner.{times-entry}
+use borrow.Author.Needs.{needs}
+use Rattle.code.proofs.evaluation.times_plus.Statement.{statement}
+use Rattle.code.proofs.evaluation.times_plus.Tie as tie
+
+abbrev Inv-loop : tie.InvT-loop
+Inv-loop ys values more out₀ place₀ out place = Filled blank (timesPlus ys values more) place out
+
+abbrev μ-loop : tie.MeasureT-loop
+μ-loop ys values more out₀ place₀ out place = 64 - place
+
+loop-holds : tie.Need-loop-holds Inv-loop μ-loop
+loop-holds c = filled-start _ _
+
+array-read-product : tie.Need-array-read-product Inv-loop μ-loop
+array-read-product c = search needs
+
+array-read-product-2 : tie.Need-array-read-product-2 Inv-loop μ-loop
+array-read-product-2 c = search needs
+
+product-requires : tie.Need-product-requires Inv-loop μ-loop
+product-requires c κs = search needs
+
+array-read-out : tie.Need-array-read-out Inv-loop μ-loop
+array-read-out c = search needs
+
+array-write-out : tie.Need-array-write-out Inv-loop μ-loop
+array-write-out c = search needs
+
+add-place : tie.Need-add-place Inv-loop μ-loop
+add-place c = search needs
+
+loop-less : tie.Need-loop-less Inv-loop μ-loop
+loop-less c = search needs
+
+loop-again : tie.Need-loop-again Inv-loop μ-loop
+loop-again c = filled-turn 0 (c .before .before .loop .inv) _ (search needs) (times-entry _ _ _ _ (c .product .ensures))
+
+returns : tie.Need-returns Inv-loop μ-loop
+returns c = filled-end 0 (c .before .loop .inv) 64 blank-length (c .loop-test .left)
+
+pub times-plus-spec : {M : Type 1} → statement M
+times-plus-spec =
+    tie.close
+    (tie.spec
+    Inv-loop
+    μ-loop
+    loop-holds
+    array-read-product
+    array-read-product-2
+    product-requires
+    array-read-out
+    array-write-out
+    add-place
+    loop-less
+    loop-again
+    returns)

@@ -1,0 +1,145 @@
+-- The values of a function at all places by Horner's rule: in x for each power of y, then in y.
+--
+--   inX f j x        what multiplies y^j: the sum of the coefficient of x^i y^j, whose order is 4i + 5j, times x^i
+--   nextSum s c x    a step of the rule in x: x times the sum at x, and the next coefficient
+--   spreadAt s p     the sum at the place's x
+--   timesPlus ys v m p   a step of the rule in y: y times the value, and more
+--   OnlyPresent f    the coefficients of missing orders are 0; function-present: so it is with a message's function
+--   horner           the rule in y, from y^3 down, gives the value
+use mathlib.Core.Path.{_≡_, sym, ap, ap₂, _∙_}
+use mathlib.Core.List.{List}
+use Prim.Native.Nat.{ℕ, _+_, _-_, _*_, _/_, _%_, _<_, _≤_}
+use native.Mathlib.Nat.{add-sub-of-le}
+use native.Mathlib.Omega.{arith}
+use lib.Bits.{bitXor}
+use lib.ListN.{getD}
+use Rattle.lists.specs.Listed.{listed-at}
+use Rattle.lists.specs.XorSum.{xorSum, xorSum-below}
+use Rattle.algebra.specs.Field.{Field, zero-mul, zero-add, mul-assoc, ring}
+use Rattle.algebra.specs.Sum.{sum, sum-ext, sum-zero, sum-swap, sum-scale-right, sum-append, sum-blocks}
+use Rattle.algebra.specs.Power.{pow}
+use Rattle.galois.specs.Gf16.{times}
+use Rattle.galois.specs.Field16.{GF, K16, toF, toF-add, toF-times, toF-zero, toF-injective, times-lt, xor-below}
+use Rattle.hermitian.specs.Present.{Present}
+use Rattle.code.specs.Curve.{power, xOf, yOf}
+use Rattle.code.specs.Encoding.{monomial}
+use Rattle.code.specs.Evaluation.{valueTerm, valueOf, coefficientOf, functionOf, coefficient-missing}
+use Rattle.code.specs.Bridge.{toF-power, toF-xorSum, px, py}
+
+-- Horner's rule on four terms, in any field
+module _ {F : Type 0} (K : Field F) where
+  open Field K using (_⊕_, _⊗_)
+
+  four : (a : ℕ → F) (y : F) → sum K 4 (λ j. a j ⊗ pow K y j) ≡ y ⊗ (y ⊗ (y ⊗ a 3 ⊕ a 2) ⊕ a 1) ⊕ a 0
+  unfolding sum pow
+  four a y = simp (ring, K)
+
+open Field K16 using (_⊕_, _⊗_, 𝟘)
+
+unfoldable pub xTerm : List ℕ → ℕ → ℕ → ℕ → ℕ
+xTerm f j x i = times (getD f (4 * i + 5 * j) 0) (power x i)
+
+unfoldable pub inX : List ℕ → ℕ → ℕ → ℕ
+inX f j x = xorSum (16 - j) (xTerm f j x)
+
+unfoldable pub nextSum : List ℕ → ℕ → ℕ → ℕ
+nextSum s c x = bitXor (times x (getD s x 0)) (c % 16)
+
+unfoldable pub spreadAt : List ℕ → ℕ → ℕ
+spreadAt s p = getD s (xOf p) 0
+
+unfoldable pub timesPlus : List ℕ → List ℕ → List ℕ → ℕ → ℕ
+timesPlus ys v m p = bitXor (times (getD ys p 0) (getD v p 0)) (getD m p 0)
+
+pub record OnlyPresent (f : List ℕ) : Type 0 where
+  pub missing : (o : ℕ) → ¬ Present 4 o → getD f o 0 ≡ 0
+
+pub function-present : (m : List ℕ) → OnlyPresent (functionOf m)
+unfolding functionOf
+function-present m =
+    record { missing = λ o h. listed-at 64 o (coefficientOf m) 0 (omega arith) ∙ coefficient-missing m o h }
+
+-- ---- what multiplies each power of y, and the value from it
+module _ (f : List ℕ) (present : OnlyPresent f) (x : ℕ) where
+  c : ℕ → GF
+  c o = toF (getD f o 0)
+
+  xs : ℕ → GF
+  xs n = pow K16 (toF x) n
+
+  -- the orders q · 4 + j
+  column : (j : ℕ) → j < 4 → sum K16 16 (λ q. c (q * 4 + j) ⊗ xs (q - j)) ≡ toF (inX f j x)
+  unfolding c xs inX xTerm
+  column j h =
+      ap (λ n. sum K16 n (λ q. c (q * 4 + j) ⊗ xs (q - j))) (sym (add-sub-of-le j≤16))
+      ∙ sum-append K16 j (16 - j) _
+      ∙ ap₂ (λ u v. u ⊕ v) (sum-zero K16 j _ none) (sum-ext K16 (16 - j) _ _ some)
+      ∙ zero-add K16 _
+      ∙ sym (toF-xorSum (16 - j) (xTerm f j x))
+    where
+      j≤16 : j ≤ 16
+      j≤16 = omega arith
+
+      none : (q : ℕ) → q < j → c (q * 4 + j) ⊗ xs (q - j) ≡ 𝟘
+      none q l = ap (λ n. toF n ⊗ xs (q - j)) (present .missing (q * 4 + j) (λ p. omega arith)) ∙ ap (λ z. z ⊗ xs (q - j)) toF-zero ∙ zero-mul K16 _
+
+      some : (i : ℕ) → i < 16 - j → c ((j + i) * 4 + j) ⊗ xs (j + i - j) ≡ toF (times (getD f (4 * i + 5 * j) 0) (power x i))
+      some i l =
+          let o : (j + i) * 4 + j ≡ 4 * i + 5 * j = omega arith in
+          let n : j + i - j ≡ i = omega arith in
+          ap₂ (λ a b. c a ⊗ xs b) o n ∙ sym (toF-times _ _ ∙ ap (λ z. c (4 * i + 5 * j) ⊗ z) (toF-power x i))
+
+-- a step of the rule in y
+plusTimes : ℕ → ℕ → ℕ → ℕ
+plusTimes y v m = bitXor (times y v) m
+
+toF-plusTimes : (y v m : ℕ) → toF (plusTimes y v m) ≡ toF y ⊗ toF v ⊕ toF m
+unfolding plusTimes
+toF-plusTimes y v m = toF-add _ _ ∙ ap (λ z. z ⊕ toF m) (toF-times y v)
+
+-- the rule in y on what multiplies each power
+inY : (ℕ → ℕ) → ℕ → ℕ
+inY a y = plusTimes y (plusTimes y (plusTimes y (a 3) (a 2)) (a 1)) (a 0)
+
+toF-inY : (a : ℕ → ℕ) (y : ℕ) → toF (inY a y) ≡ sum K16 4 (λ j. toF (a j) ⊗ pow K16 (toF y) j)
+unfolding inY
+toF-inY a y =
+    toF-plusTimes y _ _ ∙ ap (λ z. toF y ⊗ z ⊕ toF (a 0))
+    (toF-plusTimes y _ _ ∙ ap (λ z. toF y ⊗ z ⊕ toF (a 1)) (toF-plusTimes y _ _))
+    ∙ sym (four K16 (λ j. toF (a j)) (toF y))
+
+inX-lt : (f : List ℕ) (j x : ℕ) → inX f j x < 16
+unfolding inX xTerm
+inX-lt f j x = xorSum-below 4 (16 - j) _ (λ i l. times-lt _ _)
+
+valueOf-lt : (f : List ℕ) (p : ℕ) → valueOf f p < 16
+unfolding valueOf valueTerm
+valueOf-lt f p = xorSum-below 4 64 _ (λ o l. times-lt _ _)
+
+module _ (f : List ℕ) (present : OnlyPresent f) (p : ℕ) where
+  toF-valueOf : toF (valueOf f p) ≡ sum K16 4 (λ j. toF (inX f j (xOf p)) ⊗ pow K16 (py p) j)
+  unfolding valueOf valueTerm monomial c xs
+  toF-valueOf =
+      toF-xorSum 64 _
+      ∙ sum-blocks K16 16 4 _
+      ∙ sum-ext K16 16 _ _ (λ q l. sum-ext K16 4 _ _ (λ j h. split q j h))
+      ∙ sum-swap K16 16 4 _
+      ∙ sum-ext K16 4 _ _ (λ j h. sum-scale-right K16 16 (pow K16 (py p) j) _ ∙ ap (λ z. z ⊗ pow K16 (py p) j) (column f present (xOf p) j h))
+    where
+      split : (q j : ℕ) → j < 4
+          → toF (times (getD f (q * 4 + j) 0) (times (power (xOf p) ((q * 4 + j) / 4 - (q * 4 + j) % 4)) (power (yOf p) ((q * 4 + j) % 4))))
+          ≡ (toF (getD f (q * 4 + j) 0) ⊗ pow K16 (px p) (q - j)) ⊗ pow K16 (py p) j
+      split q j h =
+          let i : (q * 4 + j) / 4 - (q * 4 + j) % 4 ≡ q - j = omega arith in
+          let r : (q * 4 + j) % 4 ≡ j = omega arith in
+          toF-times _ _
+          ∙ ap (λ z. toF (getD f (q * 4 + j) 0) ⊗ z)
+          (ap₂ (λ a b. toF (times (power (xOf p) a) (power (yOf p) b))) i r
+          ∙ toF-times _ _ ∙ ap₂ (λ a b. a ⊗ b) (toF-power (xOf p) (q - j)) (toF-power (yOf p) j))
+          ∙ sym (mul-assoc K16 _ _ _)
+
+  pub horner : bitXor (times (yOf p) (bitXor (times (yOf p) (bitXor (times (yOf p) (inX f 3 (xOf p))) (inX f 2 (xOf p)))) (inX f 1 (xOf p)))) (inX f 0 (xOf p)) ≡ valueOf f p
+  unfolding inY plusTimes
+  horner =
+      toF-injective _ _ (xor-below _ _ (times-lt _ _) (inX-lt f 0 (xOf p))) (valueOf-lt f p)
+      (toF-inY (λ j. inX f j (xOf p)) (yOf p) ∙ sym toF-valueOf)
