@@ -12,14 +12,15 @@ use Rattle.galois.specs.Gf16.{times}
 use Rattle.galois.specs.Field16.{times-lt, times-mod, times-comm, times-assoc, times-zero, times-one, times-add, xor-below}
 use Rattle.code.specs.Curve.{power, power-nil, power-suc, xOf, yOf}
 use Rattle.code.specs.Evaluation.{valueOf}
+use Rattle.code.specs.Points.{element}
 use Rattle.code.specs.Horner.{xTerm, inX, nextSum, spreadAt, timesPlus, OnlyPresent, horner}
 use Rattle.code.proofs.Moments.{blank16}
 
-pub next-entry : (s : List ℕ) (c x : ℕ) {v : ℕ} → v ≡ times x (getD s x 0) → bitXor v (c % 16) ≡ nextSum s c x
+pub next-entry : (xs s : List ℕ) (c x : ℕ) {v : ℕ} → v ≡ times (getD s x 0) (getD xs x 0) → bitXor v (c % 16) ≡ nextSum xs s c x
 unfolding nextSum
-next-entry s c x e = ap (λ a. bitXor a (c % 16)) e
+next-entry xs s c x e = ap (λ a. bitXor a (c % 16)) e
 
-pub times-entry : (y v m : List ℕ) (p : ℕ) {a : ℕ} → a ≡ times (getD y p 0) (getD v p 0) → bitXor a (getD m p 0) ≡ timesPlus y v m p
+pub times-entry : (y v m : List ℕ) (p : ℕ) {a : ℕ} → a ≡ times (getD v p 0) (getD y p 0) → bitXor a (getD m p 0) ≡ timesPlus y v m p
 unfolding timesPlus
 times-entry y v m p e = ap (λ a. bitXor a (getD m p 0)) e
 
@@ -55,23 +56,28 @@ low-times a c =
     let e : c % 16 % 16 ≡ c % 16 = omega arith in
     sym (times-mod a (c % 16)) ∙ ap (times (a % 16)) e ∙ times-mod a c
 
--- c P + s (P x) = (x s + c) P
-step : (a c s p x : ℕ) → bitXor (bitXor a (times c p)) (times s (times p x)) ≡ bitXor a (times (bitXor (times x s) (c % 16)) p)
+-- c P + s (P x) = (s x + c) P
+step : (a c s p x : ℕ) → bitXor (bitXor a (times c p)) (times s (times p x)) ≡ bitXor a (times (bitXor (times s x) (c % 16)) p)
 step a c s p x =
     xor-assoc a _ _
     ∙ ap (bitXor a)
     (xor-comm (times c p) (times s (times p x))
-    ∙ ap₂ bitXor (times-comm s (times p x) ∙ times-assoc p x s) (times-comm c p ∙ sym (low-times p c))
-    ∙ sym (times-add p (times x s) (c % 16)) ∙ times-comm p _)
+    ∙ ap₂ bitXor (times-comm s (times p x) ∙ times-assoc p x s ∙ ap (times p) (times-comm x s)) (times-comm c p ∙ sym (low-times p c))
+    ∙ sym (times-add p (times s x) (c % 16)) ∙ times-comm p _)
+
+next-at : (xs s : List ℕ) (c x : ℕ) → xs ≡ listed 16 element → x < 16 → nextSum xs s c x ≡ bitXor (times (getD s x 0) x) (c % 16)
+unfolding nextSum element
+next-at xs s c x e h = ap (λ a. bitXor (times (getD s x 0) a) (c % 16)) (ap (λ l. getD l x 0) e ∙ listed-at 16 x element 0 h)
 
 -- one power further down
-down : {f s next : List ℕ} {j i : ℕ} → Rule f j (suc i) s → next ≡ listed 16 (nextSum s (getD f (4 * i + 5 * j) 0)) → Rule f j i next
-unfolding nextSum xTerm
-down {f} {s} {next} {j} {i} r e =
+down : {xs f s next : List ℕ} {j i : ℕ} → xs ≡ listed 16 element → Rule f j (suc i) s → next ≡ listed 16 (nextSum xs s (getD f (4 * i + 5 * j) 0))
+    → Rule f j i next
+unfolding xTerm
+down {xs} {f} {s} {next} {j} {i} el r e =
     record {
       within = omega (arith, r .within);
       sized = ap length e ∙ listed-length 16 _;
-      below = λ x h. omega (arith, at x h, xor-below _ _ (times-lt x (getD s x 0)) low);
+      below = λ x h. omega (arith, at x h, xor-below _ _ (times-lt (getD s x 0) x) low);
       rest = λ x h.
           r .rest x h
           ∙ ap₂ (λ a b. bitXor a (times (getD s x 0) b)) (xorSum-suc i (xTerm f j x)) (power-suc x i)
@@ -82,17 +88,17 @@ down {f} {s} {next} {j} {i} r e =
     c : ℕ
     c = getD f (4 * i + 5 * j) 0
 
-    at : (x : ℕ) → x < 16 → getD next x 0 ≡ nextSum s c x
-    at x h = ap (λ l. getD l x 0) e ∙ listed-at 16 x (nextSum s c) 0 h
+    at : (x : ℕ) → x < 16 → getD next x 0 ≡ bitXor (times (getD s x 0) x) (c % 16)
+    at x h = ap (λ l. getD l x 0) e ∙ listed-at 16 x (nextSum xs s c) 0 h ∙ next-at xs s c x el h
 
     low : c % 16 < 16
     low = omega arith
 
-pub rule-turn : {f s next : List ℕ} {j i : ℕ} → Rule f j i s → 0 < i → next ≡ listed 16 (nextSum s (getD f (4 * (i - 1) + 5 * j) 0))
-    → Rule f j (i - 1) next
-rule-turn {f} {s} {next} {j} {i} r h e =
+pub rule-turn : {xs f s next : List ℕ} {j i : ℕ} → xs ≡ listed 16 element → Rule f j i s → 0 < i
+    → next ≡ listed 16 (nextSum xs s (getD f (4 * (i - 1) + 5 * j) 0)) → Rule f j (i - 1) next
+rule-turn {xs} {f} {s} {next} {j} {i} el r h e =
     let q : i ≡ suc (i - 1) = omega arith in
-    down (subst (λ n. Rule f j n s) q r) e
+    down el (subst (λ n. Rule f j n s) q r) e
 
 all : {f s : List ℕ} {j : ℕ} → Rule f j 0 s → s ≡ listed 16 (inX f j)
 all {f} {s} {j} r =
@@ -112,7 +118,7 @@ inXAt : List ℕ → ℕ → ℕ → ℕ
 inXAt f j p = inX f j (xOf p)
 
 plus : (ℕ → ℕ) → (ℕ → ℕ) → ℕ → ℕ
-plus v m p = bitXor (times (yOf p) (v p)) (m p)
+plus v m p = bitXor (times (v p) (yOf p)) (m p)
 
 spread-is : (f : List ℕ) (j : ℕ) {s v : List ℕ} → s ≡ listed 16 (inX f j) → v ≡ listed 64 (spreadAt s) → v ≡ listed 64 (inXAt f j)
 unfolding spreadAt inXAt
@@ -124,7 +130,7 @@ plus-is : (f g : ℕ → ℕ) {ys v m r : List ℕ} → ys ≡ listed 64 yOf →
 unfolding timesPlus plus
 plus-is f g a b c q =
     q ∙ listed-ext 64 _ _ (λ p h.
-    ap₂ bitXor (ap₂ times (ap (λ l. getD l p 0) a ∙ listed-at 64 p yOf 0 h) (ap (λ l. getD l p 0) b ∙ listed-at 64 p f 0 h))
+    ap₂ bitXor (ap₂ times (ap (λ l. getD l p 0) b ∙ listed-at 64 p f 0 h) (ap (λ l. getD l p 0) a ∙ listed-at 64 p yOf 0 h))
     (ap (λ l. getD l p 0) c ∙ listed-at 64 p g 0 h))
 
 pub codeword-is : (f : List ℕ) {ys x3 v3 x2 s2 v2 x1 s1 v1 x0 s0 r : List ℕ} → OnlyPresent f → ys ≡ listed 64 yOf

@@ -1,9 +1,9 @@
 -- The values of a function at all places by Horner's rule: in x for each power of y, then in y.
 --
 --   inX f j x        what multiplies y^j: the sum of the coefficient of x^i y^j, whose order is 4i + 5j, times x^i
---   nextSum s c x    a step of the rule in x: x times the sum at x, and the next coefficient
+--   nextSum xs s c x    a step of the rule in x: the sum at x times x, and the next coefficient
 --   spreadAt s p     the sum at the place's x
---   timesPlus ys v m p   a step of the rule in y: y times the value, and more
+--   timesPlus ys v m p   a step of the rule in y: the value times y, and more
 --   OnlyPresent f    the coefficients of missing orders are 0; function-present: so it is with a message's function
 --   horner           the rule in y, from y^3 down, gives the value
 use mathlib.Core.Path.{_≡_, sym, ap, ap₂, _∙_}
@@ -30,7 +30,7 @@ use Rattle.code.specs.Bridge.{toF-power, toF-xorSum, px, py}
 module _ {F : Type 0} (K : Field F) where
   open Field K using (_⊕_, _⊗_)
 
-  four : (a : ℕ → F) (y : F) → sum K 4 (λ j. a j ⊗ pow K y j) ≡ y ⊗ (y ⊗ (y ⊗ a 3 ⊕ a 2) ⊕ a 1) ⊕ a 0
+  four : (a : ℕ → F) (y : F) → sum K 4 (λ j. a j ⊗ pow K y j) ≡ ((a 3 ⊗ y ⊕ a 2) ⊗ y ⊕ a 1) ⊗ y ⊕ a 0
   unfolding sum pow
   four a y = simp (ring, K)
 
@@ -42,14 +42,14 @@ xTerm f j x i = times (getD f (4 * i + 5 * j) 0) (power x i)
 unfoldable pub inX : List ℕ → ℕ → ℕ → ℕ
 inX f j x = xorSum (16 - j) (xTerm f j x)
 
-unfoldable pub nextSum : List ℕ → ℕ → ℕ → ℕ
-nextSum s c x = bitXor (times x (getD s x 0)) (c % 16)
+unfoldable pub nextSum : List ℕ → List ℕ → ℕ → ℕ → ℕ
+nextSum xs s c x = bitXor (times (getD s x 0) (getD xs x 0)) (c % 16)
 
 unfoldable pub spreadAt : List ℕ → ℕ → ℕ
 spreadAt s p = getD s (xOf p) 0
 
 unfoldable pub timesPlus : List ℕ → List ℕ → List ℕ → ℕ → ℕ
-timesPlus ys v m p = bitXor (times (getD ys p 0) (getD v p 0)) (getD m p 0)
+timesPlus ys v m p = bitXor (times (getD v p 0) (getD ys p 0)) (getD m p 0)
 
 pub record OnlyPresent (f : List ℕ) : Type 0 where
   pub missing : (o : ℕ) → ¬ Present 4 o → getD f o 0 ≡ 0
@@ -89,23 +89,22 @@ module _ (f : List ℕ) (present : OnlyPresent f) (x : ℕ) where
           let n : j + i - j ≡ i = omega arith in
           ap₂ (λ a b. c a ⊗ xs b) o n ∙ sym (toF-times _ _ ∙ ap (λ z. c (4 * i + 5 * j) ⊗ z) (toF-power x i))
 
--- a step of the rule in y
-plusTimes : ℕ → ℕ → ℕ → ℕ
-plusTimes y v m = bitXor (times y v) m
+-- a step of the rule
+step : ℕ → ℕ → ℕ → ℕ
+step y v m = bitXor (times v y) m
 
-toF-plusTimes : (y v m : ℕ) → toF (plusTimes y v m) ≡ toF y ⊗ toF v ⊕ toF m
-unfolding plusTimes
-toF-plusTimes y v m = toF-add _ _ ∙ ap (λ z. z ⊕ toF m) (toF-times y v)
+toF-step : (y v m : ℕ) → toF (step y v m) ≡ toF v ⊗ toF y ⊕ toF m
+unfolding step
+toF-step y v m = toF-add _ _ ∙ ap (λ z. z ⊕ toF m) (toF-times v y)
 
--- the rule in y on what multiplies each power
+-- the rule on what multiplies each power of y
 inY : (ℕ → ℕ) → ℕ → ℕ
-inY a y = plusTimes y (plusTimes y (plusTimes y (a 3) (a 2)) (a 1)) (a 0)
+inY a y = step y (step y (step y (a 3) (a 2)) (a 1)) (a 0)
 
 toF-inY : (a : ℕ → ℕ) (y : ℕ) → toF (inY a y) ≡ sum K16 4 (λ j. toF (a j) ⊗ pow K16 (toF y) j)
 unfolding inY
 toF-inY a y =
-    toF-plusTimes y _ _ ∙ ap (λ z. toF y ⊗ z ⊕ toF (a 0))
-    (toF-plusTimes y _ _ ∙ ap (λ z. toF y ⊗ z ⊕ toF (a 1)) (toF-plusTimes y _ _))
+    toF-step y _ _ ∙ ap (λ z. z ⊗ toF y ⊕ toF (a 0)) (toF-step y _ _ ∙ ap (λ z. z ⊗ toF y ⊕ toF (a 1)) (toF-step y _ _))
     ∙ sym (four K16 (λ j. toF (a j)) (toF y))
 
 inX-lt : (f : List ℕ) (j x : ℕ) → inX f j x < 16
@@ -138,8 +137,8 @@ module _ (f : List ℕ) (present : OnlyPresent f) (p : ℕ) where
           ∙ toF-times _ _ ∙ ap₂ (λ a b. a ⊗ b) (toF-power (xOf p) (q - j)) (toF-power (yOf p) j))
           ∙ sym (mul-assoc K16 _ _ _)
 
-  pub horner : bitXor (times (yOf p) (bitXor (times (yOf p) (bitXor (times (yOf p) (inX f 3 (xOf p))) (inX f 2 (xOf p)))) (inX f 1 (xOf p)))) (inX f 0 (xOf p)) ≡ valueOf f p
-  unfolding inY plusTimes
+  pub horner : bitXor (times (bitXor (times (bitXor (times (inX f 3 (xOf p)) (yOf p)) (inX f 2 (xOf p))) (yOf p)) (inX f 1 (xOf p))) (yOf p)) (inX f 0 (xOf p)) ≡ valueOf f p
+  unfolding inY step
   horner =
       toF-injective _ _ (xor-below _ _ (times-lt _ _) (inX-lt f 0 (xOf p))) (valueOf-lt f p)
       (toF-inY (λ j. inX f j (xOf p)) (yOf p) ∙ sym toF-valueOf)

@@ -1,11 +1,12 @@
 -- The constant points by place: their rule, computed once over the whole table.
 --
+--   element      the elements of the field, by number; elements-listed: all sixteen
 --   yTable       the y of each place; its x is the place divided by 4
 --   yTable-rule  at each of the 64 places it is the y of the definition; yTable-listed: so it is the list of them
 --   yOf-below    every y is below 16
 --   on-curve     every place is a point of the curve
 use mathlib.Core.Bool.{Bool}
-use mathlib.Core.Path.{_≡_, sym, ap, _∙_, subst}
+use mathlib.Core.Path.{_≡_, refl, sym, ap, _∙_, subst}
 use mathlib.Core.List.{List, [], _∷_}
 use Prim.Native.Nat.{ℕ, _*_, _/_, _%_, _<_}
 use native.Mathlib.Nat.{div-add-mod'}
@@ -19,6 +20,14 @@ use Rattle.lists.specs.Same.{same, same-yes}
 use Rattle.galois.specs.Gf16.{times}
 use Rattle.galois.specs.Binary as Binary
 use Rattle.code.specs.Curve.{power, isOnCurve, fibreBelow, fibre, xOf, yOf}
+
+unfoldable pub element : ℕ → ℕ
+element x = x
+
+pub elements-listed :
+    0 ∷ 1 ∷ 2 ∷ 3 ∷ 4 ∷ 5 ∷ 6 ∷ 7 ∷ 8 ∷ 9 ∷ 10 ∷ 11 ∷ 12 ∷ 13 ∷ 14 ∷ 15 ∷ [] ≡ listed 16 element
+unfolding listed element
+elements-listed = refl
 
 unfoldable pub yTable : List ℕ
 yTable =

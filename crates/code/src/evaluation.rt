@@ -44,13 +44,13 @@ pub fn monomials(place: usize) -> [u8; 64]
 }
 
 // One step of Horner's rule in x, at all sixteen x: each lane is one x.
-fn next_sums(sums: [u8; 16], coefficient: u8) -> [u8; 16]
-    ensures { λ r. ⌜ r ≡ listed 16 (nextSum sums coefficient) ⌝ }
+fn next_sums(xs: [u8; 16], sums: [u8; 16], coefficient: u8) -> [u8; 16]
+    ensures { λ r. ⌜ r ≡ listed 16 (nextSum xs sums coefficient) ⌝ }
 {
     let mut out = [0u8; 16];
     let mut x = 0;
     while x < 16 {
-        out[x] = product(x as u8, sums[x]) ^ coefficient % 16;
+        out[x] = product(sums[x], xs[x]) ^ coefficient % 16;
         x += 1;
     }
     out
@@ -61,11 +61,12 @@ fn in_x(function: [u8; 64], j: usize) -> [u8; 16]
     requires { ⌜ j < 4 ⌝ }
     ensures { λ r. ⌜ r ≡ listed 16 (inX function j) ⌝ }
 {
+    let xs = crate::points::xs();
     let mut sums = [0u8; 16];
     let mut i = 16 - j;
     while 0 < i {
         i -= 1;
-        let next = next_sums(sums, function[4 * i + 5 * j]);
+        let next = next_sums(xs, sums, function[4 * i + 5 * j]);
         sums = next;
     }
     sums
@@ -91,7 +92,7 @@ fn times_plus(ys: [u8; 64], values: [u8; 64], more: [u8; 64]) -> [u8; 64]
     let mut out = [0u8; 64];
     let mut place = 0;
     while place < 64 {
-        out[place] = product(ys[place], values[place]) ^ more[place];
+        out[place] = product(values[place], ys[place]) ^ more[place];
         place += 1;
     }
     out

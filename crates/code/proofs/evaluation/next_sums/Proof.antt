@@ -10,19 +10,19 @@ use Rattle.code.proofs.evaluation.next_sums.Statement.{statement}
 use Rattle.code.proofs.evaluation.next_sums.Tie as tie
 
 abbrev Inv-loop : tie.InvT-loop
-Inv-loop coefficient sums out₀ x₀ out x = Filled blank16 (nextSum sums coefficient) x out
+Inv-loop coefficient xs sums out₀ x₀ out x = Filled blank16 (nextSum xs sums coefficient) x out
 
 abbrev μ-loop : tie.MeasureT-loop
-μ-loop coefficient sums out₀ x₀ out x = 16 - x
+μ-loop coefficient xs sums out₀ x₀ out x = 16 - x
 
 loop-holds : tie.Need-loop-holds Inv-loop μ-loop
 loop-holds c = filled-start _ _
 
-cast-product : tie.Need-cast-product Inv-loop μ-loop
-cast-product c = search needs
-
 array-read-product : tie.Need-array-read-product Inv-loop μ-loop
 array-read-product c = search needs
+
+array-read-product-2 : tie.Need-array-read-product-2 Inv-loop μ-loop
+array-read-product-2 c = search needs
 
 product-requires : tie.Need-product-requires Inv-loop μ-loop
 product-requires c κs = search needs
@@ -37,7 +37,7 @@ loop-less : tie.Need-loop-less Inv-loop μ-loop
 loop-less c = search needs
 
 loop-again : tie.Need-loop-again Inv-loop μ-loop
-loop-again c = filled-turn 0 (c .before .before .loop .inv) _ (search needs) (next-entry _ _ _ (c .product .ensures))
+loop-again c = filled-turn 0 (c .before .before .loop .inv) _ (search needs) (next-entry _ _ _ _ (c .product .ensures))
 
 returns : tie.Need-returns Inv-loop μ-loop
 returns c = filled-end 0 (c .before .loop .inv) 16 refl (c .loop-test .left)
@@ -49,8 +49,8 @@ next-sums-spec =
     Inv-loop
     μ-loop
     loop-holds
-    cast-product
     array-read-product
+    array-read-product-2
     product-requires
     array-write-out
     add-x
