@@ -5,7 +5,7 @@
 --   coefficientOf m o    the coefficient of order o in the function of message m: symbol t at the t-th present order
 --   functionOf m         all 64 of them
 --   function-value       its value is that of the message (document 01's sum over message symbols)
---   nextOf, monomial-start, monomial-y, monomial-next, monomial-x   how each monomial comes from an earlier one
+--   nextOf, monomial-start, monomial-y, monomial-next, monomial-x, monomial-x4   how each monomial comes from an earlier one
 use mathlib.Core.Bool.{Bool, true, false}
 use mathlib.Core.Path.{_≡_, refl, sym, ap, ap₂, _∙_}
 use mathlib.Core.List.{List}
@@ -114,6 +114,20 @@ monomial-x p o h =
     ap₂ (λ a b. times (power (xOf p) a) (power (yOf p) b)) i j
     ∙ ap (λ x. times x (power (yOf p) ((o - 4) % 4))) (power-suc (xOf p) _ ∙ times-comm _ (xOf p))
     ∙ times-assoc _ _ _
+
+-- x^4 times the monomial sixteen orders below
+pub monomial-x4 : (p o : ℕ) → 28 ≤ o → monomialAt p o ≡ times (monomialAt p (o - 16)) (times (times (xOf p) (xOf p)) (times (xOf p) (xOf p)))
+monomial-x4 p o h =
+    let e : o - 4 - 4 - 4 - 4 ≡ o - 16 = omega arith in
+    monomial-x p o (omega arith)
+    ∙ ap (times x) (monomial-x p (o - 4) (omega arith)
+    ∙ ap (times x) (monomial-x p (o - 4 - 4) (omega arith)
+    ∙ ap (times x) (monomial-x p (o - 4 - 4 - 4) (omega arith) ∙ ap (λ k. times x (monomialAt p k)) e)))
+    ∙ sym (times-assoc x x _) ∙ ap (times (times x x)) (sym (times-assoc x x _)) ∙ sym (times-assoc (times x x) (times x x) _)
+    ∙ times-comm _ _
+  where
+    x : ℕ
+    x = xOf p
 
 monomial-same : (p o : ℕ) → 4 ≤ o → o / 4 ≤ o % 4 → monomialAt p o ≡ monomialAt p (o - 4)
 unfolding monomialAt monomial

@@ -15,7 +15,7 @@ fn next(order: usize, x: u8, below: u8) -> u8
     if order / 4 <= order % 4 {
         return below;
     }
-    product(x, below)
+    product(below, x)
 }
 
 // The value of each monomial at a place, by order.
@@ -36,8 +36,14 @@ pub fn monomials(place: usize) -> [u8; 64]
         out[o] = next(o, x, out[o - 4]);
         o += 1;
     }
+    while o < 32 {
+        out[o] = product(out[o - 4], x);
+        o += 1;
+    }
+    let x2 = product(x, x);
+    let x4 = product(x2, x2);
     while o < 64 {
-        out[o] = product(x, out[o - 4]);
+        out[o] = product(out[o - 16], x4);
         o += 1;
     }
     out

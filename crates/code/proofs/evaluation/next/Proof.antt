@@ -1,4 +1,6 @@
 -- `next` meets its contract, by its two returns.
+use mathlib.Core.Path.{_∙_}
+use Rattle.galois.specs.Field16.{times-comm}
 use borrow.Author.Needs.{needs}
 use borrow.Author.Tests.{le-leb, lt-leb}
 use Rattle.code.specs.Evaluation.{nextOf}
@@ -14,7 +16,7 @@ product-requires c κs = search needs
 
 returns-2 : tie.Need-returns-2
 unfolding nextOf
-returns-2 c = simp (lt-leb _ _ (c .before .if1 .left)) (c .product .ensures)
+returns-2 c = simp (lt-leb _ _ (c .before .if1 .left)) (c .product .ensures ∙ times-comm _ _)
 
 pub next-spec : {M : Type 1} → statement M
 next-spec = tie.close (tie.spec returns product-requires returns-2)
