@@ -56,6 +56,7 @@ pub mod field;
 pub mod frames;
 pub mod least;
 pub mod linear;
+pub mod measured;
 pub mod nearest;
 pub mod pairs;
 #[cfg(feature = "proved")]

@@ -1,0 +1,325 @@
+//! The table of `bench/run`: instructions, field multiplications and frames a second, of the proved
+//! library and of this package on the same calls.
+//!
+//! `bench FOLDER` makes the table; FOLDER takes callgrind's files and holds `counted`, which
+//! `bench/counted` builds. `bench calls N` makes the calls of case N once, for callgrind.
+
+use std::fs;
+use std::io::Write;
+use std::path::Path;
+use std::process::{Command, ExitCode, Stdio};
+use std::sync::atomic::{AtomicUsize, Ordering};
+use std::sync::Mutex;
+use std::thread;
+use std::time::{Duration, Instant};
+
+use reference::frames::RATES;
+use reference::measured::{cases, Case, Measured, Which, CALLS, DOUBTS};
+use reference::proved::{PROVED, PROVED_TABLE};
+use reference::trials::{Coding, DecodeTable, REFERENCE, REFERENCE_TABLE};
+
+/// At least so long is a case timed on each library.
+const TIMED: Duration = Duration::from_millis(400);
+
+/// The functions of one library.
+struct Library {
+    coding: &'static Coding,
+    table: DecodeTable,
+}
+
+const LIBRARIES: [Library; 2] = [
+    Library {
+        coding: &PROVED,
+        table: PROVED_TABLE,
+    },
+    Library {
+        coding: &REFERENCE,
+        table: REFERENCE_TABLE,
+    },
+];
+
+/// What is counted of a case, call by call, and the frames a second of both libraries.
+#[derive(Default)]
+struct Figures {
+    instructions: Vec<u64>,
+    multiplications: Vec<u64>,
+    speeds: [f64; 2],
+}
+
+fn main() -> ExitCode {
+    let arguments: Vec<String> = std::env::args().skip(1).collect();
+    let words: Vec<&str> = arguments.iter().map(String::as_str).collect();
+    let done = match words[..] {
+        ["calls", number] => {
+            number
+                .parse()
+                .map_err(|_| "no number".to_string())
+                .map(|number: usize| {
+                    for call in cases()[number].calls() {
+                        LIBRARIES[0].answer(&call);
+                    }
+                })
+        }
+        [folder] => measure(Path::new(folder)),
+        _ => Err("bench FOLDER, or bench calls N".to_string()),
+    };
+    match done {
+        Ok(()) => ExitCode::SUCCESS,
+        Err(line) => {
+            eprintln!("{line}");
+            ExitCode::FAILURE
+        }
+    }
+}
+
+impl Library {
+    /// The number returned, and the bytes of the buffers that the call writes.
+    fn answer(&self, call: &Measured) -> (u8, Vec<u8>) {
+        let Measured {
+            letter,
+            rate,
+            doubt,
+            given,
+        } = call;
+        let mut buffer = vec![0; if *letter == b'E' { 64 } else { *rate as usize }];
+        let mut report = vec![0; if *letter == b'T' { 8 } else { 0 }];
+        let number = match letter {
+            b'E' => (self.coding.encode)(*rate, given, &mut buffer, 0),
+            b'B' => (self.coding.read_back)(*rate, given, &mut buffer),
+            _ => (self.table)(*rate, given, *doubt as u64, &mut buffer, &mut report),
+        };
+        buffer.extend(report);
+        (number, buffer)
+    }
+
+    /// Calls a second, by the fastest of many rounds over all calls: another load on the machine
+    /// then shows least.
+    fn speed(&self, calls: &[Measured]) -> f64 {
+        let start = Instant::now();
+        let mut fastest = f64::INFINITY;
+        while start.elapsed() < TIMED {
+            let round = Instant::now();
+            calls.iter().for_each(|call| drop(self.answer(call)));
+            fastest = fastest.min(round.elapsed().as_secs_f64());
+        }
+        calls.len() as f64 / fastest
+    }
+}
+
+/// Times each case alone, then counts two cases at a time.
+fn measure(folder: &Path) -> Result<(), String> {
+    let cases = cases();
+    let mut figures: Vec<Figures> = Vec::new();
+    for (number, case) in cases.iter().enumerate() {
+        progress("timing", number, cases.len());
+        let calls = case.calls();
+        agree(&calls)?;
+        figures.push(Figures {
+            multiplications: multiplications(folder, &calls)?,
+            speeds: [0, 1].map(|library| LIBRARIES[library].speed(&calls)),
+            ..Figures::default()
+        });
+    }
+    let (next, done) = (AtomicUsize::new(0), AtomicUsize::new(0));
+    let counts = Mutex::new(vec![Vec::new(); cases.len()]);
+    let part = || -> Result<(), String> {
+        loop {
+            let number = next.fetch_add(1, Ordering::Relaxed);
+            let Some(case) = cases.get(number) else {
+                return Ok(());
+            };
+            let counted = instructions(folder, number, case)?;
+            counts.lock().expect("no thread fails")[number] = counted;
+            progress(
+                "callgrind",
+                done.fetch_add(1, Ordering::Relaxed) + 1,
+                cases.len(),
+            );
+        }
+    };
+    thread::scope(|scope| {
+        let parts = [scope.spawn(part), scope.spawn(part)];
+        parts
+            .into_iter()
+            .try_for_each(|part| part.join().expect("no thread fails"))
+    })?;
+    let counts = counts.into_inner().expect("no thread fails");
+    for (figures, counts) in figures.iter_mut().zip(counts) {
+        figures.instructions = counts;
+    }
+    eprintln!();
+    print_table(&cases, &figures);
+    print_largest(&cases, &figures);
+    print_summary(&cases, &figures);
+    Ok(())
+}
+
+fn progress(what: &str, done: usize, of: usize) {
+    eprint!("\r{what}: {done} of {of} cases   ");
+}
+
+/// Both libraries answer alike.
+fn agree(calls: &[Measured]) -> Result<(), String> {
+    let differs = |call: &&Measured| LIBRARIES[0].answer(call) != LIBRARIES[1].answer(call);
+    match calls.iter().find(differs) {
+        Some(call) => Err(format!("the libraries differ on {call:?}")),
+        None => Ok(()),
+    }
+}
+
+/// The multiplications of each call, by `counted`, whose answers must be the proved library's.
+fn multiplications(folder: &Path, calls: &[Measured]) -> Result<Vec<u64>, String> {
+    let problem = |error: std::io::Error| format!("counted: {error}");
+    let mut child = Command::new(folder.join("counted"))
+        .stdin(Stdio::piped())
+        .stdout(Stdio::piped())
+        .spawn()
+        .map_err(problem)?;
+    let input: Vec<u8> = calls.iter().flat_map(Measured::bytes).collect();
+    let mut pipe = child.stdin.take().expect("a pipe");
+    pipe.write_all(&input).map_err(problem)?;
+    drop(pipe);
+    let output = child.wait_with_output().map_err(problem)?.stdout;
+    let lines = String::from_utf8_lossy(&output).into_owned();
+    let lines: Vec<&str> = lines.lines().collect();
+    if lines.len() != calls.len() {
+        return Err("counted: not a line for each call".to_string());
+    }
+    let count = |(call, line): (&Measured, &&str)| {
+        let (number, bytes) = LIBRARIES[0].answer(call);
+        let digits: String = bytes.iter().map(|byte| format!("{byte:02x}")).collect();
+        let words: Vec<&str> = line.split(' ').collect();
+        if words.len() != 3 || words[1] != number.to_string() || words[2] != digits {
+            return Err(format!("counted answers otherwise: {line}"));
+        }
+        words[0].parse().map_err(|_| format!("counted: {line}"))
+    };
+    calls.iter().zip(&lines).map(count).collect()
+}
+
+/// The instructions of each call, inside the exported function only: callgrind dumps its counters
+/// after each call.
+fn instructions(folder: &Path, number: usize, case: &Case) -> Result<Vec<u64>, String> {
+    let function = match case.which {
+        Which::Encode => "hermitian_encode",
+        Which::ReadBack => "hermitian_read_back",
+        Which::Table { .. } => "hermitian_decode_table",
+    };
+    let dumps = folder.join(format!("callgrind.{number}"));
+    let program = std::env::current_exe().map_err(|error| error.to_string())?;
+    let output = Command::new("valgrind")
+        .arg("--tool=callgrind")
+        .arg(format!("--toggle-collect={function}"))
+        .arg(format!("--dump-after={function}"))
+        .arg(format!("--callgrind-out-file={}", dumps.display()))
+        .arg(program)
+        .args(["calls", &number.to_string()])
+        .output()
+        .map_err(|error| format!("valgrind: {error}"))?;
+    if !output.status.success() {
+        return Err(String::from_utf8_lossy(&output.stderr).into_owned());
+    }
+    let counted = |call| {
+        let name = format!("{}.{}", dumps.display(), call + 1);
+        let text = fs::read_to_string(&name).map_err(|error| format!("{name}: {error}"))?;
+        fs::remove_file(&name).map_err(|error| format!("{name}: {error}"))?;
+        let line = text.lines().find_map(|line| line.strip_prefix("totals: "));
+        line.and_then(|total| total.trim().parse().ok())
+            .ok_or(format!("{name}: no total"))
+    };
+    let counts = (0..CALLS).map(counted).collect();
+    let _ = fs::remove_file(&dumps);
+    counts
+}
+
+fn mean(numbers: &[u64]) -> u64 {
+    let sum: u64 = numbers.iter().sum();
+    (sum + numbers.len() as u64 / 2) / numbers.len() as u64
+}
+
+fn largest(numbers: &[u64]) -> u64 {
+    numbers.iter().copied().max().unwrap_or(0)
+}
+
+/// 1234567 as 1,234,567.
+fn grouped(number: u64) -> String {
+    let digits = number.to_string();
+    let mut text = String::new();
+    for (at, digit) in digits.chars().enumerate() {
+        if at > 0 && (digits.len() - at).is_multiple_of(3) {
+            text.push(',');
+        }
+        text.push(digit);
+    }
+    text
+}
+
+fn print_table(cases: &[Case], figures: &[Figures]) {
+    println!("| Rate | Doubt | Frames | Instructions, mean | largest | Multiplications, mean | largest | Frames/s, proved | reference |");
+    println!("|---|---|---|---|---|---|---|---|---|");
+    for (case, figures) in cases.iter().zip(figures) {
+        let doubt = case
+            .doubt()
+            .map_or(String::new(), |doubt| doubt.to_string());
+        println!(
+            "| {} | {doubt} | {} | {} | {} | {} | {} | {} | {} |",
+            case.rate,
+            case.name(),
+            grouped(mean(&figures.instructions)),
+            grouped(largest(&figures.instructions)),
+            grouped(mean(&figures.multiplications)),
+            grouped(largest(&figures.multiplications)),
+            grouped(figures.speeds[0].round() as u64),
+            grouped(figures.speeds[1].round() as u64),
+        );
+    }
+}
+
+/// The table decoding cases of a rate.
+fn tables<'a>(
+    cases: &'a [Case],
+    figures: &'a [Figures],
+    rate: u64,
+) -> impl Iterator<Item = (&'a Case, &'a Figures, usize)> {
+    let both = cases.iter().zip(figures);
+    both.filter(move |(case, _)| case.rate == rate)
+        .filter_map(|(case, figures)| Some((case, figures, case.doubt()?)))
+}
+
+fn print_largest(cases: &[Case], figures: &[Figures]) {
+    println!();
+    for rate in RATES {
+        let of_all = tables(cases, figures, rate)
+            .max_by_key(|(_, figures, _)| largest(&figures.instructions))
+            .expect("cases of each rate");
+        let (case, figures, doubt) = of_all;
+        println!(
+            "Largest frame at rate {rate}: {} instructions (doubt {doubt}, {}).",
+            grouped(largest(&figures.instructions)),
+            case.name()
+        );
+    }
+}
+
+/// One line a rate: by doubt, the mean over all frames of that doubt; then the largest frame.
+fn print_summary(cases: &[Case], figures: &[Figures]) {
+    println!();
+    println!("| Rate | Doubt 0 | Doubt 3 | Doubt 6 | Doubt 8 | Largest |");
+    println!("|---|---|---|---|---|---|");
+    for rate in RATES {
+        let of = |doubt: usize| {
+            let counts = tables(cases, figures, rate).filter(|(_, _, with)| *with == doubt);
+            let all: Vec<u64> = counts
+                .flat_map(|(_, f, _)| f.instructions.clone())
+                .collect();
+            grouped(mean(&all))
+        };
+        let most =
+            tables(cases, figures, rate).map(|(_, figures, _)| largest(&figures.instructions));
+        println!(
+            "| {rate} | {} | {} |",
+            DOUBTS.map(of).join(" | "),
+            grouped(most.max().unwrap_or(0))
+        );
+    }
+}
