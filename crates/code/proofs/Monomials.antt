@@ -80,5 +80,5 @@ module _ {low high p x y o : ℕ} {out : List ℕ} (t : Turn low high p x y out 
   x4-turn a b f e = next-turn _ (x4-held p o (t .held) _ (omega (arith, t .above)) (omega arith) f e)
 
 -- one loop ends where the next begins
-pub onward : {low mid high p x y o : ℕ} {out : List ℕ} → Turn low mid p x y out o → mid ≤ o → mid ≤ high → Turn mid high p x y out o
+pub onward : {low mid high top p x y o : ℕ} {out : List ℕ} → Turn low high p x y out o → mid ≤ o → high ≤ top → Turn mid top p x y out o
 onward t h l = record { above = h; below = omega (arith, t .below); x-is = t .x-is; y-is = t .y-is; held = t .held }

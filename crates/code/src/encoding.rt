@@ -64,7 +64,8 @@ pub fn write_codeword(message: &[u8], part: &mut [u8])
     let values = crate::evaluation::codeword(function_of(message));
     let mut place = 0;
     while place < 64 {
-        part[place] = values[place];
+        let symbol = values[place];
+        part[place] = symbol;
         place += 1;
     }
 }

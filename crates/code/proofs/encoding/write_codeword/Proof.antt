@@ -21,8 +21,8 @@ codeword-requires c κs = present-of _ (c .function-of .ensures)
 loop-holds : tie.Need-loop-holds Inv-loop μ-loop
 loop-holds c = writing-start _ _ _ (search needs) (values-of _ (search needs) (c .before .function-of .ensures) (c .codeword .ensures))
 
-array-read-part : tie.Need-array-read-part Inv-loop μ-loop
-array-read-part c = search needs
+array-read-symbol : tie.Need-array-read-symbol Inv-loop μ-loop
+array-read-symbol c = search needs
 
 slice-write-part : tie.Need-slice-write-part Inv-loop μ-loop
 slice-write-part c = omega (arith, writing-length (c .before .loop .inv))
@@ -34,7 +34,7 @@ loop-less : tie.Need-loop-less Inv-loop μ-loop
 loop-less c = search needs
 
 loop-again : tie.Need-loop-again Inv-loop μ-loop
-loop-again c = writing-turn (c .before .loop .inv) (c .loop-test .taken)
+loop-again c = writing-turn (c .before .loop .inv) (search needs)
 
 same-length : tie.Need-same-length Inv-loop μ-loop
 same-length c = omega (arith, writing-length (c .before .loop .inv), c .before .loop .inv .sized)
@@ -51,7 +51,7 @@ write-codeword-spec =
     function-of-requires
     codeword-requires
     loop-holds
-    array-read-part
+    array-read-symbol
     slice-write-part
     add-place
     loop-less

@@ -15,10 +15,10 @@ abbrev μ-loop : tie.MeasureT-loop
 μ-loop place x y out₀ o₀ out o = 4 - o
 
 abbrev Inv-loop2 : tie.InvT-loop2
-Inv-loop2 place x y out₀ o₀ out o = Turn 4 16 place x y out o
+Inv-loop2 place x y out₀ o₀ out o = Turn 4 32 place x y out o
 
 abbrev μ-loop2 : tie.MeasureT-loop2
-μ-loop2 place x y out₀ o₀ out o = 16 - o
+μ-loop2 place x y out₀ o₀ out o = 32 - o
 
 abbrev Inv-loop3 : tie.InvT-loop3
 Inv-loop3 place x y out₀ o₀ out o = Turn 16 32 place x y out o
@@ -89,7 +89,7 @@ loop-less c = search needs
 
 loop-again :
     tie.Need-loop-again Inv-loop μ-loop Inv-loop2 μ-loop2 Inv-loop3 μ-loop3 Inv-loop4 μ-loop4
-loop-again c = y-turn (c .before .before .loop .inv) (c .before .loop-test .taken) (search needs) (search needs) (c .product .ensures)
+loop-again c = y-turn (c .before .before .loop .inv) (search needs) (search needs) (search needs) (c .product .ensures)
 
 loop2-holds :
     tie.Need-loop2-holds Inv-loop μ-loop Inv-loop2 μ-loop2 Inv-loop3 μ-loop3 Inv-loop4 μ-loop4
@@ -127,7 +127,7 @@ loop2-less c = search needs
 
 loop2-again :
     tie.Need-loop2-again Inv-loop μ-loop Inv-loop2 μ-loop2 Inv-loop3 μ-loop3 Inv-loop4 μ-loop4
-loop2-again c = base-turn (c .before .before .loop2 .inv) (c .before .loop2-test .taken) (search needs) (search needs) (c .next .ensures)
+loop2-again c = base-turn (c .before .before .loop2 .inv) (search needs) (search needs) (search needs) (c .next .ensures)
 
 loop3-holds :
     tie.Need-loop3-holds Inv-loop μ-loop Inv-loop2 μ-loop2 Inv-loop3 μ-loop3 Inv-loop4 μ-loop4
@@ -182,7 +182,7 @@ loop3-less c = search needs
 
 loop3-again :
     tie.Need-loop3-again Inv-loop μ-loop Inv-loop2 μ-loop2 Inv-loop3 μ-loop3 Inv-loop4 μ-loop4
-loop3-again c = x-turn (c .before .before .loop3 .inv) (c .before .loop3-test .taken) (search needs) (search needs) (c .product2 .ensures)
+loop3-again c = x-turn (c .before .before .loop3 .inv) (search needs) (search needs) (search needs) (c .product2 .ensures)
 
 product-requires-3 :
     tie.Need-product-requires-3
@@ -266,7 +266,7 @@ loop4-again :
     tie.Need-loop4-again Inv-loop μ-loop Inv-loop2 μ-loop2 Inv-loop3 μ-loop3 Inv-loop4 μ-loop4
 loop4-again c = (
   c .before .before .loop4 .inv .0,
-  x4-turn (c .before .before .loop4 .inv .1) (c .before .loop4-test .taken) (search needs) (search needs) (c .before .before .loop4 .inv .0) (c .product5 .ensures),
+  x4-turn (c .before .before .loop4 .inv .1) (search needs) (search needs) (search needs) (c .before .before .loop4 .inv .0) (c .product5 .ensures),
 )
 
 returns : tie.Need-returns Inv-loop μ-loop Inv-loop2 μ-loop2 Inv-loop3 μ-loop3 Inv-loop4 μ-loop4
