@@ -48,6 +48,7 @@
 pub mod call_lists;
 pub mod calls;
 pub mod capture;
+pub mod channel;
 pub mod code;
 pub mod curve;
 pub mod damage;
@@ -59,6 +60,7 @@ pub mod linear;
 pub mod measured;
 pub mod nearest;
 pub mod pairs;
+pub mod plot;
 #[cfg(feature = "proved")]
 pub mod proved;
 pub mod random;

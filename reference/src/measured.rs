@@ -5,6 +5,7 @@
 //! - [`Case::calls`]: its calls, from a fixed seed.
 //! - [`Measured`]: one call's rate, doubt and bytes; [`Measured::bytes`]: as `bench/counted` reads it.
 
+use crate::channel::Channel;
 use crate::code::Code;
 use crate::curve::PLACES;
 use crate::decode::table_of_columns;
@@ -30,6 +31,33 @@ pub enum Damage {
     Reach,
     /// T + 1 places.
     Beyond,
+    /// Those that noise makes wrong: BPSK over white Gaussian noise, and the doubtful places as it
+    /// falls out.
+    Noise,
+}
+
+/// Eb/N0 of the noise, in decibels.
+pub const NOISE: f64 = 7.0;
+
+const DAMAGES: [Damage; 5] = [
+    Damage::None,
+    Damage::One,
+    Damage::Reach,
+    Damage::Beyond,
+    Damage::Noise,
+];
+
+impl Damage {
+    /// The wrong settled places, where they are chosen.
+    fn wrong(self, code: &Code) -> Option<usize> {
+        match self {
+            Damage::None => Some(0),
+            Damage::One => Some(1),
+            Damage::Reach => Some(code.reach),
+            Damage::Beyond => Some(code.reach + 1),
+            Damage::Noise => None,
+        }
+    }
 }
 
 #[derive(Clone, Copy, Debug, PartialEq, Eq)]
@@ -63,7 +91,7 @@ pub fn cases() -> Vec<Case> {
         add(Which::Encode);
         add(Which::ReadBack);
         for doubt in DOUBTS {
-            for damage in [Damage::None, Damage::One, Damage::Reach, Damage::Beyond] {
+            for damage in DAMAGES {
                 if rate == 39 || damage != Damage::One {
                     add(Which::Table { doubt, damage });
                 }
@@ -85,6 +113,7 @@ impl Case {
                 Damage::One => "1 wrong".to_string(),
                 Damage::Reach => format!("{reach} wrong (T)"),
                 Damage::Beyond => format!("{} wrong, none near", reach + 1),
+                Damage::Noise => format!("noise at {NOISE} dB"),
             },
         }
     }
@@ -115,13 +144,14 @@ impl Case {
             Which::Encode => (b'E', code.message(&sent).expect("a codeword")),
             Which::ReadBack => (b'B', sent.elements().to_vec()),
             Which::Table { doubt, damage } => {
-                let wrong = match damage {
-                    Damage::None => 0,
-                    Damage::One => 1,
-                    Damage::Reach => code.reach,
-                    Damage::Beyond => code.reach + 1,
+                let columns = match damage.wrong(code) {
+                    Some(wrong) => columns(&sent, doubt, wrong, random),
+                    None => {
+                        let channel = Channel::at(self.rate, NOISE);
+                        let symbols = sent.elements();
+                        symbols.map(|symbol| channel.column(symbol, random))
+                    }
                 };
-                let columns = columns(&sent, doubt, wrong, random);
                 (b'T', table_of_columns(&columns))
             }
         };
@@ -184,11 +214,8 @@ mod tests {
                 continue;
             };
             let reach = case.code().reach;
-            let wrong = match damage {
-                Damage::None => 0,
-                Damage::One => 1,
-                Damage::Reach => reach,
-                Damage::Beyond => reach + 1,
+            let Some(wrong) = damage.wrong(case.code()) else {
+                continue;
             };
             let near = (0..1u32 << doubt)
                 .filter(|flips| wrong + flips.count_ones() as usize <= reach)

@@ -1,8 +1,9 @@
 //! The table of `bench/run`: instructions, field multiplications and frames a second, of the proved
 //! library and of this package on the same calls.
 //!
-//! `bench FOLDER` makes the table; FOLDER takes callgrind's files and holds `counted`, which
-//! `bench/counted` builds. `bench calls N` makes the calls of case N once, for callgrind.
+//! `bench FOLDER [EARLIER]` makes the table; FOLDER takes callgrind's files and holds `counted`,
+//! which `bench/counted` builds; EARLIER is what an earlier run printed, to compare with. `bench calls
+//! N` makes the calls of case N once, for callgrind.
 
 use std::fs;
 use std::io::Write;
@@ -14,12 +15,13 @@ use std::thread;
 use std::time::{Duration, Instant};
 
 use reference::frames::RATES;
-use reference::measured::{cases, Case, Measured, Which, CALLS, DOUBTS};
+use reference::measured::{cases, Case, Measured, Which, CALLS};
 use reference::proved::{PROVED, PROVED_TABLE};
 use reference::trials::{Coding, DecodeTable, REFERENCE, REFERENCE_TABLE};
 
-/// At least so long is a case timed on each library.
+/// At least so long, and so many rounds, a case is timed on each library.
 const TIMED: Duration = Duration::from_millis(400);
+const ROUNDS: usize = 10;
 
 /// The functions of one library.
 struct Library {
@@ -60,8 +62,11 @@ fn main() -> ExitCode {
                     }
                 })
         }
-        [folder] => measure(Path::new(folder)),
-        _ => Err("bench FOLDER, or bench calls N".to_string()),
+        [folder] => measure(Path::new(folder), None),
+        [folder, earlier] => fs::read_to_string(earlier)
+            .map_err(|error| format!("{earlier}: {error}"))
+            .and_then(|earlier| measure(Path::new(folder), Some(&earlier))),
+        _ => Err("bench FOLDER [EARLIER], or bench calls N".to_string()),
     };
     match done {
         Ok(()) => ExitCode::SUCCESS,
@@ -92,22 +97,26 @@ impl Library {
         (number, buffer)
     }
 
-    /// Calls a second, by the fastest of many rounds over all calls: another load on the machine
+    /// Calls a second, by the fastest time of each call in many rounds: another load on the machine
     /// then shows least.
     fn speed(&self, calls: &[Measured]) -> f64 {
         let start = Instant::now();
-        let mut fastest = f64::INFINITY;
-        while start.elapsed() < TIMED {
-            let round = Instant::now();
-            calls.iter().for_each(|call| drop(self.answer(call)));
-            fastest = fastest.min(round.elapsed().as_secs_f64());
+        let mut fastest = vec![f64::INFINITY; calls.len()];
+        let mut rounds = 0;
+        while rounds < ROUNDS || start.elapsed() < TIMED {
+            rounds += 1;
+            for (call, fastest) in calls.iter().zip(&mut fastest) {
+                let one = Instant::now();
+                self.answer(call);
+                *fastest = fastest.min(one.elapsed().as_secs_f64());
+            }
         }
-        calls.len() as f64 / fastest
+        calls.len() as f64 / fastest.iter().sum::<f64>()
     }
 }
 
 /// Times each case alone, then counts two cases at a time.
-fn measure(folder: &Path) -> Result<(), String> {
+fn measure(folder: &Path, earlier: Option<&str>) -> Result<(), String> {
     let cases = cases();
     let mut figures: Vec<Figures> = Vec::new();
     for (number, case) in cases.iter().enumerate() {
@@ -148,9 +157,12 @@ fn measure(folder: &Path) -> Result<(), String> {
         figures.instructions = counts;
     }
     eprintln!();
-    print_table(&cases, &figures);
+    let rows: Vec<Vec<String>> = cases.iter().zip(&figures).map(row).collect();
+    print_table(&rows);
     print_largest(&cases, &figures);
-    print_summary(&cases, &figures);
+    if let Some(earlier) = earlier {
+        print_changes(earlier, &rows);
+    }
     Ok(())
 }
 
@@ -254,24 +266,64 @@ fn grouped(number: u64) -> String {
     text
 }
 
-fn print_table(cases: &[Case], figures: &[Figures]) {
-    println!("| Rate | Doubt | Frames | Instructions, mean | largest | Multiplications, mean | largest | Frames/s, proved | reference |");
-    println!("|---|---|---|---|---|---|---|---|---|");
-    for (case, figures) in cases.iter().zip(figures) {
-        let doubt = case
-            .doubt()
-            .map_or(String::new(), |doubt| doubt.to_string());
-        println!(
-            "| {} | {doubt} | {} | {} | {} | {} | {} | {} | {} |",
-            case.rate,
-            case.name(),
-            grouped(mean(&figures.instructions)),
-            grouped(largest(&figures.instructions)),
-            grouped(mean(&figures.multiplications)),
-            grouped(largest(&figures.multiplications)),
-            grouped(figures.speeds[0].round() as u64),
-            grouped(figures.speeds[1].round() as u64),
-        );
+/// The cells of a case.
+fn row((case, figures): (&Case, &Figures)) -> Vec<String> {
+    let doubt = case.doubt().map(|doubt| doubt.to_string());
+    vec![
+        case.rate.to_string(),
+        doubt.unwrap_or_default(),
+        case.name(),
+        grouped(mean(&figures.instructions)),
+        grouped(largest(&figures.instructions)),
+        grouped(mean(&figures.multiplications)),
+        grouped(largest(&figures.multiplications)),
+        grouped(figures.speeds[0].round() as u64),
+        grouped(figures.speeds[1].round() as u64),
+    ]
+}
+
+const HEADINGS: [&str; 9] = [
+    "Rate",
+    "Doubt",
+    "Frames",
+    "Instructions, mean",
+    "largest",
+    "Multiplications, mean",
+    "largest",
+    "Frames/s, proved",
+    "reference",
+];
+
+fn print_table(rows: &[Vec<String>]) {
+    println!("| {} |", HEADINGS.join(" | "));
+    println!("|{}", "---|".repeat(HEADINGS.len()));
+    for row in rows {
+        println!("| {} |", row.join(" | "));
+    }
+}
+
+/// Means and speeds of an earlier run beside those of this one, case by case.
+fn print_changes(earlier: &str, rows: &[Vec<String>]) {
+    println!();
+    println!("| Rate | Doubt | Frames | Instructions, before | after | largest, before | after | Multiplications, before | after | Frames/s, before | after |");
+    println!("|{}", "---|".repeat(11));
+    let cells = |line: &str| -> Vec<String> {
+        let line = line.trim().trim_matches('|');
+        line.split('|')
+            .map(|cell| cell.trim().to_string())
+            .collect()
+    };
+    let before: Vec<Vec<String>> = earlier.lines().map(cells).collect();
+    for row in rows {
+        let same = |other: &&Vec<String>| other.len() == row.len() && other[..3] == row[..3];
+        let Some(old) = before.iter().find(same) else {
+            continue;
+        };
+        let mut line = row[..3].to_vec();
+        for column in [3, 4, 5, 7] {
+            line.extend([old[column].clone(), row[column].clone()]);
+        }
+        println!("| {} |", line.join(" | "));
     }
 }
 
@@ -297,29 +349,6 @@ fn print_largest(cases: &[Case], figures: &[Figures]) {
             "Largest frame at rate {rate}: {} instructions (doubt {doubt}, {}).",
             grouped(largest(&figures.instructions)),
             case.name()
-        );
-    }
-}
-
-/// One line a rate: by doubt, the mean over all frames of that doubt; then the largest frame.
-fn print_summary(cases: &[Case], figures: &[Figures]) {
-    println!();
-    println!("| Rate | Doubt 0 | Doubt 3 | Doubt 6 | Doubt 8 | Largest |");
-    println!("|---|---|---|---|---|---|");
-    for rate in RATES {
-        let of = |doubt: usize| {
-            let counts = tables(cases, figures, rate).filter(|(_, _, with)| *with == doubt);
-            let all: Vec<u64> = counts
-                .flat_map(|(_, f, _)| f.instructions.clone())
-                .collect();
-            grouped(mean(&all))
-        };
-        let most =
-            tables(cases, figures, rate).map(|(_, figures, _)| largest(&figures.instructions));
-        println!(
-            "| {rate} | {} | {} |",
-            DOUBTS.map(of).join(" | "),
-            grouped(most.max().unwrap_or(0))
         );
     }
 }

@@ -1,0 +1,150 @@
+//! A channel for simulations: BPSK over white Gaussian noise, and columns from the demapper's bit
+//! values.
+//!
+//! - [`Channel`], [`Channel::at`]: the noise of a rate at an Eb/N0.
+//! - [`Channel::column`]: what is received of one symbol.
+//! - [`column_of_bits`]: a column from four signed bytes.
+//! - [`Channel::beyond`]: how likely more than T symbols are wrong, computed.
+
+use crate::curve::PLACES;
+use crate::field::SYMBOLS;
+use crate::random::Random;
+use crate::soft::Column;
+
+/// The bit value of a noiseless bit: values then reach four times as far as it.
+const STEPS: f64 = 32.0;
+
+/// Bits of a symbol.
+const BITS: usize = 4;
+
+/// White Gaussian noise on a signal of ±1.
+#[derive(Clone, Copy, Debug)]
+pub struct Channel {
+    deviation: f64,
+}
+
+impl Channel {
+    /// The channel of k message symbols in 64 at an Eb/N0 in decibels.
+    pub fn at(rate: u64, decibels: f64) -> Channel {
+        let per_bit = 10f64.powf(decibels / 10.0) * rate as f64 / PLACES as f64;
+        Channel {
+            deviation: (0.5 / per_bit).sqrt(),
+        }
+    }
+
+    /// A symbol's bits are sent highest first, bit 0 as +1 and bit 1 as −1; each comes with noise and
+    /// is rounded to a signed byte.
+    pub fn column(&self, symbol: u8, random: &mut Random) -> Column {
+        let value = |bit: usize| {
+            let sent = if symbol >> (BITS - 1 - bit) & 1 == 0 {
+                1.0
+            } else {
+                -1.0
+            };
+            let received: f64 = sent + self.deviation * normal(random);
+            (STEPS * received).round().clamp(-128.0, 127.0) as i8
+        };
+        column_of_bits(std::array::from_fn(value))
+    }
+
+    /// The chance that more than `reach` of the 64 symbols have a wrong bit.
+    pub fn beyond(&self, reach: usize) -> f64 {
+        let bit = upper_tail(1.0 / self.deviation);
+        let symbol = 1.0 - (1.0 - bit).powi(BITS as i32);
+        let mut term = (1.0 - symbol).powi(PLACES as i32);
+        let mut within = term;
+        for wrong in 1..=reach {
+            let ways = (PLACES - wrong + 1) as f64 / wrong as f64;
+            term *= ways * symbol / (1.0 - symbol);
+            within += term;
+        }
+        1.0 - within
+    }
+}
+
+/// Four signed bytes, highest bit first, a positive one favouring bit 0: the cost of a symbol sums
+/// the magnitudes of those whose favoured bit it contradicts.
+pub fn column_of_bits(values: [i8; BITS]) -> Column {
+    let cost = |symbol: usize| {
+        let contradicted = |bit: &usize| {
+            let one = symbol >> (BITS - 1 - *bit) & 1 == 1;
+            if one {
+                values[*bit] > 0
+            } else {
+                values[*bit] < 0
+            }
+        };
+        let magnitudes = (0..BITS).filter(contradicted);
+        magnitudes
+            .map(|bit| u16::from(values[bit].unsigned_abs()))
+            .sum()
+    };
+    std::array::from_fn::<u16, SYMBOLS, _>(cost)
+}
+
+/// A normal number, by Box and Muller.
+fn normal(random: &mut Random) -> f64 {
+    let unit = |number: u64| ((number >> 11) as f64 + 0.5) / (1u64 << 53) as f64;
+    let radius = (-2.0 * unit(random.number()).ln()).sqrt();
+    radius * (std::f64::consts::TAU * unit(random.number())).cos()
+}
+
+/// The chance that a normal number is above `from`, by Simpson's rule.
+fn upper_tail(from: f64) -> f64 {
+    const PARTS: usize = 2000;
+    let density = |x: f64| (-x * x / 2.0).exp() / std::f64::consts::TAU.sqrt();
+    let width = 12.0 / PARTS as f64;
+    let weight = |part: usize| match part {
+        0 | PARTS => 1.0,
+        part if part % 2 == 1 => 4.0,
+        _ => 2.0,
+    };
+    let sum: f64 = (0..=PARTS)
+        .map(|part| weight(part) * density(from + width * part as f64))
+        .sum();
+    sum * width / 3.0
+}
+
+#[cfg(test)]
+mod tests {
+    use super::*;
+    use crate::soft::{best, gap, second};
+
+    #[test]
+    fn columns_sum_contradicted_magnitudes() {
+        let column = column_of_bits([-128, 100, 3, 0]);
+        assert_eq!(column[0b1000], 0);
+        assert_eq!(column[0b1001], 0);
+        assert_eq!(column[0b1010], 3);
+        assert_eq!(column[0b0111], 128 + 100 + 3);
+        assert_eq!((best(&column), second(&column), gap(&column)), (8, 9, 0));
+        assert_eq!(column_of_bits([0; 4]), [0; 16]);
+        assert_eq!(column_of_bits([-128; 4])[0], 512);
+    }
+
+    #[test]
+    fn tails_and_normal_numbers_fit() {
+        assert!((upper_tail(0.0) - 0.5).abs() < 1e-9);
+        assert!((upper_tail(1.0) - 0.158_655_254).abs() < 1e-8);
+        assert!((upper_tail(3.0) - 0.001_349_898).abs() < 1e-8);
+        let mut random = Random::new(50, 0);
+        let numbers: Vec<f64> = (0..100_000).map(|_| normal(&mut random)).collect();
+        let above = numbers.iter().filter(|number| **number > 1.0).count();
+        assert!((15_400..16_300).contains(&above), "{above}");
+    }
+
+    #[test]
+    fn wrong_symbols_come_as_often_as_computed() {
+        let channel = Channel::at(39, 3.0);
+        let mut random = Random::new(51, 0);
+        let mut frame = || {
+            let wrong = (0..PLACES).filter(|_| {
+                let symbol = random.symbol();
+                best(&channel.column(symbol, &mut random)) != symbol
+            });
+            wrong.count() > 6
+        };
+        let beyond = (0..4000).filter(|_| frame()).count() as f64 / 4000.0;
+        assert!((beyond - channel.beyond(6)).abs() < 0.03, "{beyond}");
+    }
+}

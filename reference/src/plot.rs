@@ -1,0 +1,222 @@
+//! Curves of rates over decibels as an SVG drawing with a logarithmic axis.
+//!
+//! - [`Curve`]: its name and points; those of rate zero are left out of the drawing.
+//! - [`draw`]: the drawing.
+
+use std::fmt::Write;
+
+/// One curve.
+pub struct Curve {
+    name: String,
+    points: Vec<(f64, f64)>,
+    measured: bool,
+}
+
+impl Curve {
+    /// A curve whose points are marked.
+    pub fn measured(name: String) -> Curve {
+        Curve {
+            name,
+            points: Vec::new(),
+            measured: true,
+        }
+    }
+
+    /// A dashed curve without marks.
+    pub fn computed(name: String) -> Curve {
+        Curve {
+            measured: false,
+            ..Curve::measured(name)
+        }
+    }
+
+    pub fn add(&mut self, decibels: f64, rate: f64) {
+        self.points.push((decibels, rate));
+    }
+}
+
+const WIDTH: f64 = 760.0;
+const HEIGHT: f64 = 520.0;
+const LEFT: f64 = 80.0;
+const RIGHT: f64 = 740.0;
+const TOP: f64 = 50.0;
+const BOTTOM: f64 = 460.0;
+
+/// The axis goes down to 10 to the minus so much.
+const DECADES: i32 = 4;
+
+/// A line so many decibels apart.
+const GRID: f64 = 0.5;
+
+/// Colours that the colour-blind tell apart, by curve.
+const COLOURS: [&str; 5] = ["#000000", "#0072b2", "#009e73", "#d55e00", "#999999"];
+
+/// Where decibels and rates stand.
+struct Axes {
+    low: f64,
+    high: f64,
+}
+
+impl Axes {
+    fn x(&self, decibels: f64) -> f64 {
+        LEFT + (RIGHT - LEFT) * (decibels - self.low) / (self.high - self.low)
+    }
+
+    fn y(&self, rate: f64) -> f64 {
+        TOP + (BOTTOM - TOP) * -rate.log10() / f64::from(DECADES)
+    }
+}
+
+/// The curves, with a title.
+pub fn draw(title: &str, curves: &[Curve]) -> String {
+    let decibels = || {
+        curves
+            .iter()
+            .flat_map(|curve| &curve.points)
+            .map(|point| point.0)
+    };
+    let axes = Axes {
+        low: (decibels().fold(f64::INFINITY, f64::min) / GRID).floor() * GRID,
+        high: (decibels().fold(f64::NEG_INFINITY, f64::max) / GRID).ceil() * GRID,
+    };
+    let mut out = format!(
+        "<svg xmlns=\"http://www.w3.org/2000/svg\" viewBox=\"0 0 {WIDTH} {HEIGHT}\" width=\"{WIDTH}\" height=\"{HEIGHT}\" \
+         font-family=\"sans-serif\" font-size=\"14\">\n\
+         <rect width=\"{WIDTH}\" height=\"{HEIGHT}\" fill=\"#ffffff\"/>\n\
+         <text x=\"{LEFT}\" y=\"30\" font-size=\"17\">{title}</text>\n"
+    );
+    grid(&mut out, &axes);
+    for (number, curve) in curves.iter().enumerate() {
+        line(&mut out, &axes, curve, COLOURS[number % COLOURS.len()]);
+    }
+    legend(&mut out, curves);
+    out.push_str("</svg>\n");
+    out
+}
+
+/// Appends one line of SVG.
+fn put(out: &mut String, line: std::fmt::Arguments) {
+    writeln!(out, "{line}").expect("a string takes all");
+}
+
+fn grid(out: &mut String, axes: &Axes) {
+    for decade in 0..=DECADES {
+        let y = axes.y(10f64.powi(-decade));
+        put(
+            out,
+            format_args!("<path d=\"M{LEFT} {y:.1}H{RIGHT}\" stroke=\"#bbbbbb\"/>"),
+        );
+        let name = if decade == 0 {
+            "1".to_string()
+        } else {
+            format!("10<tspan dy=\"-6\" font-size=\"10\">−{decade}</tspan>")
+        };
+        put(
+            out,
+            format_args!(
+                "<text x=\"{}\" y=\"{:.1}\" text-anchor=\"end\">{name}</text>",
+                LEFT - 8.0,
+                y + 5.0
+            ),
+        );
+        for part in (2..10).filter(|_| decade < DECADES) {
+            let y = axes.y(f64::from(part) * 10f64.powi(-decade - 1));
+            put(
+                out,
+                format_args!("<path d=\"M{LEFT} {y:.1}H{RIGHT}\" stroke=\"#eeeeee\"/>"),
+            );
+        }
+    }
+    let mut decibels = axes.low;
+    while decibels <= axes.high {
+        let x = axes.x(decibels);
+        put(
+            out,
+            format_args!("<path d=\"M{x:.1} {TOP}V{BOTTOM}\" stroke=\"#dddddd\"/>"),
+        );
+        put(
+            out,
+            format_args!(
+                "<text x=\"{x:.1}\" y=\"{}\" text-anchor=\"middle\">{decibels}</text>",
+                BOTTOM + 20.0
+            ),
+        );
+        decibels += GRID;
+    }
+    put(
+        out,
+        format_args!(
+            "<text x=\"{}\" y=\"{}\" text-anchor=\"middle\">Eb/N0 in dB</text>",
+            (LEFT + RIGHT) / 2.0,
+            BOTTOM + 45.0
+        ),
+    );
+    let middle = (TOP + BOTTOM) / 2.0;
+    put(out, format_args!("<text x=\"24\" y=\"{middle}\" text-anchor=\"middle\" transform=\"rotate(-90 24 {middle})\">frame error rate</text>"));
+    put(out, format_args!("<rect x=\"{LEFT}\" y=\"{TOP}\" width=\"{}\" height=\"{}\" fill=\"none\" stroke=\"#444444\"/>", RIGHT - LEFT, BOTTOM - TOP));
+}
+
+fn line(out: &mut String, axes: &Axes, curve: &Curve, colour: &str) {
+    let least = 10f64.powi(-DECADES);
+    let shown = curve.points.iter().filter(|(_, rate)| *rate >= least);
+    let points: Vec<(f64, f64)> = shown
+        .map(|(decibels, rate)| (axes.x(*decibels), axes.y(*rate)))
+        .collect();
+    let path: Vec<String> = points
+        .iter()
+        .map(|(x, y)| format!("{x:.1},{y:.1}"))
+        .collect();
+    let dashes = if curve.measured {
+        ""
+    } else {
+        " stroke-dasharray=\"5 4\""
+    };
+    put(out, format_args!("<polyline points=\"{}\" fill=\"none\" stroke=\"{colour}\" stroke-width=\"2\"{dashes}/>", path.join(" ")));
+    for (x, y) in points.iter().filter(|_| curve.measured) {
+        put(
+            out,
+            format_args!("<circle cx=\"{x:.1}\" cy=\"{y:.1}\" r=\"3.5\" fill=\"{colour}\"/>"),
+        );
+    }
+}
+
+/// In the lower left corner, which the curves leave free.
+fn legend(out: &mut String, curves: &[Curve]) {
+    let height = 22.0 * curves.len() as f64 + 12.0;
+    let (left, top) = (LEFT + 12.0, BOTTOM - 12.0 - height);
+    put(out, format_args!("<rect x=\"{left}\" y=\"{top}\" width=\"350\" height=\"{height}\" fill=\"#ffffff\" stroke=\"#bbbbbb\"/>"));
+    for (number, curve) in curves.iter().enumerate() {
+        let y = top + 17.0 + 22.0 * number as f64;
+        let colour = COLOURS[number % COLOURS.len()];
+        let dashes = if curve.measured {
+            ""
+        } else {
+            " stroke-dasharray=\"5 4\""
+        };
+        put(
+            out,
+            format_args!(
+                "<path d=\"M{} {y}h34\" stroke=\"{colour}\" stroke-width=\"2\"{dashes}/>",
+                left + 10.0
+            ),
+        );
+        if curve.measured {
+            put(
+                out,
+                format_args!(
+                    "<circle cx=\"{}\" cy=\"{y}\" r=\"3.5\" fill=\"{colour}\"/>",
+                    left + 27.0
+                ),
+            );
+        }
+        put(
+            out,
+            format_args!(
+                "<text x=\"{}\" y=\"{}\">{}</text>",
+                left + 54.0,
+                y + 5.0,
+                curve.name
+            ),
+        );
+    }
+}
