@@ -44,6 +44,12 @@
 //! cargo run --offline --release --bin compare -- run OCDRWXL 1 3000 PROGRAM
 //! MODEM_LIB_DIR=.. cargo run --offline --release --features proved --bin compare -- code 1 20000
 //! ```
+//!
+//! # Measuring
+//!
+//! Two binaries want the feature `proved` and are started by scripts: `bench` by `bench/run`, on the
+//! calls of [`measured`], and `error_rates` by `bench/error-rates`, which sends codewords through a
+//! [`channel`] and draws curves ([`plot`]).
 
 pub mod call_lists;
 pub mod calls;
