@@ -20,3 +20,4 @@ pub mod Calls
 pub mod OpeningLaws
 pub mod Sentences
 pub mod Table
+pub mod Repairs

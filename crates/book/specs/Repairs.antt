@@ -1,0 +1,350 @@
+-- What closing and table decoding make of a message that was sent: when they give it back, and when they give nothing dearer.
+--
+--   Offered columns p s  the symbol s is the best or the second symbol of place p
+--   chosen-test          whichever of the two is chosen at each doubtful place, a test word has the chosen ones
+--   wrongOf n columns doubtful word   the wrong places: settled ones, of n, at which the word's symbol is not the best symbol
+--   FewWrong k columns doubtful T m   m is a message; at each doubtful place its codeword has the best or the second symbol, and at most T settled
+--                        places are wrong
+--   few-near             so its codeword is near
+--   notBest k columns m  at how many of the 64 places the codeword of m has not the best symbol; not-best-changed: the changed places of its report
+--   Repaired k columns doubtful m c   the call accepts and gives the message m with its report
+--   NoDearer k columns doubtful m c   the call accepts; the total of what it gives is at most that of m, and where the totals are equal the message
+--                        given is m or smaller
+--   near-answered, near-dearer   where a codeword is near there is an answer, and the codeword is the answer's or dearer
+--   only-near            the only near codeword: closing gives its message
+--   always-repaired      no doubtful places, and at most T places at which the sent symbol is not the best symbol: closing gives the message sent
+--   always-found         few wrong places: closing never says 'none near', and gives the message sent or one that is no dearer
+--   table-repaired       table decoding with doubt 0 gives the message sent where at most T of its symbols are not the best symbols
+--   table-found          with a doubt of at most 8 it never says 'none near' where few places are wrong by the doubtful places picked
+--
+-- From here to the code: the contract of `close` is `Closing` in `session`, whose number, message and report are those of `closeOf` of the session's
+-- book; the contract of `decode_table` is `tableOf`. `closes-only`, `closes-repaired` and `closes-found` are the same of whatever answers as closing
+-- does (`Closes`), so also of closing after any list of calls.
+use mathlib.Core.Bool.{Bool, true, false, not, _&&_, _||_, true≢false, false≢true}
+use mathlib.Core.Path.{_≡_, refl, sym, ap, _∙_, subst}
+use mathlib.Core.List.{List, [], _∷_, List·Memᴰ, List·Memᴰ·head, List·Memᴰ·tail, List·Memᴰ·cases-cons, List·Memᴰ·not-nil, List·Memᴰ·eq-of-singleton, Memᴰ·append-left, Memᴰ·append-right}
+use mathlib.Core.Logic.{_≢_, _⊎_, inl, inr, ⊎-elim}
+use Prim.Native.Nat.{ℕ, _<_, _≤_}
+use native.Mathlib.Decide.{ℕ-discrete}
+use native.Mathlib.Omega.{arith}
+use lib.Dec.{T as Holds, eqb, le→leb}
+use lib.ListN.{length, getD, set, length-set}
+use lib.Seq.{getD-set-same, getD-set-other}
+use borrow.Author.Tests.{eqb-true}
+use Rattle.refusals.specs.Refusal.{accepted}
+use Rattle.lists.specs.Count.{count, count-mono}
+use Rattle.lists.specs.Distinct.{among, among-member, below, distinct}
+use Rattle.lists.specs.Listed.{listed, listed-length}
+use Rattle.lists.specs.Words.{Word, Lex, lex-or, lex-asym}
+use Rattle.lists.specs.Answers.{Found}
+use Rattle.soft.specs.TestWord.{bestAt, secondAt, bestWord, expand, testWords}
+use Rattle.soft.specs.TestWordLaws.{expand-nil, expand-cons, testWords-length, testWords-settled, bestWord-length}
+use Rattle.soft.specs.Total.{symbolAt, changedAt, changedOf, totalOf, differAt, differing}
+use Rattle.soft.specs.TotalLaws.{agree-true, changed-differing}
+use Rattle.soft.specs.Doubt.{mostDoubt}
+use Rattle.soft.specs.DoubtLaws.{doubtful-none}
+use Rattle.code.specs.Encoding.{encodeOf, valueAt}
+use Rattle.near.specs.Near.{reachOf, nearTo}
+use Rattle.near.specs.Reach.{Workable}
+use Rattle.near.specs.Codeword.{near-one}
+use Rattle.book.specs.Book.{places, Entry, Book}
+use Rattle.book.specs.Columns.{columnsOf}
+use Rattle.book.specs.Entries.{Missing, missing-none}
+use Rattle.book.specs.Closing.{reportLength, Closed, reportFor, closeOf}
+use Rattle.book.specs.OpeningLaws.{Rate, rate-39, rate-49, rate-known, rate-reach}
+use Rattle.book.specs.Sentences.{testsOf, totalFor, IsNear, Dearer, IsAnswer, Closes, closes}
+use Rattle.book.specs.Table.{tableLength, tableColumns, pickedOf, tableOf, Delivered, delivered-columns, delivered-none-missing, table-as-session, entriesOf, order-delivered}
+
+-- ---- a test word by its symbols at the doubtful places
+
+abbrev pub Offered : (ℕ → List ℕ) → ℕ → ℕ → Type 0
+Offered columns p s = (s ≡ bestAt columns p) ⊎ (s ≡ secondAt columns p)
+
+module _ (columns : ℕ → List ℕ) (symbol : ℕ → ℕ) where
+  -- what is chosen already stays chosen
+  set-chosen : (word : List ℕ) (q p : ℕ) → p < length word → (p ≡ q) ⊎ (getD word p 0 ≡ symbol p) → getD (set word q (symbol q)) p 0 ≡ symbol p
+  set-chosen word q p l c = go (ℕ-discrete p q) c
+    where
+      go : Dec (p ≡ q) → (p ≡ q) ⊎ (getD word p 0 ≡ symbol p) → getD (set word q (symbol q)) p 0 ≡ symbol p
+      go (yes e) d =
+          ap (λ j. getD (set word q (symbol q)) j 0) e ∙ getD-set-same word q (symbol q) 0 (subst (λ j. j < length word) e l) ∙ ap symbol (sym e)
+      go (no e) (inl f) = absurd (e f)
+      go (no e) (inr f) = getD-set-other word q p (symbol q) 0 e ∙ f
+
+  -- one doubtful place more, in the first branch of the tree or in the second
+  branch : (word : List ℕ) (q : ℕ) (ps t : List ℕ) → Offered columns q (symbol q) → List·Memᴰ t (expand columns (set word q (symbol q)) ps)
+      → List·Memᴰ t (expand columns word (q ∷ ps))
+  branch word q ps t (inl e) m =
+      subst (List·Memᴰ t) (sym (expand-cons columns word q ps))
+      (Memᴰ·append-left (expand columns (set word q (secondAt columns q)) ps) (subst (λ x. List·Memᴰ t (expand columns (set word q x) ps)) e m))
+  branch word q ps t (inr e) m =
+      subst (List·Memᴰ t) (sym (expand-cons columns word q ps))
+      (Memᴰ·append-right (expand columns (set word q (bestAt columns q)) ps) (subst (λ x. List·Memᴰ t (expand columns (set word q x) ps)) e m))
+
+  expand-chosen : (word ps : List ℕ) → ((p : ℕ) → List·Memᴰ p ps → Offered columns p (symbol p))
+      → (t : List ℕ) × List·Memᴰ t (expand columns word ps)
+      × ((p : ℕ) → p < length word → List·Memᴰ p ps ⊎ (getD word p 0 ≡ symbol p) → getD t p 0 ≡ symbol p)
+  expand-chosen word [] h = (
+    word,
+    subst (List·Memᴰ word) (sym (expand-nil columns word)) (List·Memᴰ·head refl),
+    λ p l c. ⊎-elim (λ m. absurd (List·Memᴰ·not-nil m)) (λ e. e) c,
+  )
+  expand-chosen word (q ∷ ps) h =
+      let r = expand-chosen (set word q (symbol q)) ps (λ p m. h p (List·Memᴰ·tail m)) in (
+        r .0,
+        branch word q ps (r .0) (h q (List·Memᴰ·head refl)) (r .1),
+        λ p l c.
+            r .2 p (rw length-set l)
+            (⊎-elim
+            (λ m. ⊎-elim (λ e. inr (set-chosen word q p l (inl e))) (λ i. inl i) (List·Memᴰ·cases-cons m))
+            (λ e. inr (set-chosen word q p l (inr e)))
+            c),
+      )
+
+  pub chosen-test : (n : ℕ) (doubtful : List ℕ) → ((p : ℕ) → List·Memᴰ p doubtful → Offered columns p (symbol p))
+      → (t : List ℕ) × List·Memᴰ t (testWords n columns doubtful) × ((p : ℕ) → p < n → List·Memᴰ p doubtful → getD t p 0 ≡ symbol p)
+  unfolding testWords
+  chosen-test n doubtful h =
+      let r = expand-chosen (bestWord n columns) doubtful h in
+      (r .0, r .1, λ p l m. r .2 p (omega (arith, bestWord-length n columns)) (inl m))
+
+-- ---- few wrong places
+
+abbrev pub wrongAt : (ℕ → List ℕ) → List ℕ → List ℕ → ℕ → Bool
+wrongAt columns doubtful word p = not (among p doubtful) && changedAt columns word p
+
+unfoldable pub wrongOf : ℕ → (ℕ → List ℕ) → List ℕ → List ℕ → ℕ
+wrongOf n columns doubtful word = count n (wrongAt columns doubtful word)
+
+pub record FewWrong (k : ℕ) (columns : ℕ → List ℕ) (doubtful : List ℕ) (T : ℕ) (m : List ℕ) : Type 0 where
+  pub word : Word 16 k m
+  pub at-doubtful : (p : ℕ) → List·Memᴰ p doubtful → Offered columns p (symbolAt (encodeOf k m) p)
+  pub at-settled : wrongOf places columns doubtful (encodeOf k m) ≤ T
+
+among-there : (p : ℕ) (l : List ℕ) → among p l ≡ true → List·Memᴰ p l
+unfolding among
+among-there p [] a = absurd (false≢true a)
+among-there p (x ∷ l) a = go (eqb x p) refl a (among-there p l)
+  where
+    go : (b : Bool) → eqb x p ≡ b → (b || among p l) ≡ true → (among p l ≡ true → List·Memᴰ p l) → List·Memᴰ p (x ∷ l)
+    go true e f ih = List·Memᴰ·head (sym (eqb-true x p e))
+    go false e f ih = List·Memᴰ·tail (ih f)
+
+-- a test word with the word's symbols at the doubtful places differs from it at wrong places only
+module _ (n : ℕ) (columns : ℕ → List ℕ) (doubtful word t : List ℕ) (size : length word ≡ n) (m : List·Memᴰ t (testWords n columns doubtful))
+    (chosen : (p : ℕ) → p < n → List·Memᴰ p doubtful → getD t p 0 ≡ symbolAt word p) where
+  differ-wrong : (p : ℕ) → p < n → Holds (differAt word t p) → Holds (wrongAt columns doubtful word p)
+  differ-wrong p l d = go (among p doubtful) refl (eqb (symbolAt word p) (bestAt columns p)) refl
+    where
+      same : symbolAt word p ≡ symbolAt t p → ⊥
+      same e = subst Holds (ap not (agree-true word t p (omega arith) (omega (arith, testWords-length n columns doubtful t m)) e)) d
+
+      settled : among p doubtful ≡ false → List·Memᴰ p doubtful → ⊥
+      settled e i = true≢false (sym (among-member i) ∙ e)
+
+      go : (a : Bool) → among p doubtful ≡ a → (b : Bool) → eqb (symbolAt word p) (bestAt columns p) ≡ b → Holds (not a && not b)
+      go true e b f = absurd (same (sym (chosen p l (among-there p doubtful e))))
+      go false e true f =
+          absurd (same (eqb-true (symbolAt word p) (bestAt columns p) f ∙ sym (testWords-settled n columns doubtful t m p l (settled e))))
+      go false e false f = tt
+
+  differing-wrong : differing n word t ≤ wrongOf n columns doubtful word
+  unfolding differing wrongOf
+  differing-wrong = count-mono n (differAt word t) (wrongAt columns doubtful word) differ-wrong
+
+encode-length : (k : ℕ) (m : List ℕ) → length (encodeOf k m) ≡ places
+unfolding encodeOf
+encode-length k m = listed-length 64 (valueAt k m)
+
+abbrev pub FewWrongIn : Book → ℕ → List ℕ → Type 0
+FewWrongIn book = FewWrong (book .rate) (columnsOf (book .row)) (book .doubtful)
+
+pub few-near : (book : Book) (T : ℕ) (m : List ℕ) → FewWrongIn book T m → IsNear book T m
+unfolding testsOf
+few-near book T m few =
+    let columns = columnsOf (book .row) in
+    let sent = encodeOf (book .rate) m in
+    let r = chosen-test columns (symbolAt sent) places (book .doubtful) (few .at-doubtful) in
+    record {
+      word = few .word;
+      test = r .0;
+      tested = r .1;
+      few = omega (
+        arith,
+        few .at-settled,
+        differing-wrong places columns (book .doubtful) sent (r .0) (encode-length (book .rate) m) (r .1) (r .2),
+      );
+    }
+
+-- ---- what a call makes of it
+
+abbrev pub notBest : ℕ → (ℕ → List ℕ) → List ℕ → ℕ
+notBest k columns m = differing places (encodeOf k m) (bestWord places columns)
+
+pub not-best-changed : (k : ℕ) (columns : ℕ → List ℕ) (m : List ℕ) → changedOf places columns (encodeOf k m) ≡ notBest k columns m
+not-best-changed k columns m = changed-differing places columns (encodeOf k m) (encode-length k m)
+
+pub record Repaired (k : ℕ) (columns : ℕ → List ℕ) (doubtful m : List ℕ) (c : Closed) : Type 0 where
+  pub number : c .number ≡ accepted
+  pub message : c .message ≡ m
+  pub report : c .report ≡ reportFor k columns doubtful m
+
+pub record NoDearer (k : ℕ) (columns : ℕ → List ℕ) (doubtful m : List ℕ) (c : Closed) : Type 0 where
+  pub number : c .number ≡ accepted
+  pub total : totalOf places columns (encodeOf k (c .message)) ≤ totalOf places columns (encodeOf k m)
+  pub tie : totalOf places columns (encodeOf k (c .message)) ≡ totalOf places columns (encodeOf k m) → (c .message ≡ m) ⊎ Lex (c .message) m
+  pub report : c .report ≡ reportFor k columns doubtful (c .message)
+
+abbrev pub RepairedIn : Book → List ℕ → Closed → Type 0
+RepairedIn book = Repaired (book .rate) (columnsOf (book .row)) (book .doubtful)
+
+abbrev pub NoDearerIn : Book → List ℕ → Closed → Type 0
+NoDearerIn book = NoDearer (book .rate) (columnsOf (book .row)) (book .doubtful)
+
+-- two messages are equal or not
+equal-or : (m n : List ℕ) → (m ≡ n) ⊎ (n ≢ m)
+equal-or m n =
+    ⊎-elim (λ l. inr (λ e. lex-asym m m (subst (Lex m) e l) (subst (Lex m) e l)))
+    (⊎-elim (λ e. inl (sym e)) (λ l. inr (λ e. lex-asym m m (subst (λ x. Lex x m) e l) (subst (λ x. Lex x m) e l))))
+    (lex-or m n)
+
+workable : {k T : ℕ} → Rate k T → Workable k
+workable rate-39 = record { least = omega arith; most = omega arith }
+workable rate-49 = record { least = omega arith; most = omega arith }
+
+abbrev bestIn : Book → List ℕ
+bestIn book = bestWord places (columnsOf (book .row))
+
+-- where no place is doubtful, the word of best symbols is the only test word
+one-test : (book : Book) → book .doubtful ≡ [] → testsOf book ≡ bestIn book ∷ []
+unfolding testsOf testWords
+one-test book none = ap (expand (columnsOf (book .row)) (bestIn book)) none ∙ expand-nil (columnsOf (book .row)) (bestIn book)
+
+module _ {book : Book} {T : ℕ} {c : Closed} (sentences : Closes book T c) (full : (p : ℕ) → Missing (book .row) p → ⊥) where
+  -- where a codeword is near there is an answer,
+  pub near-answered : (m : List ℕ) → IsNear book T m → IsAnswer book T c
+  near-answered m near = sentences .otherwise full (λ e. sentences .none-near full .0 e m near)
+
+  -- and the codeword is the answer's or dearer
+  pub near-dearer : (m : List ℕ) → IsNear book T m → (c .message ≡ m) ⊎ Dearer book (c .message) m
+  near-dearer m near = ⊎-elim (λ e. inl e) (λ d. inr (near-answered m near .others m near d)) (equal-or (c .message) m)
+
+  pub closes-only : (m : List ℕ) → IsNear book T m → ((n : List ℕ) → IsNear book T n → n ≡ m) → RepairedIn book m c
+  closes-only m near only =
+      let a = near-answered m near in
+      let e : c .message ≡ m = only (c .message) (a .near) in
+      record {
+        number = a .number;
+        message = e;
+        report = a .report ∙ ap (reportFor (book .rate) (columnsOf (book .row)) (book .doubtful)) e;
+      }
+
+  pub closes-found : (m : List ℕ) → FewWrongIn book T m → NoDearerIn book m c
+  unfolding totalFor
+  closes-found m few =
+      let near = few-near book T m few in
+      let a = near-answered m near in
+      record {
+        number = a .number;
+        total = total (near-dearer m near);
+        tie = tie (near-dearer m near);
+        report = a .report;
+      }
+    where
+      cost : List ℕ → ℕ
+      cost n = totalOf places (columnsOf (book .row)) (encodeOf (book .rate) n)
+
+      Outcome : Type 0
+      Outcome = (c .message ≡ m) ⊎ ((cost (c .message) < cost m) ⊎ ((cost (c .message) ≡ cost m) × Lex (c .message) m))
+
+      total : Outcome → cost (c .message) ≤ cost m
+      total (inl e) = omega (arith, ap cost e)
+      total (inr (inl l)) = omega arith
+      total (inr (inr r)) = omega (arith, r .0)
+
+      tie : Outcome → cost (c .message) ≡ cost m → (c .message ≡ m) ⊎ Lex (c .message) m
+      tie (inl e) q = inl e
+      tie (inr (inl l)) q = absurd (omega arith)
+      tie (inr (inr r)) q = inr (r .1)
+
+  module _ (rate : Rate (book .rate) T) (none-doubtful : book .doubtful ≡ []) where
+    -- near the only test word
+    near-best : (n : List ℕ) → IsNear book T n → Found 16 (book .rate) (nearTo (book .rate) (bestIn book)) n
+    unfolding nearTo
+    near-best n near =
+        let e : near .test ≡ bestIn book = List·Memᴰ·eq-of-singleton (subst (List·Memᴰ (near .test)) (one-test book none-doubtful) (near .tested)) in
+        record {
+          word = near .word;
+          passed =
+              le→leb (differing places (encodeOf (book .rate) n) (bestIn book)) (reachOf (book .rate))
+              (omega (arith, near .few, ap (differing places (encodeOf (book .rate) n)) e, rate-reach rate));
+        }
+
+    pub closes-repaired : (m : List ℕ) → Word 16 (book .rate) m → notBest (book .rate) (columnsOf (book .row)) m ≤ T → RepairedIn book m c
+    closes-repaired m word few =
+        let near : IsNear book T m =
+        record {
+          word = word;
+          test = bestIn book;
+          tested = subst (List·Memᴰ (bestIn book)) (sym (one-test book none-doubtful)) (List·Memᴰ·head refl);
+          few = few;
+        } in
+        closes-only m near (λ n other. near-one (workable rate) (bestIn book) (near-best n other) (near-best m near))
+
+-- ---- closing
+
+module _ (book : Book) {T : ℕ} (rate : Rate (book .rate) T) (full : (p : ℕ) → Missing (book .row) p → ⊥) (message report : List ℕ)
+    (long : length message ≡ book .rate) (eight : length report ≡ reportLength) (m : List ℕ) where
+  pub only-near : IsNear book T m → ((n : List ℕ) → IsNear book T n → n ≡ m) → RepairedIn book m (closeOf book message report)
+  only-near = closes-only (closes rate message report long eight) full m
+
+  pub always-repaired : book .doubtful ≡ [] → Word 16 (book .rate) m → notBest (book .rate) (columnsOf (book .row)) m ≤ T
+      → RepairedIn book m (closeOf book message report)
+  always-repaired none-doubtful = closes-repaired (closes rate message report long eight) full rate none-doubtful m
+
+  pub always-found : FewWrongIn book T m → NoDearerIn book m (closeOf book message report)
+  always-found = closes-found (closes rate message report long eight) full m
+
+-- ---- table decoding
+
+-- the table's columns delivered in the order of their places
+inOrder : List ℕ → List Entry
+inOrder table = entriesOf (tableColumns table) (listed 64 (λ p. p))
+
+in-order : (table : List ℕ) → Delivered table (inOrder table)
+unfolding inOrder listed distinct below among
+in-order table = order-delivered table (listed 64 (λ p. p)) refl refl refl
+
+none-picked : (table : List ℕ) → pickedOf table 0 ≡ []
+unfolding pickedOf
+none-picked table = doubtful-none places (tableColumns table)
+
+module _ {rate T : ℕ} (known : Rate rate T) (table : List ℕ) (whole : length table ≡ tableLength) (message report : List ℕ)
+    (long : length message ≡ rate) (eight : length report ≡ reportLength) (m : List ℕ) where
+  full : (p : ℕ) → Missing (inOrder table) p → ⊥
+  full = missing-none (inOrder table) (delivered-none-missing table (inOrder table) (in-order table))
+
+  columns : columnsOf (inOrder table) ≡ tableColumns table
+  columns = delivered-columns table (inOrder table) (in-order table)
+
+  session : (doubt : ℕ) → doubt ≤ mostDoubt
+      → closeOf (record { rate = rate; doubtful = pickedOf table doubt; row = inOrder table }) message report ≡ tableOf rate table doubt message report
+  session doubt few = sym (table-as-session rate table doubt (rate-known known) whole few (inOrder table) (in-order table) message report)
+
+  pub table-repaired : Word 16 rate m → notBest rate (tableColumns table) m ≤ T
+      → Repaired rate (tableColumns table) [] m (tableOf rate table 0 message report)
+  table-repaired word few =
+      subst (λ list. Repaired rate (tableColumns table) list m (tableOf rate table 0 message report)) (none-picked table)
+      (subst (λ c. Repaired rate c (pickedOf table 0) m (tableOf rate table 0 message report)) columns
+      (subst (Repaired rate (columnsOf (inOrder table)) (pickedOf table 0) m) (session 0 (omega arith))
+      (always-repaired (record { rate = rate; doubtful = pickedOf table 0; row = inOrder table }) known full message report long eight m
+      (none-picked table) word
+      (subst (λ c. notBest rate c m ≤ T) (sym columns) few))))
+
+  pub table-found : (doubt : ℕ) → doubt ≤ mostDoubt → FewWrong rate (tableColumns table) (pickedOf table doubt) T m
+      → NoDearer rate (tableColumns table) (pickedOf table doubt) m (tableOf rate table doubt message report)
+  table-found doubt most few =
+      subst (λ c. NoDearer rate c (pickedOf table doubt) m (tableOf rate table doubt message report)) columns
+      (subst (NoDearer rate (columnsOf (inOrder table)) (pickedOf table doubt) m) (session doubt most)
+      (always-found (record { rate = rate; doubtful = pickedOf table doubt; row = inOrder table }) known full message report long eight m
+      (subst (λ c. FewWrong rate c (pickedOf table doubt) T m) (sym columns) few)))
