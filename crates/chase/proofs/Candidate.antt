@@ -35,6 +35,7 @@ use Rattle.chase.specs.declared.Answer.the-variants.{NoneNear, Near}
 use Rattle.chase.specs.declared.Found.{Found as Answered}
 use Rattle.chase.specs.Nearest.{Nearest}
 use Rattle.chase.specs.Searching.{symbolIn, Ranged, Held, LeafOf}
+use Rattle.chase.specs.Known.{Sound}
 open Field K16 using (𝟘)
 
 pub workable : {k : ℕ} → Ranged k → Workable k
@@ -146,8 +147,19 @@ module _ {k : ℕ} (rate : Ranged k) (columns : ℕ → List ℕ) (word row func
             nearest-none f e n (one-count none c) (answer-one (workable rate) columns word ∙ c);
       }
 
-  pub leaf-some : (total : ℕ) → total ≡ totalOf 64 columns codeword → d ≤ (52 - k) / 2
-      → LeafOf k columns word row (record { answer = Near total; message = message; tests = 1 })
+  abbrev answered : ℕ → Answered
+  answered total = record { answer = Near total; message = message; codeword = codeword; tests = 1 }
+
+  pub leaf-sound : (total : ℕ) → total ≡ totalOf 64 columns codeword → Sound k columns (answered total)
+  unfolding messageCost candidate
+  leaf-sound total t-is =
+      record {
+        word = λ t e. subst (Word 16 k) (sym m-is) (candidate-word rate word row function divided);
+        encoded = λ t e. encoded;
+        cost = λ t e. let s : t ≡ total = cc in s ∙ t-is ∙ ap (totalOf 64 columns) encoded;
+      }
+
+  pub leaf-some : (total : ℕ) → total ≡ totalOf 64 columns codeword → d ≤ (52 - k) / 2 → LeafOf k columns word row (answered total)
   unfolding nearTo reachOf mOf candidate messageCost
   leaf-some total t-is close =
       record {
@@ -156,7 +168,7 @@ module _ {k : ℕ} (rate : Ranged k) (columns : ℕ → List ℕ) (word row func
             let c : codewordNear k word ≡ some (listed k (symbolIn function)) =
             candidate-near rate word row function divided h
             (le→leb (differing 64 (encodeOf k (listed k (symbolIn function))) word) ((57 - (k + 5)) / 2) (omega (arith, distance-is))) in
-            nearest-some (record { answer = Near total; message = message; tests = 1 }) total refl (one-count _ c)
+            nearest-some (answered total) total refl (one-count _ c)
             (answer-one (workable rate) columns word ∙ c ∙ ap some (sym m-is))
             (t-is ∙ ap (totalOf 64 columns) encoded);
       }

@@ -1,13 +1,14 @@
 -- A node of the tree: spent, a leaf, or two branches.
 use mathlib.Core.Path.{_≡_, refl, sym, ap, ap₂, _∙_, subst, subst₂}
-use mathlib.Core.List.{List, [], _∷_, _++_, List·Memᴰ}
+use mathlib.Core.List.{List, [], _∷_, _++_}
 use mathlib.Core.Option.{none}
 use Prim.Native.Nat.{ℕ, suc, _+_, _-_, _*_, _/_, _%_, _^_, _<_, _≤_}
 use native.Mathlib.Nat.{mod-eq-of-lt, pow-suc}
 use native.Mathlib.Omega.{arith}
 use lib.Dec.{T, leb, leb→le}
+use Rattle.lists.specs.Count.{bit, bit-le}
 use Rattle.lists.specs.Every.{every, every-at}
-use lib.ListN.{length, getD, take, drop, set, length-take, drop-of-length-le}
+use lib.ListN.{length, getD, take, drop, set, length-set, length-take, drop-of-length-le}
 use lib.Seq.{drop-cons, getD-take}
 use Rattle.algebra.specs.Koetter.{Basis}
 use Rattle.galois.specs.Field16.{K16}
@@ -17,6 +18,7 @@ use Rattle.basis.specs.Step.{rowAt}
 use Rattle.interpolation.specs.Polynomial.{polynomials}
 use Rattle.interpolation.specs.Extending.{Extends}
 use Rattle.code.specs.Nodes.{Node, node, ThroughNodes}
+use Rattle.soft.specs.Total.{differing}
 use Rattle.soft.specs.TestWord.{bestAt, secondAt, expand}
 use Rattle.soft.specs.TestWordLaws.{expand-nil, expand-cons}
 use Rattle.near.specs.Near.{mOf, reachOf, testsNear, answerOf}
@@ -27,7 +29,9 @@ use Rattle.chase.specs.declared.Answer.the-variants.{NoneNear}
 use Rattle.chase.specs.declared.Found.{Found}
 use Rattle.chase.specs.Nearest.{Nearest}
 use Rattle.chase.specs.Searching.{Lowest, Ranged, Held, Ready, LeafOf, SearchOf, BetterOf}
+use Rattle.chase.specs.Known.{Sound, Governs, testsWithin, WithinOf, BelowOf, BranchOf}
 use Rattle.chase.proofs.Candidate.{workable, nearest-none}
+use Rattle.chase.proofs.Governing.{within-leaf, within-branch, below-tests, governed-nearest}
 
 pub limit-is : {k : ℕ} → Ranged k → 2 * ((52 - k) / 2 + 6 + (k + 5)) + 1 ≡ limitOf k
 unfolding limitOf limit mOf reachOf
@@ -38,6 +42,9 @@ limit-is {k} h =
 
 pub limit-small : {k : ℕ} → Ranged k → 2 * ((52 - k) / 2 + 6 + (k + 5)) + 1 ≤ 127
 limit-small h = omega arith
+
+places-rest : {p : ℕ} {ps : List ℕ} → Places (p ∷ ps) → Places ps
+places-rest (places-cons h fresh P) = P
 
 module _ {k : ℕ} (rate : Ranged k) (columns : ℕ → List ℕ) (word ps : List ℕ) (rows : List (List ℕ)) (leads : List ℕ) (left : ℕ) (L : ℕ)
     (L-is : L ≡ limitOf k) (class : ℕ) (low : Lowest leads 8 class) where
@@ -65,8 +72,38 @@ module _ {k : ℕ} (rate : Ranged k) (columns : ℕ → List ℕ) (word ps : Lis
             (record { lead = leadAt leads class; through = decided-through (mOf k) D .0 _ (h .member); leads = h .leads; unspent = omega (arith, L-is) })));
       }
 
-module _ {k : ℕ} (rate : Ranged k) (columns : ℕ → List ℕ) (word doubtful : List ℕ) (doubt left : ℕ) (rows : List (List ℕ)) (leads : List ℕ)
-    (L : ℕ) (L-is : L ≡ limitOf k) (size : length word ≡ 64) (eight : length doubtful ≡ 8) (few : doubt ≤ 8) (within : left ≤ doubt) (some-left : 0 < left) where
+-- one branch: the place is decided with the symbol, by a codeword that is known or by one more node
+module _ {k : ℕ} (rate : Ranged k) (columns : ℕ → List ℕ) (word : List ℕ) (place symbol : ℕ) (ps : List ℕ) (rows : List (List ℕ)) (leads : List ℕ)
+    (left : ℕ) (size : length word ≡ 64) where
+  pub branch-known : (known f : Found) (tests : ℕ) → Sound k columns known → (Places ps → Governs k known (set word place symbol) ps)
+      → WithinOf k columns (known .codeword) (set word place symbol) ps left tests → BelowOf known tests f
+      → BranchOf k columns word place symbol ps rows leads left f
+  branch-known known f tests sound governs counted below =
+      record {
+        few = omega (arith, below-tests below, counted .few);
+        finds = λ R P.
+            governed-nearest (workable rate) columns known (set word place symbol) ps (length-set word place symbol ∙ size) sound
+            (governs (places-rest P)) f tests (counted .counts (places-rest P)) below;
+      }
+
+  module _ (L : ℕ) (L-is : L ≡ limitOf k) (rows′ : List (List ℕ)) (leads′ : List ℕ) (E : Extends L place symbol rows leads rows′ leads′) where
+    next-ready : Ready k word (place ∷ ps) rows leads → Places (place ∷ ps) → Ready k (set word place symbol) ps rows′ leads′
+    unfolding mOf
+    next-ready R (places-cons h fresh P) =
+        record {
+          nodes = node place symbol ∷ R .nodes;
+          decided = decided-step symbol size h fresh (R .decided);
+          basis =
+              subst (λ l. Basis K16 8 l (ThroughNodes (mOf k) (node place symbol ∷ R .nodes)) (polynomials (mOf k) rows′) (leadAt leads′)) L-is
+              (E .basis (mOf k) (omega (arith, rate .least)) (R .nodes)
+              (subst (λ l. Basis K16 8 l (ThroughNodes (mOf k) (R .nodes)) (polynomials (mOf k) rows) (leadAt leads)) (sym L-is) (R .basis)));
+        }
+
+    pub branch-node : (f : Found) → SearchOf k columns (set word place symbol) ps rows′ leads′ left f
+        → BranchOf k columns word place symbol ps rows leads left f
+    branch-node f S = record { few = S .few; finds = λ R P. S .finds (next-ready R P) (places-rest P) }
+
+module _ (doubtful : List ℕ) (doubt left : ℕ) (eight : length doubtful ≡ 8) (few : doubt ≤ 8) (within : left ≤ doubt) (some-left : 0 < left) where
   abbrev x : ℕ
   x = getD doubtful (doubt - left) 0
 
@@ -79,52 +116,58 @@ module _ {k : ℕ} (rate : Ranged k) (columns : ℕ → List ℕ) (word doubtful
       drop-cons (take doubt doubtful) (doubt - left) 0 (omega (arith, length-take doubt doubtful))
       ∙ ap₂ (λ a m. a ∷ drop m (take doubt doubtful)) (getD-take doubt doubtful (doubt - left) 0 (omega arith)) n
 
-  module _ (place : ℕ) (place-is : place ≡ x % 64) where
-    -- one branch: the place is decided with the symbol s
-    branch : (s : ℕ) (rows′ : List (List ℕ)) (leads′ : List ℕ) → Extends L place s rows leads rows′ leads′ → Ready k word (x ∷ rest) rows leads
-        → Places (x ∷ rest) → Ready k (set word place s) rest rows′ leads′
-    unfolding mOf
-    branch s rows′ leads′ E R (places-cons h fresh P) =
-        let e : place ≡ x = place-is ∙ mod-eq-of-lt h in
+  same-place : (place : ℕ) → place ≡ x % 64 → Places (x ∷ rest) → place ≡ x
+  same-place place place-is (places-cons h fresh P) = place-is ∙ mod-eq-of-lt h
+
+  -- the places left are the place that is decided, and the rest
+  split-places : (place : ℕ) → place ≡ x % 64 → Places (drop (doubt - left) (take doubt doubtful)) → drop (doubt - left) (take doubt doubtful) ≡ place ∷ rest
+  split-places place place-is P = next-place ∙ ap (λ y. y ∷ rest) (sym (same-place place place-is (subst Places next-place P)))
+
+  twice : 2 ^ left ≡ 2 ^ (left - 1) + 2 ^ (left - 1)
+  twice =
+      let n : left ≡ suc (left - 1) = omega arith in
+      omega (arith, ap (λ m. 2 ^ m) n, pow-suc 2 (left - 1))
+
+  module _ (k : ℕ) (columns : ℕ → List ℕ) (word : List ℕ) (place : ℕ) (place-is : place ≡ x % 64) (s o : ℕ) (s-is : s ≡ bestAt columns place)
+      (o-is : o ≡ secondAt columns place) where
+    pub node-branch : (rows : List (List ℕ)) (leads : List ℕ) (a b r : Found) → BranchOf k columns word place s rest rows leads (left - 1) a
+        → BranchOf k columns word place o rest rows leads (left - 1) b → BetterOf k a b r
+        → SearchOf k columns word (drop (doubt - left) (take doubt doubtful)) rows leads left r
+    node-branch rows leads a b r A B J =
         record {
-          nodes = node place s ∷ R .nodes;
-          decided =
-              decided-step s size (omega arith) (λ m. fresh (subst (λ y. List·Memᴰ y rest) e m))
-              (subst (λ y. Decided word (y ∷ rest) (R .nodes)) (sym e) (R .decided));
-          basis =
-              subst (λ l. Basis K16 8 l (ThroughNodes (mOf k) (node place s ∷ R .nodes)) (polynomials (mOf k) rows′) (leadAt leads′)) L-is
-              (E .basis (mOf k) (omega (arith, rate .least)) (R .nodes)
-              (subst (λ l. Basis K16 8 l (ThroughNodes (mOf k) (R .nodes)) (polynomials (mOf k) rows) (leadAt leads)) (sym L-is) (R .basis)));
-        }
-
-    tail : Places (x ∷ rest) → Places rest
-    tail (places-cons h fresh P) = P
-
-    same-place : Places (x ∷ rest) → place ≡ x
-    same-place (places-cons h fresh P) = place-is ∙ mod-eq-of-lt h
-
-    pub node-branch : (s o : ℕ) (rows₁ rows₂ : List (List ℕ)) (leads₁ leads₂ : List ℕ) (a b r : Found) → s ≡ bestAt columns place
-        → o ≡ secondAt columns place → Extends L place s rows leads rows₁ leads₁ → Extends L place o rows leads rows₂ leads₂
-        → SearchOf k columns (set word place s) rest rows₁ leads₁ (left - 1) a → SearchOf k columns (set word place o) rest rows₂ leads₂ (left - 1) b
-        → BetterOf k a b r → SearchOf k columns word (drop (doubt - left) (take doubt doubtful)) rows leads left r
-    node-branch s o rows₁ rows₂ leads₁ leads₂ a b r s-is o-is E₁ E₂ A B J =
-        record {
-          few =
-              let n : left ≡ suc (left - 1) = omega arith in
-              omega (arith, J .sum, A .few, B .few, ap (λ m. 2 ^ m) n, pow-suc 2 (left - 1));
+          few = omega (arith, J .sum, A .few, B .few, twice);
           finds = λ R P.
-              let R′ : Ready k word (x ∷ rest) rows leads = subst (λ q. Ready k word q rows leads) next-place R in
-              let P′ : Places (x ∷ rest) = subst Places next-place P in
-              let e : place ≡ x = same-place P′ in
-              subst (λ q. Nearest k columns (expand columns word q) r) (sym (next-place))
+              let q = split-places place place-is P in
+              let R′ : Ready k word (place ∷ rest) rows leads = subst (λ ps. Ready k word ps rows leads) q R in
+              let P′ : Places (place ∷ rest) = subst Places q P in
+              subst (λ ps. Nearest k columns (expand columns word ps) r) (sym q)
               (subst (λ ts. Nearest k columns ts r)
               (sym
-              (expand-cons columns word x rest
-              ∙ ap₂ (λ u v. expand columns u rest ++ expand columns v rest)
-              (ap₂ (λ y z. set word y z) (sym e) (ap (bestAt columns) (sym e) ∙ sym s-is))
-              (ap₂ (λ y z. set word y z) (sym e) (ap (secondAt columns) (sym e) ∙ sym o-is))))
-              (J .joins columns _ _ (A .finds (branch s rows₁ leads₁ E₁ R′ P′) (tail P′)) (B .finds (branch o rows₂ leads₂ E₂ R′ P′) (tail P′))));
+              (expand-cons columns word place rest
+              ∙ ap₂ (λ y z. expand columns (set word place y) rest ++ expand columns (set word place z) rest) (sym s-is) (sym o-is)))
+              (J .joins columns _ _ (A .finds R′ P′) (B .finds R′ P′)));
         }
+
+    pub within-node : (c : List ℕ) (a b : ℕ) → WithinOf k columns c (set word place s) rest (left - 1) a
+        → WithinOf k columns c (set word place o) rest (left - 1) b → WithinOf k columns c word (drop (doubt - left) (take doubt doubtful)) left (a + b)
+    within-node c a b A B =
+        record {
+          few = omega (arith, A .few, B .few, twice);
+          counts = λ P.
+              let q = split-places place place-is P in
+              let P′ : Places rest = places-rest (subst Places q P) in
+              ap₂ (λ m n. m + n) (A .counts P′) (B .counts P′)
+              ∙ ap₂ (λ y z. testsWithin k c (expand columns (set word place y) rest) + testsWithin k c (expand columns (set word place z) rest)) s-is o-is
+              ∙ sym (ap (λ ps. testsWithin k c (expand columns word ps)) q ∙ within-branch k c columns word place rest);
+        }
+
+pub within-end : (k : ℕ) (columns : ℕ → List ℕ) (c word ps : List ℕ) (left n : ℕ) → left ≡ 0 → ps ≡ [] → n ≡ bit (leb (differing 64 c word) (reachOf k))
+    → WithinOf k columns c word ps left n
+within-end k columns c word ps left n none-left end n-is =
+    record {
+      few = subst (λ l. n ≤ 2 ^ l) (sym none-left) (subst (λ m. m ≤ 1) (sym n-is) (bit-le (leb (differing 64 c word) (reachOf k))));
+      counts = λ P. n-is ∙ sym (ap (λ q. testsWithin k c (expand columns word q)) end ∙ within-leaf k c columns word);
+    }
 
 -- a tree of at most eight places has few test words
 power-few : (n : ℕ) → n < 9 → 2 ^ n ≤ 256

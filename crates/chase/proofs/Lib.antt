@@ -1,5 +1,6 @@
 pub mod Message
 pub mod Candidate
+pub mod Governing
 pub mod Joining
 pub mod Descending
 pub mod Settling

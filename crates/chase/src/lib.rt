@@ -4,6 +4,8 @@ ghost use mathlib.Core.Path.{_≡_};
 ghost use mathlib.Core.Bool.{true, false};
 ghost use Prim.Native.Nat.{_+_, _-_, _*_, _/_, _<_, _≤_, _^_};
 ghost use lib.ListN.{length, take, drop};
+ghost use lib.Dec.{leb};
+ghost use Rattle.lists.specs.Count.{bit};
 ghost use Rattle.lists.specs.Words.{isBefore};
 ghost use Rattle.lists.specs.Listed.{listed};
 ghost use Rattle.hermitian.specs.Orders.{orderOf};
@@ -12,9 +14,11 @@ ghost use Rattle.code.specs.Encoding.{encodeOf};
 ghost use Rattle.soft.specs.Column.{columnOf};
 ghost use Rattle.soft.specs.Total.{differing, totalOf};
 ghost use Rattle.soft.specs.TestWord.{testWords};
+ghost use Rattle.near.specs.Near.{reachOf};
 ghost use Rattle.near.specs.Tree.{Places};
 ghost use Rattle.chase.specs.Nearest.{Asked, Nearest};
 ghost use Rattle.chase.specs.Searching.{symbolIn, Lowest, Flagged, Ranged, LeafOf, SearchOf, BetterOf};
+ghost use Rattle.chase.specs.Known.{Sound, OneOf, Outside, Governs, WithinOf, BelowOf, BranchOf};
 use basis::Leads;
 use basis::Rows;
 use code::encoding::write_codeword;
@@ -36,10 +40,11 @@ pub enum Answer {
     Near { total: u32 },
 }
 
-// The message in the first k entries, where k is the rate; and how many test words have a codeword within T.
+// The message in the first k entries, where k is the rate, and its codeword; and how many test words have a codeword within T.
 pub struct Found {
     pub answer: Answer,
     pub message: [u8; 49],
+    pub codeword: [u8; 64],
     pub tests: usize,
 }
 
@@ -49,6 +54,7 @@ fn none_near() -> Found
     Found {
         answer: Answer::NoneNear,
         message: [0u8; 49],
+        codeword: [0u8; 64],
         tests: 0,
     }
 }
@@ -108,7 +114,8 @@ fn cost(costs: &[u16], codeword: [u8; 64]) -> u32
 // One test word: what its row holds, if its codeword is within T of the word.
 fn leaf(row: [u8; 96], word: [u8; 64], costs: &[u16], k: usize) -> Found
     requires { ⌜ Ranged k ⌝ }
-    ensures { λ r. ⌜ LeafOf k (columnOf 16 (now (costs .entry))) word row r ⌝ }
+    ensures { λ r.
+        ⌜ LeafOf k (columnOf 16 (now (costs .entry))) word row r × Sound k (columnOf 16 (now (costs .entry))) r ⌝ }
 {
     let function = divide(without_z(row), with_z(row), k + 5);
     let message = message_of(function, k);
@@ -121,6 +128,7 @@ fn leaf(row: [u8; 96], word: [u8; 64], costs: &[u16], k: usize) -> Found
             total: cost(costs, codeword),
         },
         message,
+        codeword,
         tests: 1,
     }
 }
@@ -146,17 +154,20 @@ fn before(a: [u8; 49], b: [u8; 49], k: usize) -> bool
 // Two branches together: the counts add, the cheaper answer wins, equal totals go to the smaller message.
 fn better(a: Found, b: Found, k: usize) -> Found
     requires { ⌜ (k ≤ 49) × (a .tests + b .tests ≤ 65535) ⌝ }
-    ensures { λ r. ⌜ BetterOf k a b r ⌝ }
+    ensures { λ r. ⌜ BetterOf k a b r × OneOf a b r ⌝ }
 {
     let tests = a.tests + b.tests;
     let first = a.answer;
     let other = b.answer;
     let message = a.message;
     let rival = b.message;
+    let codeword = a.codeword;
+    let competing = b.codeword;
     let Answer::Near { total } = first else {
         return Found {
             answer: other,
             message: rival,
+            codeword: competing,
             tests,
         };
     };
@@ -164,6 +175,7 @@ fn better(a: Found, b: Found, k: usize) -> Found
         return Found {
             answer: first,
             message,
+            codeword,
             tests,
         };
     };
@@ -171,6 +183,7 @@ fn better(a: Found, b: Found, k: usize) -> Found
         return Found {
             answer: first,
             message,
+            codeword,
             tests,
         };
     }
@@ -178,6 +191,7 @@ fn better(a: Found, b: Found, k: usize) -> Found
         return Found {
             answer: other,
             message: rival,
+            codeword: competing,
             tests,
         };
     }
@@ -185,12 +199,14 @@ fn better(a: Found, b: Found, k: usize) -> Found
         return Found {
             answer: first,
             message,
+            codeword,
             tests,
         };
     }
     Found {
         answer: other,
         message: rival,
+        codeword: competing,
         tests,
     }
 }
@@ -219,6 +235,165 @@ fn least(leads: Leads) -> usize
     r
 }
 
+// The known codeword for later branches: the one just found, if there is one.
+fn later(first: Found, known: Found) -> Found
+    ensures { λ r. ⌜ OneOf first known r ⌝ }
+{
+    let answer = first.answer;
+    if let Answer::NoneNear = answer {
+        return known;
+    }
+    first
+}
+
+// The word with the codeword's symbols at the doubtful places left.
+fn filled(
+    codeword: [u8; 64],
+    word: [u8; 64],
+    doubtful: [u8; 8],
+    doubt: usize,
+    left: usize,
+) -> [u8; 64]
+    requires { ⌜ (doubt ≤ 8) × (left ≤ doubt) ⌝ }
+    ensures { λ r.
+        ⌜ (Places (drop (doubt - left) (take doubt doubtful)) → Outside (drop (doubt - left) (take doubt doubtful)) word r) ⌝ }
+{
+    let mut out = word;
+    let mut i = doubt - left;
+    while i < doubt {
+        let place = (doubtful[i] % 64) as usize;
+        out[place] = codeword[place];
+        i += 1;
+    }
+    out
+}
+
+// Is no other codeword than the known one within T of any test word below a node? Two codewords differ in at least 59 - k places, and a
+// test word differs from the known one in no more than the decided places of the word do, and the places left.
+fn governs(
+    known: Found,
+    word: [u8; 64],
+    k: usize,
+    doubtful: [u8; 8],
+    doubt: usize,
+    left: usize,
+) -> bool
+    requires { ⌜ Ranged k × (doubt ≤ 8) × (left ≤ doubt) ⌝ }
+    ensures { λ r.
+        ⌜ (r ≡ true
+        → Places (drop (doubt - left) (take doubt doubtful))
+        → Governs k known word (drop (doubt - left) (take doubt doubtful))) ⌝ }
+{
+    let answer = known.answer;
+    if let Answer::NoneNear = answer {
+        return false;
+    }
+    let codeword = known.codeword;
+    let agreed = filled(codeword, word, doubtful, doubt, left);
+    distance(codeword, agreed) + left + (52 - k) / 2 < 59 - k
+}
+
+// 1 for a word within T of the codeword.
+fn within(codeword: [u8; 64], word: [u8; 64], k: usize) -> usize
+    requires { ⌜ Ranged k ⌝ }
+    ensures { λ r. ⌜ r ≡ bit (leb (differing 64 codeword word) (reachOf k)) ⌝ }
+{
+    if distance(codeword, word) <= (52 - k) / 2 {
+        return 1;
+    }
+    0
+}
+
+// How many test words below a node are within T of the codeword.
+fn tests_within(
+    codeword: [u8; 64],
+    word: [u8; 64],
+    costs: &[u16],
+    k: usize,
+    doubtful: [u8; 8],
+    doubt: usize,
+    left: usize,
+) -> usize
+    requires { ⌜ Ranged k × (doubt ≤ 8) × (left ≤ doubt) ⌝ }
+    ensures { λ r.
+        ⌜ WithinOf k (columnOf 16 (now (costs .entry))) codeword word (drop (doubt - left) (take doubt doubtful)) left r ⌝ }
+{
+    if left == 0 {
+        return within(codeword, word, k);
+    }
+    let place = (doubtful[doubt - left] % 64) as usize;
+    let column = column_of(costs, place);
+    let symbol = best(column);
+    let other = second(column);
+    let mut first_word = word;
+    first_word[place] = symbol;
+    let first = tests_within(codeword, first_word, costs, k, doubtful, doubt, left - 1);
+    let mut other_word = word;
+    other_word[place] = other;
+    let rest = tests_within(codeword, other_word, costs, k, doubtful, doubt, left - 1);
+    first + rest
+}
+
+// The known codeword as the answer of the test words below a node, where so many of them are within T of it and no other is near.
+fn below(known: Found, tests: usize) -> Found
+    ensures { λ r. ⌜ BelowOf known tests r ⌝ }
+{
+    if tests == 0 {
+        return none_near();
+    }
+    let answer = known.answer;
+    let message = known.message;
+    let codeword = known.codeword;
+    Found {
+        answer,
+        message,
+        codeword,
+        tests,
+    }
+}
+
+// One branch of a node: the place is decided with the symbol. Where the known codeword governs it, its test words are only counted.
+fn branch(
+    rows: Rows,
+    leads: Leads,
+    word: [u8; 64],
+    costs: &[u16],
+    k: usize,
+    doubtful: [u8; 8],
+    doubt: usize,
+    left: usize,
+    known: Found,
+    place: usize,
+    symbol: u8,
+) -> Found
+    requires { ⌜ Ranged k × (doubt ≤ 8) × (left ≤ doubt) × (place < 64) × Sound k (columnOf 16 (now costs)) known ⌝ }
+    ensures { λ r.
+        ⌜ BranchOf k (columnOf 16 (now (costs .entry))) word place symbol (drop (doubt - left) (take doubt doubtful)) rows leads left r
+        × Sound k (columnOf 16 (now (costs .entry))) r ⌝ }
+{
+    let mut next_word = word;
+    next_word[place] = symbol;
+    if governs(known, next_word, k, doubtful, doubt, left) {
+        let codeword = known.codeword;
+        let tests = tests_within(codeword, next_word, costs, k, doubtful, doubt, left);
+        return below(known, tests);
+    }
+    let limit = 2 * ((52 - k) / 2 + 6 + (k + 5)) + 1;
+    let mut next_leads = leads;
+    let next_rows = extend(rows, &mut next_leads, limit, place, symbol);
+    search(
+        next_rows,
+        next_leads,
+        next_word,
+        costs,
+        k,
+        doubtful,
+        doubt,
+        left,
+        known,
+    )
+}
+
 // The test words below a node: the doubtful places left are doubled one after the other, first with the best symbol and then with the
 // second. Each branch gets the basis of its node by value, and a node whose classes are all spent ends its part of the tree.
 fn search(
@@ -230,10 +405,12 @@ fn search(
     doubtful: [u8; 8],
     doubt: usize,
     left: usize,
+    known: Found,
 ) -> Found
-    requires { ⌜ Ranged k × (doubt ≤ 8) × (left ≤ doubt) ⌝ }
+    requires { ⌜ Ranged k × (doubt ≤ 8) × (left ≤ doubt) × Sound k (columnOf 16 (now costs)) known ⌝ }
     ensures { λ r.
-        ⌜ SearchOf k (columnOf 16 (now (costs .entry))) word (drop (doubt - left) (take doubt doubtful)) rows leads left r ⌝ }
+        ⌜ SearchOf k (columnOf 16 (now (costs .entry))) word (drop (doubt - left) (take doubt doubtful)) rows leads left r
+        × Sound k (columnOf 16 (now (costs .entry))) r ⌝ }
 {
     let limit = 2 * ((52 - k) / 2 + 6 + (k + 5)) + 1;
     let class = least(leads);
@@ -247,33 +424,31 @@ fn search(
     let column = column_of(costs, place);
     let symbol = best(column);
     let other = second(column);
-    let mut first_leads = leads;
-    let first_rows = extend(rows, &mut first_leads, limit, place, symbol);
-    let mut first_word = word;
-    first_word[place] = symbol;
-    let first = search(
-        first_rows,
-        first_leads,
-        first_word,
+    let first = branch(
+        rows,
+        leads,
+        word,
         costs,
         k,
         doubtful,
         doubt,
         left - 1,
+        known,
+        place,
+        symbol,
     );
-    let mut other_leads = leads;
-    let other_rows = extend(rows, &mut other_leads, limit, place, other);
-    let mut other_word = word;
-    other_word[place] = other;
-    let rest = search(
-        other_rows,
-        other_leads,
-        other_word,
+    let rest = branch(
+        rows,
+        leads,
+        word,
         costs,
         k,
         doubtful,
         doubt,
         left - 1,
+        later(first, known),
+        place,
+        other,
     );
     better(first, rest, k)
 }
@@ -314,5 +489,15 @@ pub fn nearest(rate: usize, costs: &[u16], doubtful: [u8; 8], doubt: usize) -> F
     let flags = settled_places(doubtful, doubt);
     let mut leads = [0usize; 8];
     let rows = settle(word, flags, m, limit, &mut leads);
-    search(rows, leads, word, costs, rate, doubtful, doubt, doubt)
+    search(
+        rows,
+        leads,
+        word,
+        costs,
+        rate,
+        doubtful,
+        doubt,
+        doubt,
+        none_near(),
+    )
 }

@@ -1,5 +1,6 @@
 -- The candidate is checked: within T of the word it is the answer, and otherwise no codeword is.
-use Rattle.chase.proofs.Candidate.{leaf-none, leaf-some}
+use Rattle.chase.proofs.Candidate.{leaf-none, leaf-some, leaf-sound}
+use Rattle.chase.proofs.Governing.{sound-none}
 use borrow.Author.Needs.{needs}
 use Rattle.chase.proofs.leaf.Statement.{statement}
 use Rattle.chase.proofs.leaf.Tie as tie
@@ -33,14 +34,16 @@ none-near-requires c κs = search needs
 
 returns : tie.Need-returns
 returns c =
-    leaf-none (c .before .before .before .before .before .before .before .before .before .pre) _ _ _ _ _ _ (c .before .before .before .before .before .before .before .without-z .ensures) (c .before .before .before .before .before .before .with-z .ensures) (c .before .before .before .before .before .divide .ensures) _ _ _ (c .before .before .before .before .message-of .ensures) (c .before .before .before .encoded .ensures) (c .before .before .distance .ensures) _ (c .none-near .ensures .0) (c .none-near .ensures .1) (c .before .if1 .taken)
+    (leaf-none (c .before .before .before .before .before .before .before .before .before .pre) _ _ _ _ _ _ (c .before .before .before .before .before .before .before .without-z .ensures) (c .before .before .before .before .before .before .with-z .ensures) (c .before .before .before .before .before .divide .ensures) _ _ _ (c .before .before .before .before .message-of .ensures) (c .before .before .before .encoded .ensures) (c .before .before .distance .ensures) _ (c .none-near .ensures .0) (c .none-near .ensures .1) (c .before .if1 .taken), sound-none _ (c .none-near .ensures .0))
 
 cost-requires : tie.Need-cost-requires
 cost-requires c κs = search needs
 
 returns-2 : tie.Need-returns-2
-returns-2 c =
-    leaf-some (c .before .before .before .before .before .before .before .before .before .pre) _ _ _ _ _ _ (c .before .before .before .before .before .before .before .without-z .ensures) (c .before .before .before .before .before .before .with-z .ensures) (c .before .before .before .before .before .divide .ensures) _ _ _ (c .before .before .before .before .message-of .ensures) (c .before .before .before .encoded .ensures) (c .before .before .distance .ensures) _ (c .cost .ensures) (c .before .if1 .left)
+returns-2 c = (
+  leaf-some (c .before .before .before .before .before .before .before .before .before .pre) _ _ _ _ _ _ (c .before .before .before .before .before .before .before .without-z .ensures) (c .before .before .before .before .before .before .with-z .ensures) (c .before .before .before .before .before .divide .ensures) _ _ _ (c .before .before .before .before .message-of .ensures) (c .before .before .before .encoded .ensures) (c .before .before .distance .ensures) _ (c .cost .ensures) (c .before .if1 .left),
+  leaf-sound (c .before .before .before .before .before .before .before .before .before .pre) _ _ _ _ _ _ (c .before .before .before .before .before .before .before .without-z .ensures) (c .before .before .before .before .before .before .with-z .ensures) (c .before .before .before .before .before .divide .ensures) _ _ _ (c .before .before .before .before .message-of .ensures) (c .before .before .before .encoded .ensures) (c .before .before .distance .ensures) _ (c .cost .ensures),
+)
 
 pub leaf-spec : {M : Type 1} → statement M
 leaf-spec =

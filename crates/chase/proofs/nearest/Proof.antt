@@ -1,6 +1,7 @@
 -- The root of the tree: all settled places are decided.
 use mathlib.Core.Logic.{inl, inr}
 use Rattle.chase.specs.Searching.{Ranged}
+use Rattle.chase.proofs.Governing.{sound-none}
 use Rattle.chase.proofs.Descending.{limit-is}
 use Rattle.chase.proofs.Settling.{refused-rate, refused-doubt, root}
 use borrow.Author.Needs.{needs}
@@ -52,13 +53,16 @@ settled-places-requires c κs = search needs
 settle-requires : tie.Need-settle-requires
 settle-requires c κs = search needs
 
+none-near-requires-4 : tie.Need-none-near-requires-4
+none-near-requires-4 c κs = search needs
+
 search-requires : tie.Need-search-requires
-search-requires c κs = search needs
+search-requires c κs = (record { least = search needs; most = search needs }, search needs, search needs, sound-none _ (c .none-near4 .ensures .0))
 
 returns-4 : tie.Need-returns-4
 returns-4 c =
-    let r : Ranged (c .before .before .before .before .before .before .before .before .before .args .rate) = record { least = c .before .before .before .before .before .before .before .if1 .left; most = c .before .before .before .before .before .before .if2 .left } in
-    root _ _ _ _ _ _ _ _ _ _ r (c .before .before .before .before .best-word .ensures) (c .before .before .before .settled-places .ensures) (limit-is r) (c .before .settle .ensures) (c .search .ensures)
+    let r : Ranged (c .before .before .before .before .before .before .before .before .before .before .args .rate) = record { least = c .before .before .before .before .before .before .before .before .if1 .left; most = c .before .before .before .before .before .before .before .if2 .left } in
+    root _ _ _ _ _ _ _ _ _ _ r (c .before .before .before .before .before .best-word .ensures) (c .before .before .before .before .settled-places .ensures) (limit-is r) (c .before .before .settle .ensures) (c .search .ensures .0)
 
 pub nearest-spec : {M : Type 1} → statement M
 nearest-spec =
@@ -79,5 +83,6 @@ nearest-spec =
     add-limit-3
     settled-places-requires
     settle-requires
+    none-near-requires-4
     search-requires
     returns-4)

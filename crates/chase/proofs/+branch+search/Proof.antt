@@ -1,31 +1,47 @@
--- A node is spent, a leaf, or has two branches with one place less.
-use mathlib.Core.Path.{refl, ap, _∙_}
+-- A node is spent, a leaf, or has two branches with one place less; a branch is governed by the known codeword, or is a node again.
+use mathlib.Core.Path.{_≡_, refl, ap, _∙_}
+use Prim.Native.Nat.{ℕ, _+_, _*_, _<_}
 use native.Mathlib.Omega.{arith}
-use mathlib.Core.Path.{_≡_}
 use lib.ListN.{length}
 use Rattle.basis.specs.Choice.{leadAt}
 use Rattle.soft.specs.Column.{bestOf, secondOf}
-use Rattle.chase.proofs.Descending.{limit-is, node-spent, node-leaf, node-branch, tests-fit, none-left, some-left}
+use Rattle.chase.proofs.Governing.{sound-none, sound-one, sound-below}
+use Rattle.chase.proofs.Descending.{limit-is, branch-known, branch-node, node-spent, node-leaf, node-branch, tests-fit, none-left, some-left}
 use borrow.Author.Needs.{needs}
-use Prim.Native.Nat.{ℕ, _<_}
 use borrow.Fn.Kinds.{In}
 use borrow.Fn.PlainCycle.{Measures, is, falls, and}
+use Rattle.chase.proofs.branch.Reads as branch
+use Rattle.chase.proofs.branch.Kinds as branch-kinds
+use Rattle.chase.proofs.+branch+search.Lts-branch as branch-lts
 use Rattle.chase.proofs.search.Reads as search′
 use Rattle.chase.proofs.search.Kinds as search-kinds
-use Rattle.chase.proofs.+search.Lts-search as search-lts
+use Rattle.chase.proofs.+branch+search.Lts-search as search-lts
+use Rattle.chase.proofs.below.Reads as below-reads
 use Rattle.chase.proofs.better.Reads as better-reads
+use Rattle.chase.proofs.governs.Reads as governs-reads
+use Rattle.chase.proofs.later.Reads as later-reads
 use Rattle.chase.proofs.leaf.Reads as leaf-reads
 use Rattle.chase.proofs.least.Reads as least-reads
 use Rattle.chase.proofs.none_near.Reads as none-near-reads
+use Rattle.chase.proofs.tests_within.Reads as tests-within-reads
 use Rattle.interpolation.proofs.node.extend.Reads as extend-reads
 use Rattle.soft.proofs.column.best.Reads as best-reads
 use Rattle.soft.proofs.column.second.Reads as second-reads
 use Rattle.soft.proofs.costs.column_of.Reads as column-of-reads
-use Rattle.chase.proofs.+search.{statement}
-use Rattle.chase.proofs.+search.Tie.{close}
+use Rattle.chase.proofs.+branch+search.{statement}
+use Rattle.chase.proofs.+branch+search.Tie.{close}
+
+abbrev μ-branch : Measures 1 branch-kinds.ps ℕ
+μ-branch κs a = a .1 .1 .1 .1 .1 .1 .1 .0 * 2 + 1
 
 abbrev μ-search : Measures 1 search-kinds.ps ℕ
-μ-search κs a = a .1 .1 .1 .1 .1 .1 .1 .0
+μ-search κs a = a .1 .1 .1 .1 .1 .1 .1 .0 * 2
+
+abbrev branch-at : ℕ → In 1 branch-kinds.ps
+branch-at t = and 1 branch-kinds.ps (is 1 branch-kinds.ps μ-branch t) branch.Pre
+
+abbrev branch-below : ℕ → In 1 branch-kinds.ps
+branch-below t = and 1 branch-kinds.ps (falls 1 branch-kinds.ps _<_ μ-branch t) branch.Pre
 
 abbrev search-at : ℕ → In 1 search-kinds.ps
 search-at t = and 1 search-kinds.ps (is 1 search-kinds.ps μ-search t) search′.Pre
@@ -34,6 +50,225 @@ abbrev search-below : ℕ → In 1 search-kinds.ps
 search-below t = and 1 search-kinds.ps (falls 1 search-kinds.ps _<_ μ-search t) search′.Pre
 
 -- what the arrays' types say
+branch-lengths : (t : ℕ) (c : branch-lts.Start (
+  governs-reads.Asked,
+  governs-reads.Learnt,
+  tests-within-reads.Asked,
+  tests-within-reads.Learnt,
+  below-reads.Asked,
+  below-reads.Learnt,
+  extend-reads.Asked,
+  extend-reads.Learnt,
+  search-below t,
+  search′.Post,
+) (branch-at t) branch.Post)
+    → length (c .args .word) ≡ 64
+branch-lengths t c = search needs
+
+branch-array-write-next-word : (t : ℕ) → branch-lts.Need-array-write-next-word (
+  governs-reads.Asked,
+  governs-reads.Learnt,
+  tests-within-reads.Asked,
+  tests-within-reads.Learnt,
+  below-reads.Asked,
+  below-reads.Learnt,
+  extend-reads.Asked,
+  extend-reads.Learnt,
+  search-below t,
+  search′.Post,
+) (branch-at t) branch.Post
+branch-array-write-next-word t c = search needs
+
+branch-governs-requires : (t : ℕ) → branch-lts.Need-governs-requires (
+  governs-reads.Asked,
+  governs-reads.Learnt,
+  tests-within-reads.Asked,
+  tests-within-reads.Learnt,
+  below-reads.Asked,
+  below-reads.Learnt,
+  extend-reads.Asked,
+  extend-reads.Learnt,
+  search-below t,
+  search′.Post,
+) (branch-at t) branch.Post
+branch-governs-requires t c κs = search needs
+
+branch-tests-within-requires : (t : ℕ) → branch-lts.Need-tests-within-requires (
+  governs-reads.Asked,
+  governs-reads.Learnt,
+  tests-within-reads.Asked,
+  tests-within-reads.Learnt,
+  below-reads.Asked,
+  below-reads.Learnt,
+  extend-reads.Asked,
+  extend-reads.Learnt,
+  search-below t,
+  search′.Post,
+) (branch-at t) branch.Post
+branch-tests-within-requires t c κs = search needs
+
+branch-below-requires : (t : ℕ) → branch-lts.Need-below-requires (
+  governs-reads.Asked,
+  governs-reads.Learnt,
+  tests-within-reads.Asked,
+  tests-within-reads.Learnt,
+  below-reads.Asked,
+  below-reads.Learnt,
+  extend-reads.Asked,
+  extend-reads.Learnt,
+  search-below t,
+  search′.Post,
+) (branch-at t) branch.Post
+branch-below-requires t c κs = search needs
+
+branch-returns : (t : ℕ) → branch-lts.Need-returns (
+  governs-reads.Asked,
+  governs-reads.Learnt,
+  tests-within-reads.Asked,
+  tests-within-reads.Learnt,
+  below-reads.Asked,
+  below-reads.Learnt,
+  extend-reads.Asked,
+  extend-reads.Learnt,
+  search-below t,
+  search′.Post,
+) (branch-at t) branch.Post
+branch-returns t c =
+    let h = c .before .before .before .before .before .before .pre .1 in (
+      branch-known (h .0) _ _ _ _ _ _ _ _ (branch-lengths t (c .before .before .before .before .before .before)) _ _ _ (h .4) (c .before .before .before .before .governs .ensures (c .before .before .before .if1 .taken)) (c .before .tests-within .ensures) (c .below .ensures),
+      sound-below (h .4) (c .below .ensures),
+    )
+
+branch-sub-limit : (t : ℕ) → branch-lts.Need-sub-limit (
+  governs-reads.Asked,
+  governs-reads.Learnt,
+  tests-within-reads.Asked,
+  tests-within-reads.Learnt,
+  below-reads.Asked,
+  below-reads.Learnt,
+  extend-reads.Asked,
+  extend-reads.Learnt,
+  search-below t,
+  search′.Post,
+) (branch-at t) branch.Post
+branch-sub-limit t c = search needs
+
+branch-add-limit : (t : ℕ) → branch-lts.Need-add-limit (
+  governs-reads.Asked,
+  governs-reads.Learnt,
+  tests-within-reads.Asked,
+  tests-within-reads.Learnt,
+  below-reads.Asked,
+  below-reads.Learnt,
+  extend-reads.Asked,
+  extend-reads.Learnt,
+  search-below t,
+  search′.Post,
+) (branch-at t) branch.Post
+branch-add-limit t c = search needs
+
+branch-add-limit-2 : (t : ℕ) → branch-lts.Need-add-limit-2 (
+  governs-reads.Asked,
+  governs-reads.Learnt,
+  tests-within-reads.Asked,
+  tests-within-reads.Learnt,
+  below-reads.Asked,
+  below-reads.Learnt,
+  extend-reads.Asked,
+  extend-reads.Learnt,
+  search-below t,
+  search′.Post,
+) (branch-at t) branch.Post
+branch-add-limit-2 t c = search needs
+
+branch-add-limit-3 : (t : ℕ) → branch-lts.Need-add-limit-3 (
+  governs-reads.Asked,
+  governs-reads.Learnt,
+  tests-within-reads.Asked,
+  tests-within-reads.Learnt,
+  below-reads.Asked,
+  below-reads.Learnt,
+  extend-reads.Asked,
+  extend-reads.Learnt,
+  search-below t,
+  search′.Post,
+) (branch-at t) branch.Post
+branch-add-limit-3 t c = search needs
+
+branch-mul-limit : (t : ℕ) → branch-lts.Need-mul-limit (
+  governs-reads.Asked,
+  governs-reads.Learnt,
+  tests-within-reads.Asked,
+  tests-within-reads.Learnt,
+  below-reads.Asked,
+  below-reads.Learnt,
+  extend-reads.Asked,
+  extend-reads.Learnt,
+  search-below t,
+  search′.Post,
+) (branch-at t) branch.Post
+branch-mul-limit t c = search needs
+
+branch-add-limit-4 : (t : ℕ) → branch-lts.Need-add-limit-4 (
+  governs-reads.Asked,
+  governs-reads.Learnt,
+  tests-within-reads.Asked,
+  tests-within-reads.Learnt,
+  below-reads.Asked,
+  below-reads.Learnt,
+  extend-reads.Asked,
+  extend-reads.Learnt,
+  search-below t,
+  search′.Post,
+) (branch-at t) branch.Post
+branch-add-limit-4 t c = search needs
+
+branch-extend-requires : (t : ℕ) → branch-lts.Need-extend-requires (
+  governs-reads.Asked,
+  governs-reads.Learnt,
+  tests-within-reads.Asked,
+  tests-within-reads.Learnt,
+  below-reads.Asked,
+  below-reads.Learnt,
+  extend-reads.Asked,
+  extend-reads.Learnt,
+  search-below t,
+  search′.Post,
+) (branch-at t) branch.Post
+branch-extend-requires t c κs = search needs
+
+branch-search-requires : (t : ℕ) → branch-lts.Need-search-requires (
+  governs-reads.Asked,
+  governs-reads.Learnt,
+  tests-within-reads.Asked,
+  tests-within-reads.Learnt,
+  below-reads.Asked,
+  below-reads.Learnt,
+  extend-reads.Asked,
+  extend-reads.Learnt,
+  search-below t,
+  search′.Post,
+) (branch-at t) branch.Post
+branch-search-requires t c κs =
+    let h = c .before .before .before .before .before .pre in
+    (omega (arith, h .0), (h .1 .0, h .1 .1, h .1 .2, h .1 .4))
+
+branch-returns-2 : (t : ℕ) → branch-lts.Need-returns-2 (
+  governs-reads.Asked,
+  governs-reads.Learnt,
+  tests-within-reads.Asked,
+  tests-within-reads.Learnt,
+  below-reads.Asked,
+  below-reads.Learnt,
+  extend-reads.Asked,
+  extend-reads.Learnt,
+  search-below t,
+  search′.Post,
+) (branch-at t) branch.Post
+branch-returns-2 t c =
+    let h = c .before .before .before .before .before .before .pre .1 in
+    (branch-node (h .0) _ _ _ _ _ _ _ _ (branch-lengths t (c .before .before .before .before .before .before)) _ (limit-is (h .0)) _ _ (c .before .extend .ensures) _ (c .search .ensures .0), c .search .ensures .1)
+
 search-lengths : (t : ℕ) (c : search-lts.Start (
   least-reads.Asked,
   least-reads.Learnt,
@@ -47,15 +282,15 @@ search-lengths : (t : ℕ) (c : search-lts.Start (
   best-reads.Learnt,
   second-reads.Asked,
   second-reads.Learnt,
-  extend-reads.Asked,
-  extend-reads.Learnt,
-  search-below t,
-  search′.Post,
+  branch-below t,
+  branch.Post,
+  later-reads.Asked,
+  later-reads.Learnt,
   better-reads.Asked,
   better-reads.Learnt,
 ) (search-at t) search′.Post)
-    → (length (c .args .word) ≡ 64) × (length (c .args .t6) ≡ 8)
-search-lengths t c = (search needs, search needs)
+    → length (c .args .t6) ≡ 8
+search-lengths t c = search needs
 
 search-sub-limit : (t : ℕ) → search-lts.Need-sub-limit (
   least-reads.Asked,
@@ -70,10 +305,10 @@ search-sub-limit : (t : ℕ) → search-lts.Need-sub-limit (
   best-reads.Learnt,
   second-reads.Asked,
   second-reads.Learnt,
-  extend-reads.Asked,
-  extend-reads.Learnt,
-  search-below t,
-  search′.Post,
+  branch-below t,
+  branch.Post,
+  later-reads.Asked,
+  later-reads.Learnt,
   better-reads.Asked,
   better-reads.Learnt,
 ) (search-at t) search′.Post
@@ -92,10 +327,10 @@ search-add-limit : (t : ℕ) → search-lts.Need-add-limit (
   best-reads.Learnt,
   second-reads.Asked,
   second-reads.Learnt,
-  extend-reads.Asked,
-  extend-reads.Learnt,
-  search-below t,
-  search′.Post,
+  branch-below t,
+  branch.Post,
+  later-reads.Asked,
+  later-reads.Learnt,
   better-reads.Asked,
   better-reads.Learnt,
 ) (search-at t) search′.Post
@@ -114,10 +349,10 @@ search-add-limit-2 : (t : ℕ) → search-lts.Need-add-limit-2 (
   best-reads.Learnt,
   second-reads.Asked,
   second-reads.Learnt,
-  extend-reads.Asked,
-  extend-reads.Learnt,
-  search-below t,
-  search′.Post,
+  branch-below t,
+  branch.Post,
+  later-reads.Asked,
+  later-reads.Learnt,
   better-reads.Asked,
   better-reads.Learnt,
 ) (search-at t) search′.Post
@@ -136,10 +371,10 @@ search-add-limit-3 : (t : ℕ) → search-lts.Need-add-limit-3 (
   best-reads.Learnt,
   second-reads.Asked,
   second-reads.Learnt,
-  extend-reads.Asked,
-  extend-reads.Learnt,
-  search-below t,
-  search′.Post,
+  branch-below t,
+  branch.Post,
+  later-reads.Asked,
+  later-reads.Learnt,
   better-reads.Asked,
   better-reads.Learnt,
 ) (search-at t) search′.Post
@@ -158,10 +393,10 @@ search-mul-limit : (t : ℕ) → search-lts.Need-mul-limit (
   best-reads.Learnt,
   second-reads.Asked,
   second-reads.Learnt,
-  extend-reads.Asked,
-  extend-reads.Learnt,
-  search-below t,
-  search′.Post,
+  branch-below t,
+  branch.Post,
+  later-reads.Asked,
+  later-reads.Learnt,
   better-reads.Asked,
   better-reads.Learnt,
 ) (search-at t) search′.Post
@@ -180,10 +415,10 @@ search-add-limit-4 : (t : ℕ) → search-lts.Need-add-limit-4 (
   best-reads.Learnt,
   second-reads.Asked,
   second-reads.Learnt,
-  extend-reads.Asked,
-  extend-reads.Learnt,
-  search-below t,
-  search′.Post,
+  branch-below t,
+  branch.Post,
+  later-reads.Asked,
+  later-reads.Learnt,
   better-reads.Asked,
   better-reads.Learnt,
 ) (search-at t) search′.Post
@@ -202,10 +437,10 @@ search-least-requires : (t : ℕ) → search-lts.Need-least-requires (
   best-reads.Learnt,
   second-reads.Asked,
   second-reads.Learnt,
-  extend-reads.Asked,
-  extend-reads.Learnt,
-  search-below t,
-  search′.Post,
+  branch-below t,
+  branch.Post,
+  later-reads.Asked,
+  later-reads.Learnt,
   better-reads.Asked,
   better-reads.Learnt,
 ) (search-at t) search′.Post
@@ -224,10 +459,10 @@ search-mul-if1 : (t : ℕ) → search-lts.Need-mul-if1 (
   best-reads.Learnt,
   second-reads.Asked,
   second-reads.Learnt,
-  extend-reads.Asked,
-  extend-reads.Learnt,
-  search-below t,
-  search′.Post,
+  branch-below t,
+  branch.Post,
+  later-reads.Asked,
+  later-reads.Learnt,
   better-reads.Asked,
   better-reads.Learnt,
 ) (search-at t) search′.Post
@@ -246,10 +481,10 @@ search-array-read-if1 : (t : ℕ) → search-lts.Need-array-read-if1 (
   best-reads.Learnt,
   second-reads.Asked,
   second-reads.Learnt,
-  extend-reads.Asked,
-  extend-reads.Learnt,
-  search-below t,
-  search′.Post,
+  branch-below t,
+  branch.Post,
+  later-reads.Asked,
+  later-reads.Learnt,
   better-reads.Asked,
   better-reads.Learnt,
 ) (search-at t) search′.Post
@@ -268,10 +503,10 @@ search-none-near-requires : (t : ℕ) → search-lts.Need-none-near-requires (
   best-reads.Learnt,
   second-reads.Asked,
   second-reads.Learnt,
-  extend-reads.Asked,
-  extend-reads.Learnt,
-  search-below t,
-  search′.Post,
+  branch-below t,
+  branch.Post,
+  later-reads.Asked,
+  later-reads.Learnt,
   better-reads.Asked,
   better-reads.Learnt,
 ) (search-at t) search′.Post
@@ -290,15 +525,18 @@ search-returns : (t : ℕ) → search-lts.Need-returns (
   best-reads.Learnt,
   second-reads.Asked,
   second-reads.Learnt,
-  extend-reads.Asked,
-  extend-reads.Learnt,
-  search-below t,
-  search′.Post,
+  branch-below t,
+  branch.Post,
+  later-reads.Asked,
+  later-reads.Learnt,
   better-reads.Asked,
   better-reads.Learnt,
 ) (search-at t) search′.Post
 unfolding leadAt
-search-returns t c = node-spent (c .before .before .before .before .pre .1 .0) _ _ _ _ _ _ _ (limit-is (c .before .before .before .before .pre .1 .0)) _ (c .before .before .least .ensures) _ (c .none-near .ensures .0) (c .none-near .ensures .1) (c .before .if1 .taken)
+search-returns t c = (
+  node-spent (c .before .before .before .before .pre .1 .0) _ _ _ _ _ _ _ (limit-is (c .before .before .before .before .pre .1 .0)) _ (c .before .before .least .ensures) _ (c .none-near .ensures .0) (c .none-near .ensures .1) (c .before .if1 .taken),
+  sound-none _ (c .none-near .ensures .0),
+)
 
 search-mul-leaf : (t : ℕ) → search-lts.Need-mul-leaf (
   least-reads.Asked,
@@ -313,10 +551,10 @@ search-mul-leaf : (t : ℕ) → search-lts.Need-mul-leaf (
   best-reads.Learnt,
   second-reads.Asked,
   second-reads.Learnt,
-  extend-reads.Asked,
-  extend-reads.Learnt,
-  search-below t,
-  search′.Post,
+  branch-below t,
+  branch.Post,
+  later-reads.Asked,
+  later-reads.Learnt,
   better-reads.Asked,
   better-reads.Learnt,
 ) (search-at t) search′.Post
@@ -335,10 +573,10 @@ search-array-copy-out-leaf : (t : ℕ) → search-lts.Need-array-copy-out-leaf (
   best-reads.Learnt,
   second-reads.Asked,
   second-reads.Learnt,
-  extend-reads.Asked,
-  extend-reads.Learnt,
-  search-below t,
-  search′.Post,
+  branch-below t,
+  branch.Post,
+  later-reads.Asked,
+  later-reads.Learnt,
   better-reads.Asked,
   better-reads.Learnt,
 ) (search-at t) search′.Post
@@ -357,10 +595,10 @@ search-leaf-requires : (t : ℕ) → search-lts.Need-leaf-requires (
   best-reads.Learnt,
   second-reads.Asked,
   second-reads.Learnt,
-  extend-reads.Asked,
-  extend-reads.Learnt,
-  search-below t,
-  search′.Post,
+  branch-below t,
+  branch.Post,
+  later-reads.Asked,
+  later-reads.Learnt,
   better-reads.Asked,
   better-reads.Learnt,
 ) (search-at t) search′.Post
@@ -379,15 +617,18 @@ search-returns-2 : (t : ℕ) → search-lts.Need-returns-2 (
   best-reads.Learnt,
   second-reads.Asked,
   second-reads.Learnt,
-  extend-reads.Asked,
-  extend-reads.Learnt,
-  search-below t,
-  search′.Post,
+  branch-below t,
+  branch.Post,
+  later-reads.Asked,
+  later-reads.Learnt,
   better-reads.Asked,
   better-reads.Learnt,
 ) (search-at t) search′.Post
 unfolding leadAt
-search-returns-2 t c = node-leaf (c .before .before .before .before .before .before .pre .1 .0) _ _ _ _ _ _ _ (limit-is (c .before .before .before .before .before .before .pre .1 .0)) _ (c .before .before .before .before .least .ensures) _ (c .before .before .if2 .taken) (none-left _ _ _ (c .before .before .if2 .taken) (search-lengths t (c .before .before .before .before .before .before) .1)) (c .before .before .before .if1 .left) (c .leaf .ensures)
+search-returns-2 t c = (
+  node-leaf (c .before .before .before .before .before .before .pre .1 .0) _ _ _ _ _ _ _ (limit-is (c .before .before .before .before .before .before .pre .1 .0)) _ (c .before .before .before .before .least .ensures) _ (c .before .before .if2 .taken) (none-left _ _ _ (c .before .before .if2 .taken) (search-lengths t (c .before .before .before .before .before .before))) (c .before .before .before .if1 .left) (c .leaf .ensures .0),
+  c .leaf .ensures .1,
+)
 
 search-sub-place : (t : ℕ) → search-lts.Need-sub-place (
   least-reads.Asked,
@@ -402,10 +643,10 @@ search-sub-place : (t : ℕ) → search-lts.Need-sub-place (
   best-reads.Learnt,
   second-reads.Asked,
   second-reads.Learnt,
-  extend-reads.Asked,
-  extend-reads.Learnt,
-  search-below t,
-  search′.Post,
+  branch-below t,
+  branch.Post,
+  later-reads.Asked,
+  later-reads.Learnt,
   better-reads.Asked,
   better-reads.Learnt,
 ) (search-at t) search′.Post
@@ -424,10 +665,10 @@ search-array-read-place : (t : ℕ) → search-lts.Need-array-read-place (
   best-reads.Learnt,
   second-reads.Asked,
   second-reads.Learnt,
-  extend-reads.Asked,
-  extend-reads.Learnt,
-  search-below t,
-  search′.Post,
+  branch-below t,
+  branch.Post,
+  later-reads.Asked,
+  later-reads.Learnt,
   better-reads.Asked,
   better-reads.Learnt,
 ) (search-at t) search′.Post
@@ -446,10 +687,10 @@ search-cast-place : (t : ℕ) → search-lts.Need-cast-place (
   best-reads.Learnt,
   second-reads.Asked,
   second-reads.Learnt,
-  extend-reads.Asked,
-  extend-reads.Learnt,
-  search-below t,
-  search′.Post,
+  branch-below t,
+  branch.Post,
+  later-reads.Asked,
+  later-reads.Learnt,
   better-reads.Asked,
   better-reads.Learnt,
 ) (search-at t) search′.Post
@@ -468,10 +709,10 @@ search-column-of-requires : (t : ℕ) → search-lts.Need-column-of-requires (
   best-reads.Learnt,
   second-reads.Asked,
   second-reads.Learnt,
-  extend-reads.Asked,
-  extend-reads.Learnt,
-  search-below t,
-  search′.Post,
+  branch-below t,
+  branch.Post,
+  later-reads.Asked,
+  later-reads.Learnt,
   better-reads.Asked,
   better-reads.Learnt,
 ) (search-at t) search′.Post
@@ -490,10 +731,10 @@ search-best-requires : (t : ℕ) → search-lts.Need-best-requires (
   best-reads.Learnt,
   second-reads.Asked,
   second-reads.Learnt,
-  extend-reads.Asked,
-  extend-reads.Learnt,
-  search-below t,
-  search′.Post,
+  branch-below t,
+  branch.Post,
+  later-reads.Asked,
+  later-reads.Learnt,
   better-reads.Asked,
   better-reads.Learnt,
 ) (search-at t) search′.Post
@@ -512,16 +753,16 @@ search-second-requires : (t : ℕ) → search-lts.Need-second-requires (
   best-reads.Learnt,
   second-reads.Asked,
   second-reads.Learnt,
-  extend-reads.Asked,
-  extend-reads.Learnt,
-  search-below t,
-  search′.Post,
+  branch-below t,
+  branch.Post,
+  later-reads.Asked,
+  later-reads.Learnt,
   better-reads.Asked,
   better-reads.Learnt,
 ) (search-at t) search′.Post
 search-second-requires t c κs = search needs
 
-search-extend-requires : (t : ℕ) → search-lts.Need-extend-requires (
+search-sub-branch : (t : ℕ) → search-lts.Need-sub-branch (
   least-reads.Asked,
   least-reads.Learnt,
   none-near-reads.Asked,
@@ -534,16 +775,16 @@ search-extend-requires : (t : ℕ) → search-lts.Need-extend-requires (
   best-reads.Learnt,
   second-reads.Asked,
   second-reads.Learnt,
-  extend-reads.Asked,
-  extend-reads.Learnt,
-  search-below t,
-  search′.Post,
+  branch-below t,
+  branch.Post,
+  later-reads.Asked,
+  later-reads.Learnt,
   better-reads.Asked,
   better-reads.Learnt,
 ) (search-at t) search′.Post
-search-extend-requires t c κs = search needs
+search-sub-branch t c = search needs
 
-search-array-write-first-word : (t : ℕ) → search-lts.Need-array-write-first-word (
+search-branch-requires : (t : ℕ) → search-lts.Need-branch-requires (
   least-reads.Asked,
   least-reads.Learnt,
   none-near-reads.Asked,
@@ -556,16 +797,18 @@ search-array-write-first-word : (t : ℕ) → search-lts.Need-array-write-first-
   best-reads.Learnt,
   second-reads.Asked,
   second-reads.Learnt,
-  extend-reads.Asked,
-  extend-reads.Learnt,
-  search-below t,
-  search′.Post,
+  branch-below t,
+  branch.Post,
+  later-reads.Asked,
+  later-reads.Learnt,
   better-reads.Asked,
   better-reads.Learnt,
 ) (search-at t) search′.Post
-search-array-write-first-word t c = search needs
+search-branch-requires t c κs =
+    let h = c .before .before .before .before .before .before .before .pre in
+    (omega (arith, h .0, c .before .before .before .if2 .left), (h .1 .0, h .1 .1, omega (arith, h .1 .2), search needs, h .1 .3))
 
-search-sub-search : (t : ℕ) → search-lts.Need-sub-search (
+search-sub-branch-2 : (t : ℕ) → search-lts.Need-sub-branch-2 (
   least-reads.Asked,
   least-reads.Learnt,
   none-near-reads.Asked,
@@ -578,16 +821,16 @@ search-sub-search : (t : ℕ) → search-lts.Need-sub-search (
   best-reads.Learnt,
   second-reads.Asked,
   second-reads.Learnt,
-  extend-reads.Asked,
-  extend-reads.Learnt,
-  search-below t,
-  search′.Post,
+  branch-below t,
+  branch.Post,
+  later-reads.Asked,
+  later-reads.Learnt,
   better-reads.Asked,
   better-reads.Learnt,
 ) (search-at t) search′.Post
-search-sub-search t c = search needs
+search-sub-branch-2 t c = search needs
 
-search-search-requires : (t : ℕ) → search-lts.Need-search-requires (
+search-later-requires : (t : ℕ) → search-lts.Need-later-requires (
   least-reads.Asked,
   least-reads.Learnt,
   none-near-reads.Asked,
@@ -600,16 +843,16 @@ search-search-requires : (t : ℕ) → search-lts.Need-search-requires (
   best-reads.Learnt,
   second-reads.Asked,
   second-reads.Learnt,
-  extend-reads.Asked,
-  extend-reads.Learnt,
-  search-below t,
-  search′.Post,
+  branch-below t,
+  branch.Post,
+  later-reads.Asked,
+  later-reads.Learnt,
   better-reads.Asked,
   better-reads.Learnt,
 ) (search-at t) search′.Post
-search-search-requires t c κs = (omega (arith, c .before .before .before .before .before .before .before .before .before .pre .0, c .before .before .before .before .before .if2 .left), (c .before .before .before .before .before .before .before .before .before .pre .1 .0, c .before .before .before .before .before .before .before .before .before .pre .1 .1, omega (arith, c .before .before .before .before .before .before .before .before .before .pre .1 .2)))
+search-later-requires t c κs = search needs
 
-search-extend-requires-2 : (t : ℕ) → search-lts.Need-extend-requires-2 (
+search-branch-requires-2 : (t : ℕ) → search-lts.Need-branch-requires-2 (
   least-reads.Asked,
   least-reads.Learnt,
   none-near-reads.Asked,
@@ -622,80 +865,16 @@ search-extend-requires-2 : (t : ℕ) → search-lts.Need-extend-requires-2 (
   best-reads.Learnt,
   second-reads.Asked,
   second-reads.Learnt,
-  extend-reads.Asked,
-  extend-reads.Learnt,
-  search-below t,
-  search′.Post,
+  branch-below t,
+  branch.Post,
+  later-reads.Asked,
+  later-reads.Learnt,
   better-reads.Asked,
   better-reads.Learnt,
 ) (search-at t) search′.Post
-search-extend-requires-2 t c κs = search needs
-
-search-array-write-other-word : (t : ℕ) → search-lts.Need-array-write-other-word (
-  least-reads.Asked,
-  least-reads.Learnt,
-  none-near-reads.Asked,
-  none-near-reads.Learnt,
-  leaf-reads.Asked,
-  leaf-reads.Learnt,
-  column-of-reads.Asked,
-  column-of-reads.Learnt,
-  best-reads.Asked,
-  best-reads.Learnt,
-  second-reads.Asked,
-  second-reads.Learnt,
-  extend-reads.Asked,
-  extend-reads.Learnt,
-  search-below t,
-  search′.Post,
-  better-reads.Asked,
-  better-reads.Learnt,
-) (search-at t) search′.Post
-search-array-write-other-word t c = search needs
-
-search-sub-search-2 : (t : ℕ) → search-lts.Need-sub-search-2 (
-  least-reads.Asked,
-  least-reads.Learnt,
-  none-near-reads.Asked,
-  none-near-reads.Learnt,
-  leaf-reads.Asked,
-  leaf-reads.Learnt,
-  column-of-reads.Asked,
-  column-of-reads.Learnt,
-  best-reads.Asked,
-  best-reads.Learnt,
-  second-reads.Asked,
-  second-reads.Learnt,
-  extend-reads.Asked,
-  extend-reads.Learnt,
-  search-below t,
-  search′.Post,
-  better-reads.Asked,
-  better-reads.Learnt,
-) (search-at t) search′.Post
-search-sub-search-2 t c = search needs
-
-search-search-requires-2 : (t : ℕ) → search-lts.Need-search-requires-2 (
-  least-reads.Asked,
-  least-reads.Learnt,
-  none-near-reads.Asked,
-  none-near-reads.Learnt,
-  leaf-reads.Asked,
-  leaf-reads.Learnt,
-  column-of-reads.Asked,
-  column-of-reads.Learnt,
-  best-reads.Asked,
-  best-reads.Learnt,
-  second-reads.Asked,
-  second-reads.Learnt,
-  extend-reads.Asked,
-  extend-reads.Learnt,
-  search-below t,
-  search′.Post,
-  better-reads.Asked,
-  better-reads.Learnt,
-) (search-at t) search′.Post
-search-search-requires-2 t c κs = (omega (arith, c .before .before .before .before .before .before .before .before .before .before .before .before .pre .0, c .before .before .before .before .before .before .before .before .if2 .left), (c .before .before .before .before .before .before .before .before .before .before .before .before .pre .1 .0, c .before .before .before .before .before .before .before .before .before .before .before .before .pre .1 .1, omega (arith, c .before .before .before .before .before .before .before .before .before .before .before .before .pre .1 .2)))
+search-branch-requires-2 t c κs =
+    let h = c .before .before .before .before .before .before .before .before .before .pre in
+    (omega (arith, h .0, c .before .before .before .before .before .if2 .left), (h .1 .0, h .1 .1, omega (arith, h .1 .2), search needs, sound-one (c .before .branch .ensures .1) (h .1 .3) (c .later .ensures)))
 
 search-better-requires : (t : ℕ) → search-lts.Need-better-requires (
   least-reads.Asked,
@@ -710,14 +889,16 @@ search-better-requires : (t : ℕ) → search-lts.Need-better-requires (
   best-reads.Learnt,
   second-reads.Asked,
   second-reads.Learnt,
-  extend-reads.Asked,
-  extend-reads.Learnt,
-  search-below t,
-  search′.Post,
+  branch-below t,
+  branch.Post,
+  later-reads.Asked,
+  later-reads.Learnt,
   better-reads.Asked,
   better-reads.Learnt,
 ) (search-at t) search′.Post
-search-better-requires t c κs = (c .before .before .before .before .before .before .before .before .before .before .before .before .before .pre .1 .0 .most, tests-fit _ _ _ (omega (arith, c .before .before .before .before .before .before .before .before .before .before .before .before .before .pre .1 .1, c .before .before .before .before .before .before .before .before .before .before .before .before .before .pre .1 .2)) (c .before .before .before .search .ensures .few) (c .search2 .ensures .few))
+search-better-requires t c κs =
+    let h = c .before .before .before .before .before .before .before .before .before .before .pre .1 in
+    (h .0 .most, tests-fit _ _ _ (omega (arith, h .1, h .2)) (c .before .before .branch .ensures .0 .few) (c .branch2 .ensures .0 .few))
 
 search-returns-3 : (t : ℕ) → search-lts.Need-returns-3 (
   least-reads.Asked,
@@ -732,41 +913,69 @@ search-returns-3 : (t : ℕ) → search-lts.Need-returns-3 (
   best-reads.Learnt,
   second-reads.Asked,
   second-reads.Learnt,
-  extend-reads.Asked,
-  extend-reads.Learnt,
-  search-below t,
-  search′.Post,
+  branch-below t,
+  branch.Post,
+  later-reads.Asked,
+  later-reads.Learnt,
   better-reads.Asked,
   better-reads.Learnt,
 ) (search-at t) search′.Post
 search-returns-3 t c =
-    let l = search-lengths t (c .before .before .before .before .before .before .before .before .before .before .before .before .before .before) in
-    node-branch (c .before .before .before .before .before .before .before .before .before .before .before .before .before .before .pre .1 .0) _ _ _ _ _ _ _ _ (limit-is (c .before .before .before .before .before .before .before .before .before .before .before .before .before .before .pre .1 .0)) (l .0) (l .1) (c .before .before .before .before .before .before .before .before .before .before .before .before .before .before .pre .1 .1)
-    (c .before .before .before .before .before .before .before .before .before .before .before .before .before .before .pre .1 .2) (some-left _ (c .before .before .before .before .before .before .before .before .before .before .if2 .left)) _ refl _ _ _ _ _ _ _ _ _
-    (c .before .before .before .before .before .before .before .before .best .ensures ∙ ap bestOf (c .before .before .before .before .before .before .before .before .before .column-of .ensures)) (c .before .before .before .before .before .before .before .second .ensures ∙ ap secondOf (c .before .before .before .before .before .before .before .before .before .column-of .ensures))
-    (c .before .before .before .before .before .extend .ensures) (c .before .before .extend2 .ensures) (c .before .before .before .before .search .ensures) (c .before .search2 .ensures) (c .better .ensures)
+    let h = c .before .before .before .before .before .before .before .before .before .before .before .pre .1 in (
+      node-branch _ _ _ (search-lengths t (c .before .before .before .before .before .before .before .before .before .before .before)) (h .1) (h .2) (some-left _ (c .before .before .before .before .before .before .before .if2 .left)) _ _ _ _ refl _ _
+          (c .before .before .before .before .before .best .ensures ∙ ap bestOf (c .before .before .before .before .before .before .column-of .ensures)) (c .before .before .before .before .second .ensures ∙ ap secondOf (c .before .before .before .before .before .before .column-of .ensures)) _ _ _ _ _ (c .before .before .before .branch .ensures .0) (c .before .branch2 .ensures .0) (c .better .ensures .0),
+      sound-one (c .before .before .before .branch .ensures .1) (c .before .branch2 .ensures .1) (c .better .ensures .1),
+    )
 
-pub +search-spec : {M : Type 1} → statement M
-+search-spec = close μ-search λ t. search-lts.spec (
-  least-reads.Asked,
-  least-reads.Learnt,
-  none-near-reads.Asked,
-  none-near-reads.Learnt,
-  leaf-reads.Asked,
-  leaf-reads.Learnt,
-  column-of-reads.Asked,
-  column-of-reads.Learnt,
-  best-reads.Asked,
-  best-reads.Learnt,
-  second-reads.Asked,
-  second-reads.Learnt,
+pub +branch+search-spec : {M : Type 1} → statement M
++branch+search-spec = close μ-branch μ-search (λ t. branch-lts.spec (
+  governs-reads.Asked,
+  governs-reads.Learnt,
+  tests-within-reads.Asked,
+  tests-within-reads.Learnt,
+  below-reads.Asked,
+  below-reads.Learnt,
   extend-reads.Asked,
   extend-reads.Learnt,
   search-below t,
   search′.Post,
-  better-reads.Asked,
-  better-reads.Learnt,
 )
+    (branch-at t)
+    branch.Post
+    (branch-array-write-next-word t)
+    (branch-governs-requires t)
+    (branch-tests-within-requires t)
+    (branch-below-requires t)
+    (branch-returns t)
+    (branch-sub-limit t)
+    (branch-add-limit t)
+    (branch-add-limit-2 t)
+    (branch-add-limit-3 t)
+    (branch-mul-limit t)
+    (branch-add-limit-4 t)
+    (branch-extend-requires t)
+    (branch-search-requires t)
+    (branch-returns-2 t))
+    λ t. search-lts.spec (
+      least-reads.Asked,
+      least-reads.Learnt,
+      none-near-reads.Asked,
+      none-near-reads.Learnt,
+      leaf-reads.Asked,
+      leaf-reads.Learnt,
+      column-of-reads.Asked,
+      column-of-reads.Learnt,
+      best-reads.Asked,
+      best-reads.Learnt,
+      second-reads.Asked,
+      second-reads.Learnt,
+      branch-below t,
+      branch.Post,
+      later-reads.Asked,
+      later-reads.Learnt,
+      better-reads.Asked,
+      better-reads.Learnt,
+    )
     (search-at t)
     search′.Post
     (search-sub-limit t)
@@ -790,13 +999,10 @@ pub +search-spec : {M : Type 1} → statement M
     (search-column-of-requires t)
     (search-best-requires t)
     (search-second-requires t)
-    (search-extend-requires t)
-    (search-array-write-first-word t)
-    (search-sub-search t)
-    (search-search-requires t)
-    (search-extend-requires-2 t)
-    (search-array-write-other-word t)
-    (search-sub-search-2 t)
-    (search-search-requires-2 t)
+    (search-sub-branch t)
+    (search-branch-requires t)
+    (search-sub-branch-2 t)
+    (search-later-requires t)
+    (search-branch-requires-2 t)
     (search-better-requires t)
     (search-returns-3 t)

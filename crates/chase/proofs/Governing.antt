@@ -1,0 +1,349 @@
+-- A known codeword that is close enough to every test word below a node is the only one that can be near them: they are only counted.
+use mathlib.Core.Bool.{Bool, true, false, not, _||_}
+use mathlib.Core.Path.{_≡_, refl, sym, ap, _∙_, subst}
+use mathlib.Core.List.{List, [], _∷_, _++_, List·Memᴰ, List·Memᴰ·head, List·Memᴰ·tail, List·Memᴰ·cases-cons, List·Memᴰ·not-nil}
+use mathlib.Core.Logic.{_⊎_, inl, inr, ⊎-elim}
+use mathlib.Core.Option.{some, none}
+use Prim.Native.Nat.{ℕ, zero, suc, _+_, _-_, _/_, _%_, _<_, _≤_}
+use native.Mathlib.Nat.{mod-eq-of-lt}
+use native.Mathlib.Decide.{ℕ-discrete}
+use native.Mathlib.Omega.{arith}
+use lib.Dec.{T, eqb, leb, leb→le}
+use lib.ListN.{length, getD, take, drop, set, length-set, length-take, length-drop}
+use lib.Seq.{getD-set-other, getD-take, getD-drop}
+use borrow.Author.Tests.{eq-eqb, ne-eqb, le-leb, lt-leb}
+use Rattle.lists.specs.Count.{bit, sumOf-mono, sumOf-plus, count, count-nil, count-suc, count-none}
+use Rattle.lists.specs.Every.{both}
+use Rattle.lists.specs.Member.{member-at}
+use Rattle.lists.specs.Words.{Word, Lex, lex-asym, lex-or}
+use Rattle.lists.specs.Answers.{Found, best, answers-unique}
+use Rattle.code.specs.Encoding.{encodeOf}
+use Rattle.soft.specs.Total.{differAt, differing}
+use Rattle.soft.specs.TotalLaws.{agree-true, differing-triangle, differing-comm}
+use Rattle.soft.specs.TestWord.{bestAt, secondAt, expand}
+use Rattle.soft.specs.TestWordLaws.{expand-nil, expand-cons, expand-length, expand-settled}
+use Rattle.near.specs.Near.{mOf, reachOf, nearTo, codewordNear, near, isSome, testsNear, messageCost, answerOf}
+use Rattle.near.specs.Reach.{Workable}
+use Rattle.near.specs.Distance.{codewords-apart}
+use Rattle.near.specs.Laws.{near-member, near-answers, word-answers, answer-none, codeword-none, tests-nil, tests-cons}
+use Rattle.near.specs.Tree.{Places}
+use Rattle.chase.specs.declared.Answer.the-variants.{NoneNear, Near}
+use Rattle.chase.specs.declared.Found.{Found as Answered}
+use Rattle.chase.specs.Nearest.{Nearest}
+use Rattle.chase.specs.Searching.{Ranged}
+use Rattle.chase.specs.Known.{Sound, Same, OneOf, of-first, of-other, Outside, Governs, testsWithin, BelowOf, below-none, below-some}
+use Rattle.chase.proofs.Candidate.{nearest-none, nearest-some}
+use Rattle.chase.proofs.Settling.{places-at}
+
+-- ---- words that have the same symbols but at some places differ in no more than these
+
+count-one : (n q : ℕ) → count n (λ p. eqb p q) ≤ 1
+count-one zero q = omega (arith, count-nil (λ p. eqb p q))
+count-one (suc n) q = go (ℕ-discrete n q) (count-one n q)
+  where
+    go : Dec (n ≡ q) → count n (λ p. eqb p q) ≤ 1 → count (suc n) (λ p. eqb p q) ≤ 1
+    go (yes e) ih =
+        omega (
+          arith,
+          count-suc n (λ p. eqb p q),
+          ap bit (eq-eqb n q e),
+          count-none n (λ p. eqb p q) (λ p l. ne-eqb p q (λ (d : p ≡ q). omega arith)),
+        )
+    go (no d) ih = omega (arith, count-suc n (λ p. eqb p q), ap bit (ne-eqb n q d))
+
+part : (a b : Bool) → bit a ≤ bit (both a (not b)) + bit b
+part true true = omega arith
+part true false = omega arith
+part false b = omega arith
+
+count-split : (n q : ℕ) (f : ℕ → Bool) → count n f ≤ count n (λ p. both (f p) (not (eqb p q))) + count n (λ p. eqb p q)
+unfolding count
+count-split n q f =
+    omega (
+      arith,
+      sumOf-mono n (λ p. bit (f p)) (λ p. bit (both (f p) (not (eqb p q))) + bit (eqb p q)) (λ p l. part (f p) (eqb p q)),
+      sumOf-plus n (λ p. bit (both (f p) (not (eqb p q)))) (λ p. bit (eqb p q)),
+    )
+
+count-members : (ps : List ℕ) (n : ℕ) (f : ℕ → Bool) → ((p : ℕ) → p < n → T (f p) → List·Memᴰ p ps) → count n f ≤ length ps
+count-members [] n f h = omega (arith, count-none n f (λ p l. fails (f p) (λ t. List·Memᴰ·not-nil (h p l t))))
+  where
+    fails : (b : Bool) → (T b → ⊥) → b ≡ false
+    fails true t = absurd (t tt)
+    fails false t = refl
+count-members (q ∷ ps) n f h =
+    omega (
+      arith,
+      count-members ps n (λ p. both (f p) (not (eqb p q))) (λ p l t. rest p l t),
+      count-split n q f,
+      count-one n q,
+    )
+  where
+    first : (a b : Bool) → T (both a (not b)) → T a × (b ≡ false)
+    first true false t = (tt, refl)
+    first true true t = absurd t
+    first false b t = absurd t
+
+    rest : (p : ℕ) → p < n → T (both (f p) (not (eqb p q))) → List·Memᴰ p ps
+    rest p l t =
+        let r = first (f p) (eqb p q) t in
+        ⊎-elim (λ (e : p ≡ q). let z : true ≡ false = sym (eq-eqb p q e) ∙ r .1 in absurd (subst T z tt)) (λ m. m)
+        (List·Memᴰ·cases-cons (h p l (r .0)))
+
+among : (p : ℕ) (ps : List ℕ) → (List·Memᴰ p ps) ⊎ (¬ List·Memᴰ p ps)
+among p [] = inr List·Memᴰ·not-nil
+among p (q ∷ ps) = go (ℕ-discrete p q) (among p ps)
+  where
+    go : Dec (p ≡ q) → (List·Memᴰ p ps) ⊎ (¬ List·Memᴰ p ps) → (List·Memᴰ p (q ∷ ps)) ⊎ (¬ List·Memᴰ p (q ∷ ps))
+    go (yes e) a = inl (List·Memᴰ·head e)
+    go (no d) (inl m) = inl (List·Memᴰ·tail m)
+    go (no d) (inr n) = inr (λ m. ⊎-elim d n (List·Memᴰ·cases-cons m))
+
+module _ {ps word u v : List ℕ} (a : Outside ps word u) (b : Outside ps word v) where
+  outside-differing : differing 64 u v ≤ length ps
+  unfolding differing
+  outside-differing = count-members ps 64 (differAt u v) (λ p l t. ⊎-elim (λ m. m) (λ n. absurd (apart p l t n)) (among p ps))
+    where
+      apart : (p : ℕ) → p < 64 → T (differAt u v p) → ¬ List·Memᴰ p ps → ⊥
+      apart p l t n =
+          subst (λ c. T (not c)) (agree-true u v p (omega (arith, a .size)) (omega (arith, b .size)) (a .same p n ∙ sym (b .same p n))) t
+
+-- ---- the places left
+
+module _ (doubtful : List ℕ) (doubt left : ℕ) (eight : length doubtful ≡ 8) (few : doubt ≤ 8) (within : left ≤ doubt) where
+  abbrev rest : List ℕ
+  rest = drop (doubt - left) (take doubt doubtful)
+
+  pub rest-length : length rest ≡ left
+  rest-length = omega (arith, length-drop (doubt - left) (take doubt doubtful), length-take doubt doubtful)
+
+  -- the word is written at a place left
+  pub filled-turn : (word out : List ℕ) (i s : ℕ) → doubt - left ≤ i → i < doubt → Places rest → Outside rest word out
+      → Outside rest word (set out (getD doubtful i 0 % 64) s)
+  filled-turn word out i s above below P o =
+      record {
+        size = length-set out (x % 64) s ∙ o .size;
+        same = λ p n. getD-set-other out (x % 64) p s 0 (λ e. n (subst (λ y. List·Memᴰ y rest) (sym (e ∙ mod-eq-of-lt small)) inside)) ∙ o .same p n;
+      }
+    where
+      x : ℕ
+      x = getD doubtful i 0
+
+      j : ℕ
+      j = i - (doubt - left)
+
+      short : j < length rest
+      short = omega (arith, rest-length)
+
+      there : getD rest j 0 ≡ x
+      there =
+          let e : doubt - left + j ≡ i = omega arith in
+          getD-drop (doubt - left) (take doubt doubtful) j 0 ∙ ap (λ n. getD (take doubt doubtful) n 0) e ∙ getD-take doubt doubtful i 0 below
+
+      inside : List·Memᴰ x rest
+      inside = subst (λ y. List·Memᴰ y rest) there (member-at rest 0 j short)
+
+      small : x < 64
+      small = subst (λ y. y < 64) there (places-at P j short)
+
+pub governs-all : {k : ℕ} → Ranged k → (known : Answered) (word ps agreed : List ℕ) (t left d : ℕ) → known .answer ≡ Near t → length ps ≡ left
+    → Outside ps word agreed → d ≡ differing 64 (known .codeword) agreed → d + left + (52 - k) / 2 < 59 - k → Governs k known word ps
+unfolding reachOf mOf
+governs-all {k} rate known word ps agreed t left d near size o d-is close =
+    record {
+      total = t;
+      near = near;
+      apart = λ v w.
+          let r : (52 - k) / 2 ≡ (57 - (k + 5)) / 2 = omega arith in
+          omega (arith, r, size, d-is, differing-triangle 64 (known .codeword) agreed v, outside-differing o w);
+    }
+
+-- ---- how many test words are within T of a codeword
+
+module _ (k : ℕ) (c : List ℕ) where
+  within-nil : testsWithin k c [] ≡ 0
+  unfolding testsWithin
+  within-nil = refl
+
+  within-cons : (t : List ℕ) (ts : List (List ℕ)) → testsWithin k c (t ∷ ts) ≡ bit (leb (differing 64 c t) (reachOf k)) + testsWithin k c ts
+  unfolding testsWithin
+  within-cons t ts = refl
+
+  within-append : (ts us : List (List ℕ)) → testsWithin k c (ts ++ us) ≡ testsWithin k c ts + testsWithin k c us
+  within-append [] us = omega (arith, within-nil)
+  within-append (t ∷ ts) us = omega (arith, within-cons t (ts ++ us), within-cons t ts, within-append ts us)
+
+  pub within-leaf : (columns : ℕ → List ℕ) (word : List ℕ) → testsWithin k c (expand columns word []) ≡ bit (leb (differing 64 c word) (reachOf k))
+  within-leaf columns word = ap (testsWithin k c) (expand-nil columns word) ∙ within-cons word [] ∙ omega (arith, within-nil)
+
+  pub within-branch : (columns : ℕ → List ℕ) (word : List ℕ) (p : ℕ) (ps : List ℕ)
+      → testsWithin k c (expand columns word (p ∷ ps))
+      ≡ testsWithin k c (expand columns (set word p (bestAt columns p)) ps) + testsWithin k c (expand columns (set word p (secondAt columns p)) ps)
+  within-branch columns word p ps = ap (testsWithin k c) (expand-cons columns word p ps) ∙ within-append _ _
+
+-- one word, by the distance that is measured
+module _ {k : ℕ} (rate : Ranged k) (c word : List ℕ) (d : ℕ) (d-is : d ≡ differing 64 c word) where
+  same-reach : (52 - k) / 2 ≡ reachOf k
+  unfolding reachOf mOf
+  same-reach = omega arith
+
+  pub within-yes : d ≤ (52 - k) / 2 → 1 ≡ bit (leb (differing 64 c word) (reachOf k))
+  within-yes h = sym (ap bit (le-leb (differing 64 c word) (reachOf k) (omega (arith, same-reach))))
+
+  pub within-no : (52 - k) / 2 < d → 0 ≡ bit (leb (differing 64 c word) (reachOf k))
+  within-no h = sym (ap bit (lt-leb (differing 64 c word) (reachOf k) (omega (arith, same-reach))))
+
+-- ---- near one codeword there is no other
+
+module _ {k : ℕ} (rate : Workable k) {m : List ℕ} (w : Word 16 k m) where
+  -- a message whose codeword is within T of a word that is close to the codeword of m, is m
+  only : (t n : List ℕ) → differing 64 (encodeOf k m) t + reachOf k + mOf k < 64 → Found 16 k (nearTo k t) n → n ≡ m
+  unfolding nearTo
+  only t n close f =
+      ⊎-elim (λ l. absurd (far (λ e. lex-asym m n l (subst (λ x. Lex n x) (sym e) (subst (λ x. Lex x n) e l)))))
+      (⊎-elim (λ e. e) (λ l. absurd (far (λ e. lex-asym n m l (subst (λ x. Lex m x) e (subst (λ x. Lex x m) (sym e) l)))))) (lex-or m n)
+    where
+      far : (m ≡ n → ⊥) → ⊥
+      far other =
+          omega (
+            arith,
+            codewords-apart rate w (f .word) other,
+            differing-triangle 64 (encodeOf k m) t (encodeOf k n),
+            differing-comm 64 t (encodeOf k n),
+            leb→le (differing 64 (encodeOf k n) t) (reachOf k) (f .passed),
+          )
+
+  module _ (columns : ℕ → List ℕ) where
+    -- whether a codeword is within T of such a word
+    here : (t : List ℕ) → differing 64 (encodeOf k m) t + reachOf k + mOf k < 64 → isSome (codewordNear k t) ≡ nearTo k t m
+    here t close = go (nearTo k t m) refl
+      where
+        go : (b : Bool) → nearTo k t m ≡ b → isSome (codewordNear k t) ≡ b
+        go true e = ap isSome (answers-unique (word-answers k t) (best (record { word = w; passed = subst T (sym e) tt }) (λ n f. inl (only t n close f))))
+        go false e =
+            ap isSome (codeword-none k t (λ n f. subst T (ap (nearTo k t) (only t n close f) ∙ e) (f .passed)))
+
+    within-tests : (ts : List (List ℕ)) → ((t : List ℕ) → List·Memᴰ t ts → differing 64 (encodeOf k m) t + reachOf k + mOf k < 64)
+        → testsNear k ts ≡ testsWithin k (encodeOf k m) ts
+    unfolding nearTo
+    within-tests [] h = tests-nil k ∙ sym (within-nil k (encodeOf k m))
+    within-tests (t ∷ ts) h =
+        omega (
+          arith,
+          tests-cons k t ts,
+          within-cons k (encodeOf k m) t ts,
+          ap bit (here t (h t (List·Memᴰ·head refl))),
+          within-tests ts (λ u i. h u (List·Memᴰ·tail i)),
+        )
+
+    within-near : (ts : List (List ℕ)) → 0 < testsWithin k (encodeOf k m) ts → T (near k ts m)
+    unfolding nearTo near
+    within-near [] h = absurd (omega (arith, within-nil k (encodeOf k m)))
+    within-near (t ∷ ts) h = go (leb (differing 64 (encodeOf k m) t) (reachOf k)) refl (within-near ts)
+      where
+        go : (b : Bool) → leb (differing 64 (encodeOf k m) t) (reachOf k) ≡ b → (0 < testsWithin k (encodeOf k m) ts → T (near k ts m)) → T (nearTo k t m || near k ts m)
+        go true e ih = subst (λ b. T (b || near k ts m)) (sym e) tt
+        go false e ih = subst (λ b. T (b || near k ts m)) (sym e) (ih (omega (arith, within-cons k (encodeOf k m) t ts, ap bit e)))
+
+    near-within : (ts : List (List ℕ)) (t : List ℕ) → List·Memᴰ t ts → T (nearTo k t m) → 0 < testsWithin k (encodeOf k m) ts
+    unfolding nearTo
+    near-within [] t i h = absurd (List·Memᴰ·not-nil i)
+    near-within (u ∷ ts) t i h =
+        ⊎-elim
+        (λ (e : t ≡ u).
+        omega (
+          arith,
+          within-cons k (encodeOf k m) u ts,
+          ap bit (le-leb (differing 64 (encodeOf k m) u) (reachOf k) (subst (λ v. differing 64 (encodeOf k m) v ≤ reachOf k) e (leb→le (differing 64 (encodeOf k m) t) (reachOf k) h))),
+        ))
+        (λ j. omega (arith, within-cons k (encodeOf k m) u ts, near-within ts t j h)) (List·Memᴰ·cases-cons i)
+
+    module _ (ts : List (List ℕ)) (h : (t : List ℕ) → List·Memᴰ t ts → differing 64 (encodeOf k m) t + reachOf k + mOf k < 64) where
+      within-some : 0 < testsWithin k (encodeOf k m) ts → answerOf k columns ts ≡ some m
+      within-some some-one =
+          answers-unique (near-answers k columns ts)
+          (best (record { word = w; passed = within-near ts some-one })
+          (λ n f.
+          let r = near-member k ts n (f .passed) in
+          inl (only (r .0) n (h (r .0) (r .1)) (record { word = f .word; passed = r .2 }))))
+
+      within-none : testsWithin k (encodeOf k m) ts ≡ 0 → answerOf k columns ts ≡ none
+      within-none e =
+          answer-none k columns ts
+          (λ n f.
+          let r = near-member k ts n (f .passed) in
+          let q = only (r .0) n (h (r .0) (r .1)) (record { word = f .word; passed = r .2 }) in
+          omega (arith, near-within ts (r .0) (r .1) (subst (λ x. T (nearTo k (r .0) x)) q (r .2))))
+
+-- ---- what is known
+
+pub sound-same : {k : ℕ} {columns : ℕ → List ℕ} {a f : Answered} → Sound k columns a → Same a f → Sound k columns f
+sound-same {k} {columns} s e =
+    record {
+      word = λ t h. subst (λ m. Word 16 k (take k m)) (sym (e .message)) (s .word t (sym (e .answer) ∙ h));
+      encoded = λ t h. e .codeword ∙ s .encoded t (sym (e .answer) ∙ h) ∙ ap (λ m. encodeOf k (take k m)) (sym (e .message));
+      cost = λ t h. s .cost t (sym (e .answer) ∙ h) ∙ ap (λ m. messageCost k columns (take k m)) (sym (e .message));
+    }
+
+pub sound-one : {k : ℕ} {columns : ℕ → List ℕ} {a b f : Answered} → Sound k columns a → Sound k columns b → OneOf a b f → Sound k columns f
+sound-one s r (of-first e) = sound-same s e
+sound-one s r (of-other e) = sound-same r e
+
+-- of two answers the one that is kept, where it is near
+pub kept-first : (a b f : Answered) (t : ℕ) → a .answer ≡ Near t → f .answer ≡ Near t → f .message ≡ a .message → f .codeword ≡ a .codeword → OneOf a b f
+kept-first a b f t at ft em ec = of-first (record { answer = ft ∙ sym at; message = em; codeword = ec })
+
+pub kept-other : (a b f : Answered) (t : ℕ) → b .answer ≡ Near t → f .answer ≡ Near t → f .message ≡ b .message → f .codeword ≡ b .codeword → OneOf a b f
+kept-other a b f t bt ft em ec = of-other (record { answer = ft ∙ sym bt; message = em; codeword = ec })
+
+pub sound-none : {k : ℕ} {columns : ℕ → List ℕ} (f : Answered) → f .answer ≡ NoneNear → Sound k columns f
+sound-none {k} {columns} f e =
+    record { word = λ t h. absurd (never t h); encoded = λ t h. absurd (never t h); cost = λ t h. absurd (never t h) }
+  where
+    never : (t : ℕ) → f .answer ≡ Near t → ⊥
+    never t h = let z : _≡_ {A = ℕ} 0 1 = cc in omega arith
+
+pub sound-below : {k : ℕ} {columns : ℕ → List ℕ} {known f : Answered} {tests : ℕ} → Sound k columns known → BelowOf known tests f → Sound k columns f
+sound-below {f = f} s (below-none z e n) = sound-none f e
+sound-below s (below-some z e n) = sound-same s e
+
+pub below-tests : {known f : Answered} {tests : ℕ} → BelowOf known tests f → f .tests ≡ tests
+below-tests (below-none z e n) = n ∙ sym z
+below-tests (below-some z e n) = n
+
+module _ {k : ℕ} (rate : Workable k) (columns : ℕ → List ℕ) (known : Answered) (word ps : List ℕ) (size : length word ≡ 64) (s : Sound k columns known)
+    (g : Governs k known word ps) where
+  m : List ℕ
+  m = take k (known .message)
+
+  c : List ℕ
+  c = encodeOf k m
+
+  symbols : Word 16 k m
+  unfolding m
+  symbols = s .word (g .total) (g .near)
+
+  close : (t : List ℕ) → List·Memᴰ t (expand columns word ps) → differing 64 c t + reachOf k + mOf k < 64
+  unfolding c m
+  close t i =
+      subst (λ u. differing 64 u t + reachOf k + mOf k < 64) (s .encoded (g .total) (g .near))
+      (g .apart t (record { size = expand-length columns word ps t i ∙ size; same = λ p out. expand-settled columns word ps t i p out }))
+
+  pub governed-nearest : (f : Answered) (tests : ℕ) → tests ≡ testsWithin k (known .codeword) (expand columns word ps) → BelowOf known tests f
+      → Nearest k columns (expand columns word ps) f
+  unfolding c m
+  governed-nearest f tests counted b = go b
+    where
+      count : tests ≡ testsWithin k c (expand columns word ps)
+      count = counted ∙ ap (λ u. testsWithin k u (expand columns word ps)) (s .encoded (g .total) (g .near))
+
+      near-count : testsNear k (expand columns word ps) ≡ tests
+      near-count = within-tests rate symbols columns (expand columns word ps) close ∙ sym count
+
+      go : BelowOf known tests f → Nearest k columns (expand columns word ps) f
+      go (below-none z e n) =
+          nearest-none f e n (near-count ∙ z) (within-none rate symbols columns (expand columns word ps) close (sym count ∙ z))
+      go (below-some z e n) =
+          nearest-some f (g .total) (e .answer ∙ g .near) (near-count ∙ sym n)
+          (within-some rate symbols columns (expand columns word ps) close (subst (λ n. 0 < n) count z) ∙ ap (λ x. some (take k x)) (sym (e .message)))
+          (s .cost (g .total) (g .near) ∙ ap (λ x. messageCost k columns (take k x)) (sym (e .message)))
