@@ -1,0 +1,78 @@
+/* How many bytes of stack a table decoding touches: a thread with a painted stack decodes frames with eight doubtful places, one wrong
+ * place and none near, at both rates, and the paint that is left is counted. */
+#include <pthread.h>
+#include <stdio.h>
+#include <stdlib.h>
+#include <string.h>
+
+#include "hermitian.h"
+
+enum { STACK = 1 << 20, PAINT = 0xa5, ROOM = 1 << 12 };
+
+struct job {
+    size_t rate, wrong, doubt;
+    int decode;
+    uint8_t answer;
+};
+
+static uint8_t table[HERMITIAN_TABLE_BYTES], message[49], report[HERMITIAN_REPORT_BYTES];
+
+static void cost(size_t place, size_t symbol, unsigned value)
+{
+    table[(place * 16 + symbol) * 2] = (uint8_t)(value >> 8);
+    table[(place * 16 + symbol) * 2 + 1] = (uint8_t)value;
+}
+
+static void *run(void *given)
+{
+    struct job *job = given;
+    if (job->decode)
+        job->answer = hermitian_decode_table(job->rate, table, sizeof table, job->doubt, message, job->rate, report, sizeof report);
+    return NULL;
+}
+
+static size_t touched(struct job *job)
+{
+    uint8_t *stack = aligned_alloc(ROOM, STACK);
+    pthread_attr_t attributes;
+    pthread_t thread;
+    size_t left = 0;
+    if (stack == NULL)
+        exit(1);
+    memset(stack, PAINT, STACK);
+    if (pthread_attr_init(&attributes) != 0 || pthread_attr_setstack(&attributes, stack, STACK) != 0 ||
+        pthread_create(&thread, &attributes, run, job) != 0 || pthread_join(thread, NULL) != 0)
+        exit(1);
+    while (left < STACK && stack[left] == PAINT)
+        left++;
+    free(stack);
+    return STACK - left;
+}
+
+int main(void)
+{
+    const size_t rates[] = {39, 49}, wrongs[] = {0, 1, 12}, doubts[] = {0, 8};
+    uint8_t word[HERMITIAN_PLACES] = {0};
+    for (size_t r = 0; r < 2; r++)
+        for (size_t w = 0; w < 3; w++)
+            for (size_t d = 0; d < 2; d++) {
+                struct job job = {.rate = rates[r], .wrong = wrongs[w], .doubt = doubts[d]};
+                for (size_t t = 0; t < sizeof message; t++)
+                    message[t] = (uint8_t)(t * 7 % 16);
+                if (hermitian_encode(job.rate, message, job.rate, word, sizeof word, 0) != 0)
+                    return 1;
+                for (size_t p = 0; p < HERMITIAN_PLACES; p++) {
+                    size_t at = p * 27 % 64, best = at < job.wrong ? (word[p] + 1) % 16 : word[p];
+                    for (size_t s = 0; s < 16; s++)
+                        cost(p, s, 500);
+                    cost(p, best, 0);
+                    if (at >= 56)
+                        cost(p, (best + 3) % 16, 5);
+                }
+                size_t idle = touched(&job);
+                job.decode = 1;
+                size_t used = touched(&job) - idle;
+                printf("rate %zu, %2zu wrong places, doubt %zu: %zu bytes of stack, answer %u\n", job.rate, job.wrong, job.doubt, used, job.answer);
+            }
+    return 0;
+}
