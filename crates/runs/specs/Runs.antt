@@ -7,8 +7,8 @@
 --   Fits call            what the types say of a call's arguments: a column has sixteen costs (each is below 65536, which nothing here asks)
 --   some-run             every list of such calls has a run from every good session: the theorems are not empty
 --
--- Reading and closing are known by their predicates in `session` alone: what is proved here holds of whatever code has them as its contracts, and
--- of that code only once it is proved against them.
+-- Reading and closing are known by their predicates in `session` alone: what is proved here holds of whatever code has them as its contracts, as
+-- `reading::read_interpolant` and `closing::close` do.
 use mathlib.Core.Bool.{Bool, true, false}
 use mathlib.Core.Path.{_≡_, refl, sym, ap, ap₂, _∙_}
 use mathlib.Core.List.{List, [], _∷_}
