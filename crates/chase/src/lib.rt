@@ -268,8 +268,8 @@ fn filled(
     out
 }
 
-// Is no other codeword than the known one within T of any test word below a node? Two codewords differ in at least 59 - k places, and a
-// test word differs from the known one in no more than the decided places of the word do, and the places left.
+// Is no other codeword than the known one within T of any test word below a node? Two codewords differ in at least 59 - k places; and the
+// known one differs from such a test word only in decided places in which it differs from the word, and in places left.
 fn governs(
     known: Found,
     word: [u8; 64],
@@ -293,7 +293,7 @@ fn governs(
     distance(codeword, agreed) + left + (52 - k) / 2 < 59 - k
 }
 
-// 1 for a word within T of the codeword.
+// 1 for a word within T of the codeword, and 0 for any other.
 fn within(codeword: [u8; 64], word: [u8; 64], k: usize) -> usize
     requires { ⌜ Ranged k ⌝ }
     ensures { λ r. ⌜ r ≡ bit (leb (differing 64 codeword word) (reachOf k)) ⌝ }
