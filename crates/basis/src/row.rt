@@ -1,13 +1,17 @@
 // Rows of coefficients: 64 without z by order, then 32 with z by order. Loops run over whole rows, so that no fact on where a row
 // ends is needed and the compiler can take sixteen positions at a time.
 ghost use mathlib.Core.Path.{_≡_};
+ghost use mathlib.Core.List.{List};
+ghost use Prim.Native.Nat.{ℕ, _<_};
 ghost use Rattle.algebra.specs.Coefficients.{plus, scale};
+ghost use Rattle.galois.specs.Carryless.{reduced};
 ghost use Rattle.galois.specs.Field16.{K16, toF, value};
+ghost use Rattle.lists.specs.Listed.{listed};
 ghost use Rattle.basis.specs.Rows.{coef, dot, raise, weighed};
+ghost use Rattle.basis.specs.Planes.{planeAt, planesOf, pickedOf, Split};
 use crate::PLAIN;
 use crate::ROW;
 use crate::Row;
-use galois::carryless;
 use galois::product;
 use galois::reduced;
 
@@ -29,17 +33,63 @@ pub fn weights(monomials: [u8; PLAIN], z: u8) -> Row
     out
 }
 
-// The value of a row at the point of the weights: the one routine that evaluates at a place. The sum is reduced once.
-pub fn dot(row: Row, weights: Row) -> u8
-    ensures { λ r. ⌜ r ≡ value (dot (coef row) (coef weights) 96) ⌝ }
+// The entries of a row by their bits, lowest first: 127 where the bit is set and 0 where it is not.
+pub type Planes = [Row; 4];
+
+// The bit that counts `of`.
+fn plane(row: Row, of: u8) -> Row
+    requires { ⌜ 0 < of ⌝ }
+    ensures { λ r. ⌜ r ≡ listed 96 (planeAt of row) ⌝ }
+{
+    let mut out = [0u8; ROW];
+    let mut i = 0;
+    while i < ROW {
+        out[i] = row[i] / of % 2 * 127;
+        i += 1;
+    }
+    out
+}
+
+pub fn planes(row: Row) -> Planes
+    ensures { λ r. ⌜ r ≡ planesOf row ⌝ }
+{
+    let one = plane(row, 1);
+    let two = plane(row, 2);
+    let four = plane(row, 4);
+    let eight = plane(row, 8);
+    [one, two, four, eight]
+}
+
+// A product before its reduction, one factor by its bits.
+fn picked(a: u8, one: u8, two: u8, four: u8, eight: u8) -> u8
+    ensures { λ r. ⌜ r ≡ pickedOf a one two four eight ⌝ }
+{
+    let a1 = a % 16;
+    (a1 & one) ^ (a1 * 2 & two) ^ (a1 * 4 & four) ^ (a1 * 8 & eight)
+}
+
+fn summed(row: Row, one: Row, two: Row, four: Row, eight: Row) -> u8
+    ensures { λ r. ⌜ ((weights : List ℕ) → Split weights one two four eight → reduced r ≡ value (dot (coef row) (coef weights) 96)) ⌝ }
 {
     let mut sum = 0u8;
     let mut i = 0;
     while i < ROW {
-        sum = sum ^ carryless(row[i], weights[i]);
+        sum = sum ^ picked(row[i], one[i], two[i], four[i], eight[i]);
         i += 1;
     }
-    reduced(sum)
+    sum
+}
+
+// The value of a row at the point of the weights, which are given by their bits: the one routine that evaluates at a place. The sum is
+// reduced once.
+pub fn dot(row: Row, weights: Planes) -> u8
+    ensures { λ r. ⌜ ((w : List ℕ) → weights ≡ planesOf w → r ≡ value (dot (coef row) (coef w) 96)) ⌝ }
+{
+    let one = weights[0];
+    let two = weights[1];
+    let four = weights[2];
+    let eight = weights[3];
+    reduced(summed(row, one, two, four, eight))
 }
 
 // The row and a multiple of another.

@@ -1,23 +1,26 @@
 // One step of Kötter's algorithm on the eight rows and their leads.
 ghost use mathlib.Core.Path.{_≡_};
-ghost use Prim.Native.Nat.{_+_, _<_};
+ghost use mathlib.Core.List.{List};
+ghost use Prim.Native.Nat.{ℕ, _+_, _<_};
 ghost use Rattle.algebra.specs.Coefficients.{plus, scale};
 ghost use Rattle.lists.specs.Listed.{listed};
 ghost use Rattle.galois.specs.Gf16.{times};
 ghost use Rattle.galois.specs.Field16.{K16, toF, value};
 ghost use Rattle.basis.specs.Rows.{coef};
+ghost use Rattle.basis.specs.Planes.{planesOf};
 ghost use Rattle.basis.specs.Choice.{Chosen};
 ghost use Rattle.basis.specs.Step.{discrepancy, discrepancyAt, NextRows};
 use crate::CLASSES;
 use crate::Leads;
 use crate::Row;
 use crate::Rows;
+use crate::row::Planes;
 use galois::inverse;
 use galois::product;
 
 // The value of a row at the point of the weights; a spent class counts as zero.
-fn discrepancy(row: Row, lead: usize, limit: usize, weights: Row) -> u8
-    ensures { λ r. ⌜ r ≡ value (discrepancy limit lead (coef row) (coef weights)) ⌝ }
+fn discrepancy(row: Row, lead: usize, limit: usize, weights: Planes) -> u8
+    ensures { λ r. ⌜ ((w : List ℕ) → weights ≡ planesOf w → r ≡ value (discrepancy limit lead (coef row) (coef w))) ⌝ }
 {
     if limit < lead {
         return 0;
@@ -28,10 +31,11 @@ fn discrepancy(row: Row, lead: usize, limit: usize, weights: Row) -> u8
 pub fn discrepancies(rows: Rows, leads: Leads, limit: usize, weights: Row) -> [u8; CLASSES]
     ensures { λ r. ⌜ r ≡ listed 8 (discrepancyAt limit leads rows weights) ⌝ }
 {
+    let bits = crate::row::planes(weights);
     let mut out = [0u8; CLASSES];
     let mut r = 0;
     while r < CLASSES {
-        out[r] = discrepancy(rows[r], leads[r], limit, weights);
+        out[r] = discrepancy(rows[r], leads[r], limit, bits);
         r += 1;
     }
     out

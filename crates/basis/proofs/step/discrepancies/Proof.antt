@@ -1,24 +1,29 @@
--- Each class passed holds its discrepancy.
+-- Each class passed holds its discrepancy, with whatever weights the planes are those of.
 use mathlib.Core.Path.{_≡_}
-use mathlib.Core.List.{_++_}
-use Prim.Native.Nat.{_≤_, _-_}
+use mathlib.Core.List.{List, _++_}
+use Prim.Native.Nat.{ℕ, _≤_, _-_}
 use native.Mathlib.Omega.{arith}
 use lib.ListN.{drop, replicate}
 use borrow.Author.Needs.{needs}
 use Rattle.lists.specs.Listed.{listed, listed-start, listed-store, listed-end}
 use Rattle.basis.specs.Choice.{leadAt}
+use Rattle.basis.specs.Planes.{planesOf}
 use Rattle.basis.specs.Step.{rowAt, discrepancyAt}
 use Rattle.basis.proofs.step.discrepancies.Statement.{statement}
 use Rattle.basis.proofs.step.discrepancies.Tie as tie
 
 abbrev Inv-loop : tie.InvT-loop
-Inv-loop limit weights rows leads out₀ r₀ out r = (r ≤ 8) × (out ≡ listed r (discrepancyAt limit leads rows weights) ++ drop r (replicate 8 0))
+Inv-loop limit rows leads bits out₀ r₀ out r =
+    (r ≤ 8) × ((w : List ℕ) → bits ≡ planesOf w → out ≡ listed r (discrepancyAt limit leads rows w) ++ drop r (replicate 8 0))
 
 abbrev μ-loop : tie.MeasureT-loop
-μ-loop limit weights rows leads out₀ r₀ out r = 8 - r
+μ-loop limit rows leads bits out₀ r₀ out r = 8 - r
+
+planes-requires : tie.Need-planes-requires Inv-loop μ-loop
+planes-requires c κs = search needs
 
 loop-holds : tie.Need-loop-holds Inv-loop μ-loop
-loop-holds c = (search needs, listed-start _ _)
+loop-holds c = (search needs, λ w e. listed-start _ _)
 
 mul-discrepancy : tie.Need-mul-discrepancy Inv-loop μ-loop
 mul-discrepancy c = search needs
@@ -47,13 +52,15 @@ loop-less c = search needs
 loop-again : tie.Need-loop-again Inv-loop μ-loop
 unfolding discrepancyAt rowAt leadAt
 loop-again c =
-    let a = c .before .before .before .before .args in
-    (search needs, listed-store 0 _ (replicate 8 0) (discrepancyAt (a .limit) (a .t2) (a .t1) (a .weights)) _ _ (search needs) (c .discrepancy .ensures) (c .before .before .before .loop .inv .1))
+    let a = c .before .before .before .before .before .args in (
+      search needs,
+      λ w e. listed-store 0 _ (replicate 8 0) (discrepancyAt (a .limit) (a .t2) (a .t1) w) _ _ (search needs) (c .discrepancy .ensures w e) (c .before .before .before .loop .inv .1 w e),
+    )
 
 returns : tie.Need-returns Inv-loop μ-loop
 returns c =
     let e : c .before .loop .r ≡ 8 = omega arith in
-    rw e at (listed-end _ (replicate 8 0) _ _ (search needs) (c .before .loop .inv .1))
+    rw e at (listed-end _ (replicate 8 0) _ _ (search needs) (c .before .loop .inv .1 _ (c .before .before .planes .ensures)))
 
 pub discrepancies-spec : {M : Type 1} → statement M
 discrepancies-spec =
@@ -61,6 +68,7 @@ discrepancies-spec =
     (tie.spec
     Inv-loop
     μ-loop
+    planes-requires
     loop-holds
     mul-discrepancy
     array-copy-out-discrepancy
