@@ -33,260 +33,9 @@ tests-within-below t =
     (falls 1 tests-within-kinds.ps _<_ μ-tests-within t)
     tests-within.Pre
 
--- what the array's type says
-tests-within-lengths : (t : ℕ) (c : tests-within-lts.Start (
-  within-reads.Asked,
-  within-reads.Learnt,
-  column-of-reads.Asked,
-  column-of-reads.Learnt,
-  best-reads.Asked,
-  best-reads.Learnt,
-  second-reads.Asked,
-  second-reads.Learnt,
-  tests-within-below t,
-  tests-within.Post,
-) (tests-within-at t) tests-within.Post)
-    → length (c .args .t5) ≡ 8
-tests-within-lengths t c = search needs
-
-tests-within-within-requires : (t : ℕ) → tests-within-lts.Need-within-requires (
-  within-reads.Asked,
-  within-reads.Learnt,
-  column-of-reads.Asked,
-  column-of-reads.Learnt,
-  best-reads.Asked,
-  best-reads.Learnt,
-  second-reads.Asked,
-  second-reads.Learnt,
-  tests-within-below t,
-  tests-within.Post,
-) (tests-within-at t) tests-within.Post
-tests-within-within-requires t c κs = search needs
-
-tests-within-returns : (t : ℕ) → tests-within-lts.Need-returns (
-  within-reads.Asked,
-  within-reads.Learnt,
-  column-of-reads.Asked,
-  column-of-reads.Learnt,
-  best-reads.Asked,
-  best-reads.Learnt,
-  second-reads.Asked,
-  second-reads.Learnt,
-  tests-within-below t,
-  tests-within.Post,
-) (tests-within-at t) tests-within.Post
-tests-within-returns t c = within-end _ _ _ _ _ _ _ (c .before .if1 .taken) (none-left _ _ _ (c .before .if1 .taken) (tests-within-lengths t (c .before .before .before))) (c .within .ensures)
-
-tests-within-sub-place : (t : ℕ) → tests-within-lts.Need-sub-place (
-  within-reads.Asked,
-  within-reads.Learnt,
-  column-of-reads.Asked,
-  column-of-reads.Learnt,
-  best-reads.Asked,
-  best-reads.Learnt,
-  second-reads.Asked,
-  second-reads.Learnt,
-  tests-within-below t,
-  tests-within.Post,
-) (tests-within-at t) tests-within.Post
-tests-within-sub-place t c = search needs
-
-tests-within-array-read-place : (t : ℕ) → tests-within-lts.Need-array-read-place (
-  within-reads.Asked,
-  within-reads.Learnt,
-  column-of-reads.Asked,
-  column-of-reads.Learnt,
-  best-reads.Asked,
-  best-reads.Learnt,
-  second-reads.Asked,
-  second-reads.Learnt,
-  tests-within-below t,
-  tests-within.Post,
-) (tests-within-at t) tests-within.Post
-tests-within-array-read-place t c = search needs
-
-tests-within-cast-place : (t : ℕ) → tests-within-lts.Need-cast-place (
-  within-reads.Asked,
-  within-reads.Learnt,
-  column-of-reads.Asked,
-  column-of-reads.Learnt,
-  best-reads.Asked,
-  best-reads.Learnt,
-  second-reads.Asked,
-  second-reads.Learnt,
-  tests-within-below t,
-  tests-within.Post,
-) (tests-within-at t) tests-within.Post
-tests-within-cast-place t c = search needs
-
-tests-within-column-of-requires : (t : ℕ) → tests-within-lts.Need-column-of-requires (
-  within-reads.Asked,
-  within-reads.Learnt,
-  column-of-reads.Asked,
-  column-of-reads.Learnt,
-  best-reads.Asked,
-  best-reads.Learnt,
-  second-reads.Asked,
-  second-reads.Learnt,
-  tests-within-below t,
-  tests-within.Post,
-) (tests-within-at t) tests-within.Post
-tests-within-column-of-requires t c κs = search needs
-
-tests-within-best-requires : (t : ℕ) → tests-within-lts.Need-best-requires (
-  within-reads.Asked,
-  within-reads.Learnt,
-  column-of-reads.Asked,
-  column-of-reads.Learnt,
-  best-reads.Asked,
-  best-reads.Learnt,
-  second-reads.Asked,
-  second-reads.Learnt,
-  tests-within-below t,
-  tests-within.Post,
-) (tests-within-at t) tests-within.Post
-tests-within-best-requires t c κs = search needs
-
-tests-within-second-requires : (t : ℕ) → tests-within-lts.Need-second-requires (
-  within-reads.Asked,
-  within-reads.Learnt,
-  column-of-reads.Asked,
-  column-of-reads.Learnt,
-  best-reads.Asked,
-  best-reads.Learnt,
-  second-reads.Asked,
-  second-reads.Learnt,
-  tests-within-below t,
-  tests-within.Post,
-) (tests-within-at t) tests-within.Post
-tests-within-second-requires t c κs = search needs
-
-tests-within-array-write-first-word : (t : ℕ) → tests-within-lts.Need-array-write-first-word (
-  within-reads.Asked,
-  within-reads.Learnt,
-  column-of-reads.Asked,
-  column-of-reads.Learnt,
-  best-reads.Asked,
-  best-reads.Learnt,
-  second-reads.Asked,
-  second-reads.Learnt,
-  tests-within-below t,
-  tests-within.Post,
-) (tests-within-at t) tests-within.Post
-tests-within-array-write-first-word t c = search needs
-
-tests-within-sub-tests-within : (t : ℕ) → tests-within-lts.Need-sub-tests-within (
-  within-reads.Asked,
-  within-reads.Learnt,
-  column-of-reads.Asked,
-  column-of-reads.Learnt,
-  best-reads.Asked,
-  best-reads.Learnt,
-  second-reads.Asked,
-  second-reads.Learnt,
-  tests-within-below t,
-  tests-within.Post,
-) (tests-within-at t) tests-within.Post
-tests-within-sub-tests-within t c = search needs
-
-tests-within-tests-within-requires : (t : ℕ) → tests-within-lts.Need-tests-within-requires (
-  within-reads.Asked,
-  within-reads.Learnt,
-  column-of-reads.Asked,
-  column-of-reads.Learnt,
-  best-reads.Asked,
-  best-reads.Learnt,
-  second-reads.Asked,
-  second-reads.Learnt,
-  tests-within-below t,
-  tests-within.Post,
-) (tests-within-at t) tests-within.Post
-tests-within-tests-within-requires t c κs =
-    let h = c .before .before .before .before .before .pre in
-    (omega (arith, h .0, c .before .before .before .if1 .left), (h .1 .0, h .1 .1, omega (arith, h .1 .2)))
-
-tests-within-array-write-other-word : (t : ℕ) → tests-within-lts.Need-array-write-other-word (
-  within-reads.Asked,
-  within-reads.Learnt,
-  column-of-reads.Asked,
-  column-of-reads.Learnt,
-  best-reads.Asked,
-  best-reads.Learnt,
-  second-reads.Asked,
-  second-reads.Learnt,
-  tests-within-below t,
-  tests-within.Post,
-) (tests-within-at t) tests-within.Post
-tests-within-array-write-other-word t c = search needs
-
-tests-within-sub-tests-within-2 : (t : ℕ) → tests-within-lts.Need-sub-tests-within-2 (
-  within-reads.Asked,
-  within-reads.Learnt,
-  column-of-reads.Asked,
-  column-of-reads.Learnt,
-  best-reads.Asked,
-  best-reads.Learnt,
-  second-reads.Asked,
-  second-reads.Learnt,
-  tests-within-below t,
-  tests-within.Post,
-) (tests-within-at t) tests-within.Post
-tests-within-sub-tests-within-2 t c = search needs
-
-tests-within-tests-within-requires-2 : (t : ℕ) → tests-within-lts.Need-tests-within-requires-2 (
-  within-reads.Asked,
-  within-reads.Learnt,
-  column-of-reads.Asked,
-  column-of-reads.Learnt,
-  best-reads.Asked,
-  best-reads.Learnt,
-  second-reads.Asked,
-  second-reads.Learnt,
-  tests-within-below t,
-  tests-within.Post,
-) (tests-within-at t) tests-within.Post
-tests-within-tests-within-requires-2 t c κs =
-    let h = c .before .before .before .before .before .before .pre in
-    (omega (arith, h .0, c .before .before .before .before .if1 .left), (h .1 .0, h .1 .1, omega (arith, h .1 .2)))
-
-tests-within-add-result : (t : ℕ) → tests-within-lts.Need-add-result (
-  within-reads.Asked,
-  within-reads.Learnt,
-  column-of-reads.Asked,
-  column-of-reads.Learnt,
-  best-reads.Asked,
-  best-reads.Learnt,
-  second-reads.Asked,
-  second-reads.Learnt,
-  tests-within-below t,
-  tests-within.Post,
-) (tests-within-at t) tests-within.Post
-tests-within-add-result t c =
-    let h = c .before .before .before .before .before .before .before .pre .1 in
-    let s : c .before .tests-within .result + c .tests-within2 .result ≤ 65535 =
-    tests-fit _ _ _ (omega (arith, h .1, h .2)) (c .before .tests-within .ensures .few) (c .tests-within2 .ensures .few) in
-    search needs
-
-tests-within-returns-2 : (t : ℕ) → tests-within-lts.Need-returns-2 (
-  within-reads.Asked,
-  within-reads.Learnt,
-  column-of-reads.Asked,
-  column-of-reads.Learnt,
-  best-reads.Asked,
-  best-reads.Learnt,
-  second-reads.Asked,
-  second-reads.Learnt,
-  tests-within-below t,
-  tests-within.Post,
-) (tests-within-at t) tests-within.Post
-tests-within-returns-2 t c =
-    let h = c .before .before .before .before .before .before .before .pre .1 in
-    within-node _ _ _ (tests-within-lengths t (c .before .before .before .before .before .before .before)) (h .1) (h .2) (some-left _ (c .before .before .before .before .before .if1 .left)) _ _ _ _ refl _ _
-    (c .before .before .before .best .ensures ∙ ap bestOf (c .before .before .before .before .column-of .ensures)) (c .before .before .second .ensures ∙ ap secondOf (c .before .before .before .before .column-of .ensures)) _ _ _
-    (c .before .tests-within .ensures) (c .tests-within2 .ensures)
-
-pub +tests-within-spec : {M : Type 1} → statement M
-+tests-within-spec = close μ-tests-within λ t. tests-within-lts.spec (
+-- what is known of the functions that it calls
+abbrev tests-within-claims : ℕ → tests-within-lts.Claims
+tests-within-claims t = (
   within-reads.Asked,
   within-reads.Learnt,
   column-of-reads.Asked,
@@ -298,6 +47,74 @@ pub +tests-within-spec : {M : Type 1} → statement M
   tests-within-below t,
   tests-within.Post,
 )
+
+-- what the array's type says
+tests-within-lengths : (t : ℕ) (c : tests-within-lts.Start (tests-within-claims t) (tests-within-at t) tests-within.Post)
+    → length (c .args .t5) ≡ 8
+tests-within-lengths t c = search needs
+
+tests-within-within-requires : (t : ℕ) → tests-within-lts.Need-within-requires (tests-within-claims t) (tests-within-at t) tests-within.Post
+tests-within-within-requires t c κs = search needs
+
+tests-within-returns : (t : ℕ) → tests-within-lts.Need-returns (tests-within-claims t) (tests-within-at t) tests-within.Post
+tests-within-returns t c = within-end _ _ _ _ _ _ _ (c .before .if1 .taken) (none-left _ _ _ (c .before .if1 .taken) (tests-within-lengths t (c .before .before .before))) (c .within .ensures)
+
+tests-within-sub-place : (t : ℕ) → tests-within-lts.Need-sub-place (tests-within-claims t) (tests-within-at t) tests-within.Post
+tests-within-sub-place t c = search needs
+
+tests-within-array-read-place : (t : ℕ) → tests-within-lts.Need-array-read-place (tests-within-claims t) (tests-within-at t) tests-within.Post
+tests-within-array-read-place t c = search needs
+
+tests-within-cast-place : (t : ℕ) → tests-within-lts.Need-cast-place (tests-within-claims t) (tests-within-at t) tests-within.Post
+tests-within-cast-place t c = search needs
+
+tests-within-column-of-requires : (t : ℕ) → tests-within-lts.Need-column-of-requires (tests-within-claims t) (tests-within-at t) tests-within.Post
+tests-within-column-of-requires t c κs = search needs
+
+tests-within-best-requires : (t : ℕ) → tests-within-lts.Need-best-requires (tests-within-claims t) (tests-within-at t) tests-within.Post
+tests-within-best-requires t c κs = search needs
+
+tests-within-second-requires : (t : ℕ) → tests-within-lts.Need-second-requires (tests-within-claims t) (tests-within-at t) tests-within.Post
+tests-within-second-requires t c κs = search needs
+
+tests-within-array-write-first-word : (t : ℕ) → tests-within-lts.Need-array-write-first-word (tests-within-claims t) (tests-within-at t) tests-within.Post
+tests-within-array-write-first-word t c = search needs
+
+tests-within-sub-tests-within : (t : ℕ) → tests-within-lts.Need-sub-tests-within (tests-within-claims t) (tests-within-at t) tests-within.Post
+tests-within-sub-tests-within t c = search needs
+
+tests-within-tests-within-requires : (t : ℕ) → tests-within-lts.Need-tests-within-requires (tests-within-claims t) (tests-within-at t) tests-within.Post
+tests-within-tests-within-requires t c κs =
+    let h = c .before .before .before .before .before .pre in
+    (omega (arith, h .0, c .before .before .before .if1 .left), (h .1 .0, h .1 .1, omega (arith, h .1 .2)))
+
+tests-within-array-write-other-word : (t : ℕ) → tests-within-lts.Need-array-write-other-word (tests-within-claims t) (tests-within-at t) tests-within.Post
+tests-within-array-write-other-word t c = search needs
+
+tests-within-sub-tests-within-2 : (t : ℕ) → tests-within-lts.Need-sub-tests-within-2 (tests-within-claims t) (tests-within-at t) tests-within.Post
+tests-within-sub-tests-within-2 t c = search needs
+
+tests-within-tests-within-requires-2 : (t : ℕ) → tests-within-lts.Need-tests-within-requires-2 (tests-within-claims t) (tests-within-at t) tests-within.Post
+tests-within-tests-within-requires-2 t c κs =
+    let h = c .before .before .before .before .before .before .pre in
+    (omega (arith, h .0, c .before .before .before .before .if1 .left), (h .1 .0, h .1 .1, omega (arith, h .1 .2)))
+
+tests-within-add-result : (t : ℕ) → tests-within-lts.Need-add-result (tests-within-claims t) (tests-within-at t) tests-within.Post
+tests-within-add-result t c =
+    let h = c .before .before .before .before .before .before .before .pre .1 in
+    let s : c .before .tests-within .result + c .tests-within2 .result ≤ 65535 =
+    tests-fit _ _ _ (omega (arith, h .1, h .2)) (c .before .tests-within .ensures .few) (c .tests-within2 .ensures .few) in
+    search needs
+
+tests-within-returns-2 : (t : ℕ) → tests-within-lts.Need-returns-2 (tests-within-claims t) (tests-within-at t) tests-within.Post
+tests-within-returns-2 t c =
+    let h = c .before .before .before .before .before .before .before .pre .1 in
+    within-node _ _ _ (tests-within-lengths t (c .before .before .before .before .before .before .before)) (h .1) (h .2) (some-left _ (c .before .before .before .before .before .if1 .left)) _ _ _ _ refl _ _
+    (c .before .before .before .best .ensures ∙ ap bestOf (c .before .before .before .before .column-of .ensures)) (c .before .before .second .ensures ∙ ap secondOf (c .before .before .before .before .column-of .ensures)) _ _ _
+    (c .before .tests-within .ensures) (c .tests-within2 .ensures)
+
+pub +tests-within-spec : {M : Type 1} → statement M
++tests-within-spec = close μ-tests-within λ t. tests-within-lts.spec (tests-within-claims t)
     (tests-within-at t)
     tests-within.Post
     (tests-within-within-requires t)
