@@ -1,5 +1,4 @@
 pub mod Monomials
-pub mod Summed
 pub mod Ranks
 pub mod Symbols
 pub mod Codeword

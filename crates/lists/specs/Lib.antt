@@ -13,6 +13,7 @@ pub mod Block
 pub mod Member
 pub mod Same
 pub mod XorSum
+pub mod Summed
 pub mod Count
 pub mod Rank
 pub mod Padded

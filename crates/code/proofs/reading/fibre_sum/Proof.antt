@@ -4,7 +4,7 @@ use Prim.Native.Nat.{_-_, _<_}
 use lib.ListN.{length}
 use Rattle.code.specs.Extraction.{fibreTerm, fibreSum}
 use Rattle.code.proofs.Moments.{fibre-entry}
-use Rattle.code.proofs.Summed.{Summed, summed-start, summed-turn, summed-end}
+use Rattle.lists.specs.Summed.{Summed, summed-start, summed-turn, summed-end}
 use borrow.Author.Needs.{needs}
 use Rattle.code.proofs.reading.fibre_sum.Statement.{statement}
 use Rattle.code.proofs.reading.fibre_sum.Tie as tie

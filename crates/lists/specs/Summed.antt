@@ -1,12 +1,16 @@
--- The turns of a loop that sums by exclusive or.
+-- A loop that sums by exclusive or.
+--
+--   Summed n f i sum   sum is that of the first i terms of f, and i is at most n
+--   summed-start       before the loop
+--   summed-turn        a turn that adds f i
+--   summed-end         after the loop
 use mathlib.Core.Path.{_≡_, sym, ap, ap₂, _∙_}
 use Prim.Native.Nat.{ℕ, _+_, _<_, _≤_}
 use native.Mathlib.Numerals.{add-one}
 use native.Mathlib.Omega.{arith}
 use lib.Bits.{bitXor}
 use Rattle.lists.specs.XorSum.{xorSum, xorSum-nil, xorSum-suc}
 
--- the sum of the first i terms
 pub record Summed (n : ℕ) (f : ℕ → ℕ) (i sum : ℕ) : Type 0 where
   pub within : i ≤ n
   pub total : sum ≡ xorSum i f
