@@ -3,20 +3,26 @@
 --   rowAt rows r            the coefficients of row r
 --   discrepancy L l c e     the value of the row c at the point of the weights e, and zero for a spent class: l > L
 --   discrepancyAt           that of class r, as a byte
+--   discrepancyOf L l row planes   the same from the planes of weights, for any four planes: 0 for a spent class
+--   discrepancyOf-planes    by the planes of a row that is the byte of its discrepancy
 --   raisedRow, clearedRow   what a step makes of the pivot's row, and of another
 --   NextRows at a ds rows out   out holds the rows after a step at class at, with discrepancies ds and multiplier a
-use mathlib.Core.Path.{_≡_}
+use mathlib.Core.Path.{_≡_, sym, ap, _∙_}
 use mathlib.Core.List.{List, []}
 use mathlib.Core.Logic.{_≢_}
+use mathlib.Core.Bool.{cond}
 use Prim.Native.Nat.{ℕ, _<_, _≤_}
 use native.Mathlib.Decide.{decLe}
 use native.Mathlib.Omega.{arith}
+use lib.Dec.{ltb}
 use lib.ListN.{getD}
+use borrow.Author.Tests.{lt-ltb, le-ltb}
 use Rattle.algebra.specs.Field.{Field}
 use Rattle.algebra.specs.Coefficients.{choose, choose-yes, choose-no, plus, scale}
 use Rattle.galois.specs.Gf16.{times, inverse}
-use Rattle.galois.specs.Field16.{GF, K16, toF, value}
+use Rattle.galois.specs.Field16.{GF, K16, toF, value, value-zero}
 use Rattle.basis.specs.Rows.{coef, dot, raise}
+use Rattle.basis.specs.Planes.{planesOf, dotOf, dotOf-planes}
 use Rattle.basis.specs.Choice.{leadAt}
 open Field K16 using (𝟘)
 
@@ -36,6 +42,23 @@ discrepancy-spent L l c e h = choose-no (decLe l L) _ _ (omega arith)
 
 unfoldable pub discrepancyAt : ℕ → List ℕ → List (List ℕ) → List ℕ → ℕ → ℕ
 discrepancyAt L leads rows weights r = value (discrepancy L (leadAt leads r) (rowAt rows r) (coef weights))
+
+unfoldable pub discrepancyOf : ℕ → ℕ → List ℕ → List (List ℕ) → ℕ
+discrepancyOf L l row planes = cond (ltb L l) 0 (dotOf row planes)
+
+pub discrepancyOf-planes : (L l : ℕ) (row weights : List ℕ)
+    → discrepancyOf L l row (planesOf weights) ≡ value (discrepancy L l (coef row) (coef weights))
+unfolding discrepancyOf
+discrepancyOf-planes L l row weights = go (decLe l L)
+  where
+    go : Dec (l ≤ L) → cond (ltb L l) 0 (dotOf row (planesOf weights)) ≡ value (discrepancy L l (coef row) (coef weights))
+    go (yes h) =
+        ap (λ t. cond t 0 (dotOf row (planesOf weights))) (le-ltb L l h) ∙ dotOf-planes row weights
+        ∙ sym (ap value (discrepancy-live L l (coef row) (coef weights) h))
+    go (no h) =
+        let g : L < l = omega arith in
+        ap (λ t. cond t 0 (dotOf row (planesOf weights))) (lt-ltb L l g)
+        ∙ sym (ap value (discrepancy-spent L l (coef row) (coef weights) g) ∙ value-zero)
 
 -- x + a times the row of the pivot
 abbrev pub raisedRow : ℕ → GF → List (List ℕ) → ℕ → GF

@@ -1,14 +1,12 @@
 // Rows of coefficients: 64 without z by order, then 32 with z by order. Loops run over whole rows, so that no fact on where a row
 // ends is needed and the compiler can take sixteen positions at a time.
 ghost use mathlib.Core.Path.{_≡_};
-ghost use mathlib.Core.List.{List};
-ghost use Prim.Native.Nat.{ℕ, _<_};
+ghost use Prim.Native.Nat.{_<_};
 ghost use Rattle.algebra.specs.Coefficients.{plus, scale};
-ghost use Rattle.galois.specs.Carryless.{reduced};
-ghost use Rattle.galois.specs.Field16.{K16, toF, value};
+ghost use Rattle.galois.specs.Field16.{K16, toF};
 ghost use Rattle.lists.specs.Listed.{listed};
-ghost use Rattle.basis.specs.Rows.{coef, dot, raise, weighed};
-ghost use Rattle.basis.specs.Planes.{planeAt, planesOf, pickedOf, Split};
+ghost use Rattle.basis.specs.Rows.{coef, raise, weighed};
+ghost use Rattle.basis.specs.Planes.{planeAt, planesOf, pickedOf, summedOf, dotOf};
 use crate::PLAIN;
 use crate::ROW;
 use crate::Row;
@@ -69,7 +67,7 @@ fn picked(a: u8, one: u8, two: u8, four: u8, eight: u8) -> u8
 }
 
 fn summed(row: Row, one: Row, two: Row, four: Row, eight: Row) -> u8
-    ensures { λ r. ⌜ ((weights : List ℕ) → Split weights one two four eight → reduced r ≡ value (dot (coef row) (coef weights) 96)) ⌝ }
+    ensures { λ r. ⌜ r ≡ summedOf row one two four eight ⌝ }
 {
     let mut sum = 0u8;
     let mut i = 0;
@@ -80,10 +78,9 @@ fn summed(row: Row, one: Row, two: Row, four: Row, eight: Row) -> u8
     sum
 }
 
-// The value of a row at the point of the weights, which are given by their bits: the one routine that evaluates at a place. The sum is
-// reduced once.
+// The value of a row at a point given by its weights, which are taken by their bits; the sum is reduced once.
 pub fn dot(row: Row, weights: Planes) -> u8
-    ensures { λ r. ⌜ ((w : List ℕ) → weights ≡ planesOf w → r ≡ value (dot (coef row) (coef w) 96)) ⌝ }
+    ensures { λ r. ⌜ r ≡ dotOf row weights ⌝ }
 {
     let one = weights[0];
     let two = weights[1];

@@ -1,15 +1,13 @@
 // One step of Kötter's algorithm on the eight rows and their leads.
 ghost use mathlib.Core.Path.{_≡_};
-ghost use mathlib.Core.List.{List};
-ghost use Prim.Native.Nat.{ℕ, _+_, _<_};
+ghost use Prim.Native.Nat.{_+_, _<_};
 ghost use Rattle.algebra.specs.Coefficients.{plus, scale};
 ghost use Rattle.lists.specs.Listed.{listed};
 ghost use Rattle.galois.specs.Gf16.{times};
-ghost use Rattle.galois.specs.Field16.{K16, toF, value};
+ghost use Rattle.galois.specs.Field16.{K16, toF};
 ghost use Rattle.basis.specs.Rows.{coef};
-ghost use Rattle.basis.specs.Planes.{planesOf};
 ghost use Rattle.basis.specs.Choice.{Chosen};
-ghost use Rattle.basis.specs.Step.{discrepancy, discrepancyAt, NextRows};
+ghost use Rattle.basis.specs.Step.{discrepancyOf, discrepancyAt, NextRows};
 use crate::CLASSES;
 use crate::Leads;
 use crate::Row;
@@ -20,7 +18,7 @@ use galois::product;
 
 // The value of a row at the point of the weights; a spent class counts as zero.
 fn discrepancy(row: Row, lead: usize, limit: usize, weights: Planes) -> u8
-    ensures { λ r. ⌜ ((w : List ℕ) → weights ≡ planesOf w → r ≡ value (discrepancy limit lead (coef row) (coef w))) ⌝ }
+    ensures { λ r. ⌜ r ≡ discrepancyOf limit lead row weights ⌝ }
 {
     if limit < lead {
         return 0;

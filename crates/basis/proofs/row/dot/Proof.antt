@@ -1,8 +1,8 @@
--- The sum over the four planes, reduced, is the dot product.
+-- The sum over the four planes, reduced.
 use mathlib.Core.Path.{ap, _∙_}
 use borrow.Author.Needs.{needs}
 use Rattle.galois.specs.Carryless.{reduced}
-use Rattle.basis.specs.Planes.{split-planes}
+use Rattle.basis.specs.Planes.{dotOf}
 use Rattle.basis.proofs.row.dot.Statement.{statement}
 use Rattle.basis.proofs.row.dot.Tie as tie
 
@@ -25,7 +25,8 @@ reduced-requires : tie.Need-reduced-requires
 reduced-requires c κs = search needs
 
 returns : tie.Need-returns
-returns c = λ w e. c .reduced .ensures ∙ c .before .summed .ensures w (split-planes w _ e)
+unfolding dotOf
+returns c = c .reduced .ensures ∙ ap reduced (c .before .summed .ensures)
 
 pub dot-spec : {M : Type 1} → statement M
 dot-spec =

@@ -1,26 +1,19 @@
--- The running sum, reduced, is the dot product of the positions passed, with whatever weights the planes are those of.
-use mathlib.Core.Path.{_≡_, _∙_}
-use mathlib.Core.List.{List}
-use Prim.Native.Nat.{ℕ, _≤_, _-_}
-use native.Mathlib.Omega.{arith}
+-- The loop holds the sum of the positions passed.
+use Prim.Native.Nat.{_-_}
 use borrow.Author.Needs.{needs}
-use Rattle.galois.specs.Carryless.{reduced}
-use Rattle.galois.specs.Field16.{value}
-use Rattle.basis.specs.Rows.{coef, dot}
-use Rattle.basis.specs.Planes.{Split, picked-carryless}
-use Rattle.basis.proofs.Stored.{dot-start, dot-turn}
+use Rattle.lists.specs.Summed.{Summed, summed-start, summed-turn, summed-end}
+use Rattle.basis.specs.Planes.{pickedAt, summedOf}
 use Rattle.basis.proofs.row.summed.Statement.{statement}
 use Rattle.basis.proofs.row.summed.Tie as tie
 
 abbrev Inv-loop : tie.InvT-loop
-Inv-loop row one two four eight sum₀ i₀ sum i =
-    (i ≤ 96) × ((weights : List ℕ) → Split weights one two four eight → reduced sum ≡ value (dot (coef row) (coef weights) i))
+Inv-loop row one two four eight sum₀ i₀ sum i = Summed 96 (pickedAt row one two four eight) i sum
 
 abbrev μ-loop : tie.MeasureT-loop
 μ-loop row one two four eight sum₀ i₀ sum i = 96 - i
 
 loop-holds : tie.Need-loop-holds Inv-loop μ-loop
-loop-holds c = (search needs, λ weights s. dot-start _ weights)
+loop-holds c = summed-start 96 _
 
 array-read-picked : tie.Need-array-read-picked Inv-loop μ-loop
 array-read-picked c = search needs
@@ -47,15 +40,12 @@ loop-less : tie.Need-loop-less Inv-loop μ-loop
 loop-less c = search needs
 
 loop-again : tie.Need-loop-again Inv-loop μ-loop
-loop-again c = (
-  search needs,
-  λ weights s. dot-turn _ weights _ _ _ (c .picked .ensures ∙ picked-carryless s _ _ (search needs)) (c .before .before .loop .inv .1 weights s),
-)
+unfolding pickedAt
+loop-again c = summed-turn (c .before .before .loop .inv) (c .before .loop-test .taken) (c .picked .ensures)
 
 returns : tie.Need-returns Inv-loop μ-loop
-returns c =
-    let e : c .before .loop .i ≡ 96 = omega arith in
-    λ weights s. rw e at (c .before .loop .inv .1 weights s)
+unfolding summedOf
+returns c = summed-end (c .before .loop .inv) (c .loop-test .left)
 
 pub summed-spec : {M : Type 1} → statement M
 summed-spec =
