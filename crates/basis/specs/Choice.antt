@@ -1,12 +1,18 @@
--- The class at which a step is made: of least lead among those whose discrepancy is not zero.
+-- The class at which a step is made: of least lead among those whose discrepancy is not zero, and the first of these.
 --
 --   leadAt leads r       the lead of class r
 --   Nonzero ds r         the discrepancy of class r is not zero
---   Chosen n ds leads p  of the classes below n, p is one of least lead among those of non-zero discrepancy; or p is 8 and there is none
-use mathlib.Core.Path.{_≡_}
+--   Chosen n ds leads p  of the classes below n, p is the first of least lead among those of non-zero discrepancy; or p is 8 and there is none
+--   chosen-one           there is one such class
+--   betterOf ds leads best r   the class chosen so far, or class r where its discrepancy is not zero and its lead is less
+use mathlib.Core.Path.{_≡_, sym, _∙_}
 use mathlib.Core.List.{List}
 use mathlib.Core.Logic.{_≢_}
-use Prim.Native.Nat.{ℕ, _<_, _≤_}
+use mathlib.Core.Bool.{cond}
+use Prim.Native.Nat.{ℕ, _<_}
+use native.Mathlib.Decide.{decLt}
+use native.Mathlib.Omega.{arith}
+use lib.Dec.{eqb, leb}
 use lib.ListN.{getD}
 use Rattle.lists.specs.Smallest.{Smallest}
 
@@ -18,4 +24,20 @@ pub record Nonzero (ds : List ℕ) (r : ℕ) : Type 0 where
 
 pub data Chosen (n : ℕ) (ds leads : List ℕ) (p : ℕ) : Type 0 where
   none : p ≡ 8 → ((r : ℕ) → r < n → getD ds r 0 ≡ 0) → Chosen n ds leads p
-  one : Smallest n (Nonzero ds) (leadAt leads) p → Chosen n ds leads p
+  one : Smallest n (Nonzero ds) (leadAt leads) p → ((r : ℕ) → r < p → Nonzero ds r → leadAt leads p < leadAt leads r) → Chosen n ds leads p
+
+module _ {n : ℕ} {ds leads : List ℕ} {p q : ℕ} where
+  pub chosen-one : Chosen n ds leads p → Chosen n ds leads q → p ≡ q
+  chosen-one (none e h) (none f g) = e ∙ sym f
+  chosen-one (none e h) (one t b) = absurd (t .passes .nonzero (h q (t .within)))
+  chosen-one (one s a) (none f g) = absurd (s .passes .nonzero (g p (s .within)))
+  chosen-one (one s a) (one t b) = go (decLt p q) (decLt q p)
+    where
+      go : Dec (p < q) → Dec (q < p) → p ≡ q
+      go (yes l) d = absurd (omega (arith, b p l (s .passes), s .least q (t .within) (t .passes)))
+      go (no l) (yes m) = absurd (omega (arith, a q m (t .passes), t .least p (s .within) (s .passes)))
+      go (no l) (no m) = omega arith
+
+unfoldable pub betterOf : List ℕ → List ℕ → ℕ → ℕ → ℕ
+betterOf ds leads best r =
+    cond (eqb (getD ds r 0) 0) best (cond (leb 8 best) r (cond (leb (leadAt leads best) (leadAt leads r)) best r))

@@ -1,12 +1,12 @@
 // One step of Kötter's algorithm on the eight rows and their leads.
 ghost use mathlib.Core.Path.{_≡_};
-ghost use Prim.Native.Nat.{_+_, _<_};
+ghost use Prim.Native.Nat.{_<_};
 ghost use Rattle.algebra.specs.Coefficients.{plus, scale};
 ghost use Rattle.lists.specs.Listed.{listed};
 ghost use Rattle.galois.specs.Gf16.{times};
 ghost use Rattle.galois.specs.Field16.{K16, toF};
 ghost use Rattle.basis.specs.Rows.{coef};
-ghost use Rattle.basis.specs.Choice.{Chosen};
+ghost use Rattle.basis.specs.Choice.{Chosen, betterOf};
 ghost use Rattle.basis.specs.Step.{discrepancyOf, discrepancyAt, NextRows};
 use crate::CLASSES;
 use crate::Leads;
@@ -42,7 +42,7 @@ pub fn discrepancies(rows: Rows, leads: Leads, limit: usize, weights: Row) -> [u
 // The class chosen so far, or class r.
 fn better(ds: [u8; CLASSES], leads: Leads, best: usize, r: usize) -> usize
     requires { ⌜ r < 8 ⌝ }
-    ensures { λ p. ⌜ (Chosen r ds leads best → Chosen (r + 1) ds leads p) ⌝ }
+    ensures { λ p. ⌜ p ≡ betterOf ds leads best r ⌝ }
 {
     if ds[r] == 0 {
         return best;
@@ -56,7 +56,7 @@ fn better(ds: [u8; CLASSES], leads: Leads, best: usize, r: usize) -> usize
     r
 }
 
-// The class of least lead among those of non-zero discrepancy, or 8.
+// The first class of least lead among those of non-zero discrepancy, or 8.
 pub fn choice(ds: [u8; CLASSES], leads: Leads) -> usize
     ensures { λ p. ⌜ Chosen 8 ds leads p ⌝ }
 {

@@ -42,7 +42,7 @@ module _ (L : ℕ) (rows : List (List ℕ)) (leads weights ds : List ℕ) (at : 
     where
       go : Chosen 8 ds leads at → getD leads at 0 ≤ L
       go (none q z) = absurd (omega arith)
-      go (one s) = unspent L rows leads weights at h (λ q. s .passes .nonzero (ap (λ l. getD l at 0) e ∙ q))
+      go (one s f) = unspent L rows leads weights at h (λ q. s .passes .nonzero (ap (λ l. getD l at 0) e ∙ q))
 
   module _ (p z : ℕ) (monomials : List ℕ) (small : L ≤ 127) (eight : length leads ≡ 8) (known : monomials ≡ listed 64 (monomialAt p))
       (weighted : coef weights ≡ weighed (coef monomials) (toF z)) where
@@ -51,7 +51,7 @@ module _ (L : ℕ) (rows : List (List ℕ)) (leads weights ds : List ℕ) (at : 
       where
         go : Chosen 8 ds leads at → Stepped (px p) (listed 8 (discrepancyAt L leads rows weights)) rows leads rows leads
         go (none q n) = same (λ r l. ap (λ k. getD k r 0) (sym e) ∙ n r l) refl refl
-        go (one s) = absurd (omega (arith, s .within))
+        go (one s f) = absurd (omega (arith, s .within))
 
     pub extends-raised : (rows′ : List (List ℕ)) (x : ℕ) → at < 8 → x ≡ xOf p → NextRows at (toF x) ds rows rows′
         → Extends L p z rows leads rows′ (set leads at (getD leads at 0 + 8))
@@ -63,4 +63,4 @@ module _ (L : ℕ) (rows : List (List ℕ)) (leads weights ds : List ℕ) (at : 
       where
         go : Chosen 8 ds leads at → Stepped (px p) ds rows leads rows′ (set leads at (getD leads at 0 + 8))
         go (none q n) = absurd (omega arith)
-        go (one s) = raised at s (subst (λ a. NextRows at (toF a) ds rows rows′) q next) refl
+        go (one s f) = raised at s (subst (λ a. NextRows at (toF a) ds rows rows′) q next) refl

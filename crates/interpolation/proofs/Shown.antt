@@ -107,7 +107,7 @@ field-bytes M = sym (listed-getD (set first 4 1) 0) ∙ listed-ext 82 (λ k. get
 -- ---- every class counts
 pub lowest-is : (leads : List ℕ) (best : ℕ) → Chosen 8 (replicate 8 1) leads best → Lowest leads best
 lowest-is leads best (none e h) = absurd (omega (arith, h 0 (omega arith)))
-lowest-is leads best (one s) =
+lowest-is leads best (one s f) =
     record {
       within = s .within;
       least = λ r l. s .least r l (record { nonzero = λ z. absurd (omega (arith, getD-replicate {A = ℕ} 8 r 1 0 l, z)) });

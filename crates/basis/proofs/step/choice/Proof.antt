@@ -4,7 +4,7 @@ use Prim.Native.Nat.{_≤_, _-_}
 use native.Mathlib.Omega.{arith}
 use borrow.Author.Needs.{needs}
 use Rattle.basis.specs.Choice.{Chosen}
-use Rattle.basis.proofs.Choosing.{chosen-start}
+use Rattle.basis.proofs.Choosing.{chosen-start, better-chosen}
 use Rattle.basis.proofs.step.choice.Statement.{statement}
 use Rattle.basis.proofs.step.choice.Tie as tie
 
@@ -27,7 +27,7 @@ loop-less : tie.Need-loop-less Inv-loop μ-loop
 loop-less c = search needs
 
 loop-again : tie.Need-loop-again Inv-loop μ-loop
-loop-again c = (search needs, c .better .ensures (c .before .before .loop .inv .1))
+loop-again c = (search needs, rw (c .better .ensures) (better-chosen _ _ _ _ (search needs) (c .before .before .loop .inv .1)))
 
 returns : tie.Need-returns Inv-loop μ-loop
 returns c =
