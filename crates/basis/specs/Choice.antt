@@ -3,7 +3,7 @@
 --   leadAt leads r       the lead of class r
 --   Nonzero ds r         the discrepancy of class r is not zero
 --   Chosen n ds leads p  of the classes below n, p is the first of least lead among those of non-zero discrepancy; or p is 8 and there is none
---   chosen-one           there is one such class
+--   chosen-one           two classes so chosen are one
 --   betterOf ds leads best r   the class chosen so far, or class r where its discrepancy is not zero and its lead is less
 use mathlib.Core.Path.{_≡_, sym, _∙_}
 use mathlib.Core.List.{List}

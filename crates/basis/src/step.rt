@@ -1,6 +1,6 @@
 // One step of Kötter's algorithm on the eight rows and their leads.
 ghost use mathlib.Core.Path.{_≡_};
-ghost use Prim.Native.Nat.{_<_};
+ghost use Prim.Native.Nat.{_<_, _≤_};
 ghost use Rattle.algebra.specs.Coefficients.{plus, scale};
 ghost use Rattle.lists.specs.Listed.{listed};
 ghost use Rattle.galois.specs.Gf16.{times};
@@ -79,11 +79,13 @@ fn next_row(row: Row, d: u8, by: u8, pivot: Row) -> Row
     crate::row::added(row, product(d, by), pivot)
 }
 
-// The rows after a step at class `at`, where the point's x is a.
+// The rows after a step at class `at`, where the point's x is a; with no such class they stay.
 pub fn next_rows(rows: Rows, ds: [u8; CLASSES], at: usize, a: u8) -> Rows
-    requires { ⌜ at < 8 ⌝ }
-    ensures { λ r. ⌜ NextRows at (toF a) ds rows r ⌝ }
+    ensures { λ r. ⌜ (at < 8 → NextRows at (toF a) ds rows r) × (8 ≤ at → r ≡ rows) ⌝ }
 {
+    if CLASSES <= at {
+        return rows;
+    }
     let pivot = rows[at];
     let by = inverse(ds[at]);
     let mut out = rows;

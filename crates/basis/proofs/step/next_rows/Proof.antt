@@ -1,7 +1,8 @@
--- Each row passed is cleared; the row of the pivot is then replaced by the raised one.
-use mathlib.Core.Path.{_≡_}
+-- Beyond the classes nothing changes. Else each row passed is cleared, and the row of the pivot is then replaced by the raised one.
+use mathlib.Core.Path.{_≡_, refl}
 use mathlib.Core.List.{[]}
 use Prim.Native.Nat.{_≤_, _-_}
+use native.Mathlib.Omega.{arith}
 use lib.ListN.{length}
 use borrow.Author.Needs.{needs}
 use Rattle.lists.specs.Passed.{Passed, passed-start, passed-turn, passed-end}
@@ -15,6 +16,9 @@ Inv-loop at a rows ds pivot by out₀ r₀ out r = (r ≤ 8) × (length rows ≡
 
 abbrev μ-loop : tie.MeasureT-loop
 μ-loop at a rows ds pivot by out₀ r₀ out r = 8 - r
+
+returns : tie.Need-returns Inv-loop μ-loop
+returns c = (λ h. absurd (omega arith), λ h. refl)
 
 mul-pivot : tie.Need-mul-pivot Inv-loop μ-loop
 mul-pivot c = search needs
@@ -57,7 +61,7 @@ loop-less c = search needs
 
 loop-again : tie.Need-loop-again Inv-loop μ-loop
 loop-again c =
-    let a = c .before .before .before .before .before .before .args in (
+    let a = c .before .before .before .before .before .before .before .args in (
       search needs,
       search needs,
       passed-turn [] _ _ (search needs) (search needs) (cleared-is (a .at) (a .t2) (a .t1) _ _ _ (c .before .before .before .before .inverse .ensures) (c .next-row .ensures)) (c .before .before .before .loop .inv .2),
@@ -72,9 +76,11 @@ mul-out-2 c = search needs
 array-set-from-out-2 : tie.Need-array-set-from-out-2 Inv-loop μ-loop
 array-set-from-out-2 c = search needs
 
-returns : tie.Need-returns Inv-loop μ-loop
-returns c =
-    next-rows-are _ _ _ _ _ _ (search needs) (search needs) (passed-end _ _ 8 (search needs) (search needs) (c .before .before .loop .inv .2)) (c .raised .ensures)
+returns-2 : tie.Need-returns-2 Inv-loop μ-loop
+returns-2 c = (
+  λ h. next-rows-are _ _ _ _ _ _ h (search needs) (passed-end _ _ 8 (search needs) (search needs) (c .before .before .loop .inv .2)) (c .raised .ensures),
+  λ h. absurd (omega arith),
+)
 
 pub next-rows-spec : {M : Type 1} → statement M
 next-rows-spec =
@@ -82,6 +88,7 @@ next-rows-spec =
     (tie.spec
     Inv-loop
     μ-loop
+    returns
     mul-pivot
     array-copy-out-pivot
     array-read-inverse
@@ -99,4 +106,4 @@ next-rows-spec =
     raised-requires
     mul-out-2
     array-set-from-out-2
-    returns)
+    returns-2)

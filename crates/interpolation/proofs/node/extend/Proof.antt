@@ -49,7 +49,7 @@ returns-2 : tie.Need-returns-2
 returns-2 c =
     extends-raised _ _ _ _ _ _ (c .before .before .before .before .discrepancies .ensures) (c .before .before .before .choice .ensures) _ _ _ (search needs) (search needs)
     (c .before .before .before .before .before .before .monomials .ensures) (c .before .before .before .before .before .weights .ensures) _ _ (search needs)
-    (c .before .x-at .ensures) (c .next-rows .ensures)
+    (c .before .x-at .ensures) (c .next-rows .ensures .0 (search needs))
 
 pub extend-spec : {M : Type 1} → statement M
 extend-spec =
