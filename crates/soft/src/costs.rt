@@ -1,7 +1,7 @@
 // Costs as bytes, two each and high first, and as a table of sixteen to a place.
 ghost use mathlib.Core.Path.{_≡_};
 ghost use Prim.Native.Nat.{_*_, _<_};
-ghost use lib.ListN.{getD};
+ghost use lib.ListN.{length, getD};
 ghost use Rattle.soft.specs.Column.{places, symbols, pairAt, costsFrom, columnOf, costOf};
 
 pub const PLACES: usize = 64;
@@ -38,14 +38,21 @@ fn pair_at(bytes: &[u8], at: usize) -> u16
     (byte_at(bytes, at) as u16) * 256 + byte_at(bytes, at + 1) as u16
 }
 
+// Costs one after the other, as many as there is room for.
+fn fill(bytes: &[u8], out: &mut [u16])
+    ensures { λ _. ⌜ now (out .exit) ≡ costsFrom (length (now (out .entry))) (now (bytes .entry)) ⌝ }
+{
+    for i in 0..out.len() {
+        out[i] = pair_at(bytes, i * 2);
+    }
+}
+
 // A column from its 32 bytes.
 pub fn column_from(bytes: &[u8]) -> [u16; SYMBOLS]
     ensures { λ r. ⌜ r ≡ costsFrom symbols (now (bytes .entry)) ⌝ }
 {
     let mut out = [0u16; SYMBOLS];
-    for i in 0..SYMBOLS {
-        out[i] = pair_at(bytes, i * 2);
-    }
+    fill(bytes, &mut out);
     out
 }
 
@@ -54,9 +61,7 @@ pub fn table_from(bytes: &[u8]) -> [u16; COSTS]
     ensures { λ r. ⌜ r ≡ costsFrom (places * symbols) (now (bytes .entry)) ⌝ }
 {
     let mut out = [0u16; COSTS];
-    for i in 0..COSTS {
-        out[i] = pair_at(bytes, i * 2);
-    }
+    fill(bytes, &mut out);
     out
 }
 
