@@ -3,6 +3,7 @@
 --   bestBut-turn, bestBut-small   the best symbol so far, one symbol more; in a column of sixteen it is below 16
 --   best-of, second-of, gap-fits, gap-of   best, second and gap of a column of sixteen
 --   pair-missing           two bytes past the end
+--   column-missing, cost-missing   a place past the last costs
 --   cost-in                what a word's symbol costs, from the symbol and the list of costs
 --   report-bytes           the bytes of a report
 --   places-start, places-turn, doubtful-end, doubtful-skipped   the doubtful places so far, in an array of w
@@ -14,12 +15,12 @@ use native.Mathlib.Numerals.{add-one}
 use native.Mathlib.Omega.{arith}
 use lib.ListN.{length, getD, set, replicate, List·getD-eq-default}
 use Rattle.lists.specs.Count.{count, kept, kept-nil, kept-suc, kept-length}
-use Rattle.lists.specs.Listed.{listed, listed-at}
+use Rattle.lists.specs.Listed.{listed, listed-at, listed-ext}
 use Rattle.lists.specs.Padded.{padded, padded-nil, padded-if}
-use Rattle.soft.specs.Column.{costOf, pairAt, columnOf, symbols, bestBut, betterIn, bestOf, secondOf, gapOf}
+use Rattle.soft.specs.Column.{costOf, pairAt, costAt, columnOf, symbols, bestBut, betterIn, bestOf, secondOf, gapOf}
 use Rattle.soft.specs.Doubt.{fewAhead, entryOf, gapAt, smallest, doubtfulOf}
 use Rattle.soft.specs.Total.{symbolAt, costIn, bytesOf, reportOf}
-use Rattle.soft.specs.ColumnLaws.{bestBut-suc, bestBut-below, best-least, second-below}
+use Rattle.soft.specs.ColumnLaws.{bestBut-suc, bestBut-below, best-least, second-below, cost-column}
 use Rattle.soft.specs.DoubtLaws.{smallest-ext, doubtful-none}
 
 pub bestBut-turn : (column : List ℕ) (b n held r : ℕ) → held ≡ bestBut column b n → r ≡ betterIn column b held n → r ≡ bestBut column b (n + 1)
@@ -54,6 +55,15 @@ module _ (column : List ℕ) (r s : ℕ) (l : length column ≡ 16) (best : r �
 pub pair-missing : (bytes : List ℕ) (i : ℕ) → length bytes ≤ i → 0 ≡ pairAt bytes i
 pair-missing bytes i h =
     sym (ap₂ (λ x y. x * 256 + y) (List·getD-eq-default bytes 0 h) (List·getD-eq-default bytes 0 (omega arith)))
+
+-- a place past the last costs
+module _ (costs : List ℕ) (p : ℕ) (h : length costs < p * 16) where
+  pub column-missing : replicate 16 0 ≡ columnOf 16 costs p
+  unfolding columnOf listed
+  column-missing = listed-ext 16 (λ _. 0) (costAt 16 costs p) (λ s l. sym (List·getD-eq-default costs 0 (omega arith)))
+
+  pub cost-missing : (s : ℕ) → s < 16 → 0 ≡ costOf (columnOf 16 costs p) s
+  cost-missing s l = sym (cost-column 16 costs p s l ∙ List·getD-eq-default costs 0 (omega arith))
 
 -- what the symbol of a word costs at a place, read off a list of costs
 pub cost-in : (costs word : List ℕ) (p s r : ℕ) → s ≡ symbolAt word p → r ≡ costOf (columnOf symbols costs p) s → r ≡ costIn (columnOf symbols costs) word p

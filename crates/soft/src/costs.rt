@@ -1,6 +1,6 @@
 // Costs as bytes, two each and high first, and as a table of sixteen to a place.
 ghost use mathlib.Core.Path.{_≡_};
-ghost use Prim.Native.Nat.{_*_, _<_};
+ghost use Prim.Native.Nat.{_*_};
 ghost use lib.ListN.{length, getD};
 ghost use Rattle.soft.specs.Column.{places, symbols, pairAt, costsFrom, columnOf, costOf};
 
@@ -65,12 +65,14 @@ pub fn table_from(bytes: &[u8]) -> [u16; COSTS]
     out
 }
 
-// The column of a place.
+// The column of a place. Past the last costs there are none, and `place * SYMBOLS` is not asked for.
 pub fn column_of(costs: &[u16], place: usize) -> [u16; SYMBOLS]
-    requires { ⌜ place < places ⌝ }
     ensures { λ r. ⌜ r ≡ columnOf symbols (now (costs .entry)) place ⌝ }
 {
     let mut out = [0u16; SYMBOLS];
+    if costs.len() / SYMBOLS < place {
+        return out;
+    }
     for s in 0..SYMBOLS {
         out[s] = number_at(costs, place * SYMBOLS + s);
     }
@@ -79,11 +81,13 @@ pub fn column_of(costs: &[u16], place: usize) -> [u16; SYMBOLS]
 
 // What a symbol costs at a place; there is none above 15, and its cost reads as 0.
 pub fn cost_of(costs: &[u16], place: usize, symbol: u8) -> u16
-    requires { ⌜ place < places ⌝ }
     ensures { λ r. ⌜ r ≡ costOf (columnOf symbols (now (costs .entry)) place) symbol ⌝ }
 {
-    if symbol < 16 {
-        return number_at(costs, place * SYMBOLS + symbol as usize);
+    if 15 < symbol {
+        return 0;
     }
-    0
+    if costs.len() / SYMBOLS < place {
+        return 0;
+    }
+    number_at(costs, place * SYMBOLS + symbol as usize)
 }

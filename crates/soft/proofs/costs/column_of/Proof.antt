@@ -1,4 +1,4 @@
--- `soft::costs::column_of` meets its contract. The loop's invariant: the costs passed are stored, the rest is as it was.
+-- `soft::costs::column_of` meets its contract: past the last costs all are 0. The loop's invariant: the costs passed are stored, the rest is as it was.
 use mathlib.Core.Path.{_≡_}
 use mathlib.Core.List.{_++_}
 use Prim.Native.Nat.{_≤_, _-_}
@@ -7,6 +7,7 @@ use lib.ListN.{drop}
 use borrow.Author.Needs.{needs}
 use Rattle.lists.specs.Listed.{listed, listed-start, listed-store, listed-end}
 use Rattle.soft.specs.Column.{costAt, columnOf}
+use Rattle.soft.proofs.Turns.{column-missing}
 use Rattle.soft.proofs.costs.column_of.Statement.{statement}
 use Rattle.soft.proofs.costs.column_of.Tie as tie
 
@@ -15,6 +16,9 @@ Inv-loop costs place out₀ s₀ out s = (s ≤ 16) × (out ≡ listed s (costAt
 
 abbrev μ-loop : tie.MeasureT-loop
 μ-loop costs place out₀ s₀ out s = 16 - s
+
+returns : tie.Need-returns Inv-loop μ-loop
+returns c = column-missing (c .before .before .args .costs .now) (c .before .before .args .place) (omega arith)
 
 loop-holds : tie.Need-loop-holds Inv-loop μ-loop
 loop-holds c = (omega arith, listed-start _ _)
@@ -44,9 +48,9 @@ loop-again : tie.Need-loop-again Inv-loop μ-loop
 loop-again c =
     (omega arith, listed-store 0 _ _ _ _ _ (omega arith) (c .number-at .ensures) (c .before .before .loop .inv .1))
 
-returns : tie.Need-returns Inv-loop μ-loop
+returns-2 : tie.Need-returns-2 Inv-loop μ-loop
 unfolding columnOf
-returns c =
+returns-2 c =
     let e : c .before .loop .s ≡ 16 = omega arith in
     rw e at (listed-end _ _ _ _ (omega arith) (c .before .loop .inv .1))
 
@@ -56,6 +60,7 @@ column-of-spec =
     (tie.spec
     Inv-loop
     μ-loop
+    returns
     loop-holds
     mul-number-at
     add-number-at
@@ -65,4 +70,4 @@ column-of-spec =
     add-s
     loop-less
     loop-again
-    returns)
+    returns-2)
