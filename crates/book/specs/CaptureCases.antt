@@ -23,8 +23,9 @@ use lib.Seq.{append-snoc}
 use borrow.Author.Tests.{eq-eqb, ne-eqb}
 use Rattle.refusals.specs.Refusal.{accepted, unknownRate, wrongDoubt, noPlace, placeTaken, wrongVersion, wrongLength}
 use Rattle.lists.specs.Distinct.{below, distinct, below-cons, below-append, distinct-before, and-right}
+use Rattle.code.specs.Encoding.{knownRate}
 use Rattle.book.specs.Book.{places, Entry, Book, newBook, taken, Outcome}
-use Rattle.book.specs.Opening.{knownRate, fitDoubt, refusedOpening, openOf}
+use Rattle.book.specs.Opening.{fitDoubt, refusedOpening, openOf}
 use Rattle.book.specs.Delivery.{withEntry, deliverOf}
 use Rattle.book.specs.CaptureOpening.{onAccepted, deliverRow, rateIn, listIn, recordsIn, sizeFits, versionFits, lengthFits, openWith, openCaptureOf}
 use Rattle.book.specs.RowLaws.{placesOf, wide, Proper, places-append, taken-among, deliver-above, deliver-taken, deliver-accepted, open-accepted, open-refused-rate, open-refused-list, entry-proper, new-proper}

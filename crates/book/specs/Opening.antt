@@ -1,22 +1,19 @@
--- Opening a session: rate, then doubtful list.
+-- Opening a session: rate (knownRate of `code`), then doubtful list.
 --
---   knownRate rate       39 or 49
 --   rising list          strictly rising: each number is at least one more than the number before it
 --   fitPlaces list       no place is above 63, and they are strictly rising
 --   fitDoubt list        a doubtful list of at most 8 such places
 --   refusedOpening n     refused with the number n: a new book of rate 39 with an empty list
 --   openOf rate list     what opening answers: 1 or 4 if refused, else a new book of that rate and list
-use mathlib.Core.Bool.{Bool, true, cond, _&&_, _||_}
+use mathlib.Core.Bool.{Bool, true, cond, _&&_}
 use mathlib.Core.List.{List, [], _∷_}
 use Prim.Native.Nat.{ℕ, suc}
-use lib.Dec.{eqb, leb}
+use lib.Dec.{leb}
 use lib.ListN.{length}
 use Rattle.lists.specs.Distinct.{below}
 use Rattle.refusals.specs.Refusal.{accepted, unknownRate, wrongDoubt}
+use Rattle.code.specs.Encoding.{knownRate}
 use Rattle.book.specs.Book.{places, newBook, Outcome}
-
-unfoldable pub knownRate : ℕ → Bool
-knownRate rate = eqb rate 39 || eqb rate 49
 
 -- each number is at least n, and at least one more than the number before it
 unfoldable pub risingFrom : ℕ → List ℕ → Bool

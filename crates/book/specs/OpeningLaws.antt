@@ -5,20 +5,23 @@
 --   rate-known, known-rate   the rates that pass the test
 --   rate-reach           T is document 01's
 --   list-fits, fits-list the lists that pass the test
-use mathlib.Core.Bool.{Bool, true, false, _&&_, _||_, false≢true}
+use mathlib.Core.Bool.{true, _&&_}
 use mathlib.Core.Path.{_≡_, refl, sym, subst}
 use mathlib.Core.List.{List, [], _∷_}
+use mathlib.Core.Logic.{⊎-elim}
 use Prim.Native.Nat.{ℕ, zero, suc, _<_, _≤_}
 use native.Mathlib.Nat.{le-of-suc-le-suc}
 use native.Mathlib.Omega.{arith}
-use lib.Dec.{eqb, ltb, leb}
+use lib.Dec.{ltb, leb}
 use lib.ListN.{length, getD}
-use borrow.Author.Tests.{eqb-true, lt-ltb, leb-true, le-leb}
+use borrow.Author.Tests.{lt-ltb, leb-true, le-leb}
 use Rattle.lists.specs.Distinct.{below, below-at, and-left, and-right, and-both}
+use Rattle.code.specs.Encoding.{knownRate}
+use Rattle.code.specs.Rates.{known-rates}
 use Rattle.near.specs.Near.{reachOf}
 use Rattle.near.specs.Reach.{reaches}
 use Rattle.book.specs.Book.{places}
-use Rattle.book.specs.Opening.{knownRate, risingFrom, rising, fitPlaces, fitDoubt}
+use Rattle.book.specs.Opening.{risingFrom, rising, fitPlaces, fitDoubt}
 
 pub data Rate : ℕ → ℕ → Type 0 where
   rate-39 : Rate 39 6
@@ -39,13 +42,8 @@ rate-reach rate-39 = reaches .1
 rate-reach rate-49 = reaches .3
 
 pub known-rate : (rate : ℕ) → knownRate rate ≡ true → (T : ℕ) × Rate rate T
-unfolding knownRate
-known-rate rate e = go (eqb rate 39) refl (eqb rate 49) refl e
-  where
-    go : (a : Bool) → eqb rate 39 ≡ a → (b : Bool) → eqb rate 49 ≡ b → (a || b) ≡ true → (T : ℕ) × Rate rate T
-    go true f b g h = (6, subst (λ k. Rate k 6) (sym (eqb-true rate 39 f)) rate-39)
-    go false f true g h = (1, subst (λ k. Rate k 1) (sym (eqb-true rate 49 g)) rate-49)
-    go false f false g h = absurd (false≢true h)
+known-rate rate e =
+    ⊎-elim (λ f. (6, subst (λ k. Rate k 6) (sym f) rate-39)) (λ f. (1, subst (λ k. Rate k 1) (sym f) rate-49)) (known-rates rate e)
 
 rising-of : (n : ℕ) (list : List ℕ) → (0 < length list → n ≤ getD list 0 0)
     → ((i : ℕ) → suc i < length list → getD list i 0 < getD list (suc i) 0) → risingFrom n list ≡ true

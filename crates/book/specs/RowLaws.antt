@@ -23,8 +23,9 @@ use borrow.Author.Tests.{lt-ltb, le-ltb, ltb-true, eq-eqb, not-true}
 use Rattle.refusals.specs.Refusal.{accepted, noPlace, placeTaken, unknownRate, wrongDoubt}
 use Rattle.lists.specs.Every.{every, every-at, every-false, true-T, T-true}
 use Rattle.lists.specs.Distinct.{among, distinct, below, below-append, below-one, below-nil, distinct-nil, distinct-snoc, distinct-every, and-left, and-right, and-both}
+use Rattle.code.specs.Encoding.{knownRate}
 use Rattle.book.specs.Book.{places, width, Entry, Book, newBook, columnOf, present, taken, missing, someMissing}
-use Rattle.book.specs.Opening.{knownRate, fitDoubt, refusedOpening, openOf}
+use Rattle.book.specs.Opening.{fitDoubt, refusedOpening, openOf}
 use Rattle.book.specs.Delivery.{withEntry, deliverOf}
 
 unfoldable pub placesOf : List Entry → List ℕ

@@ -33,7 +33,7 @@ use Rattle.lists.specs.Words.{Word, Lex}
 use Rattle.lists.specs.Answers.{Answers, nobody, best, cheaper, earlier, NoWorse, Found}
 use Rattle.soft.specs.TestWord.{testWords}
 use Rattle.soft.specs.Total.{totalOf, differing}
-use Rattle.code.specs.Encoding.{encodeOf}
+use Rattle.code.specs.Encoding.{encodeOf, knownRate}
 use Rattle.hermitian.specs.Keys.{Term, plain, timesZ, key}
 use Rattle.near.specs.Near.{mOf, reachOf, nearTo, near, messageCost, answerOf}
 use Rattle.near.specs.Laws.{near-cons, near-member, near-answers}
@@ -42,7 +42,7 @@ use Rattle.interpolant.specs.Meaning.{IsLeastQ}
 use Rattle.interpolant.specs.Least.{leastQ-some}
 use Rattle.interpolant.specs.Reading.{reading-size, reading-plain, reading-z}
 use Rattle.book.specs.Book.{places, Entry, Book, newBook, columnOf, taken, someMissing, Outcome}
-use Rattle.book.specs.Opening.{knownRate, fitDoubt, refusedOpening, openOf}
+use Rattle.book.specs.Opening.{fitDoubt, refusedOpening, openOf}
 use Rattle.book.specs.Delivery.{withEntry, deliverOf}
 use Rattle.book.specs.Capture.{captureLength}
 use Rattle.book.specs.Writing.{Filled, writeOf}

@@ -33,8 +33,9 @@ use Rattle.soft.specs.Column as Soft
 use Rattle.soft.specs.ColumnLaws.{column-length, cost-column, costs-length}
 use Rattle.soft.specs.Doubt.{mostDoubt, doubtfulOf}
 use Rattle.soft.specs.DoubtLaws.{doubtful-length, doubtful-rising, doubtful-below}
+use Rattle.code.specs.Encoding.{knownRate}
 use Rattle.book.specs.Book.{places, width, Entry, Book, newBook, columnOf, taken, present, someMissing, Outcome}
-use Rattle.book.specs.Opening.{knownRate, fitDoubt, openOf}
+use Rattle.book.specs.Opening.{fitDoubt, openOf}
 use Rattle.book.specs.OpeningLaws.{list-fits}
 use Rattle.book.specs.RowLaws.{placesOf, open-accepted}
 use Rattle.book.specs.CaptureOpening.{deliverRow}

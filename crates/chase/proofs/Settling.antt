@@ -1,5 +1,5 @@
 -- From the settled places to the root of the tree: flags, nodes, and the known rates.
-use mathlib.Core.Bool.{Bool, true, false, _||_, cond}
+use mathlib.Core.Bool.{Bool, true, false, cond}
 use mathlib.Core.Path.{_≡_, refl, sym, ap, ap₂, _∙_, subst, subst₂}
 use mathlib.Core.List.{List, [], _∷_, _++_, List·Memᴰ, List·Memᴰ·head, List·Memᴰ·tail, List·Memᴰ·cases-cons, List·Memᴰ·append-cases, List·Memᴰ·eq-of-singleton, List·Memᴰ·not-nil, Memᴰ·append-left, Memᴰ·append-right}
 use mathlib.Core.Logic.{_≢_, _⊎_, inl, inr, ⊎-elim}
@@ -14,7 +14,8 @@ use lib.Seq.{take-suc, getD-set-same, getD-set-other, getD-take}
 use borrow.Author.Tests.{eq-eqb, ne-eqb, eqb-true}
 use Rattle.lists.specs.Member.{member-at, at-member}
 use Rattle.code.specs.Nodes.{Node, node, ThroughNodes}
-use Rattle.code.specs.Encoding.{knownRate, either}
+use Rattle.code.specs.Encoding.{knownRate}
+use Rattle.code.specs.Rates.{known-bounds}
 use Rattle.interpolation.specs.Settled.{settled, settled-nil, settled-suc}
 use Rattle.near.specs.Tree.{Places, places-nil, places-cons, Decided}
 use Rattle.algebra.specs.Koetter.{Basis}
@@ -32,12 +33,7 @@ use Rattle.chase.specs.Searching.{Ranged, Flagged, SearchOf}
 -- ---- known rates
 
 pub known-range : (k : ℕ) → knownRate k ≡ true → Ranged k
-unfolding knownRate
-known-range k e = go (eqb k 39) refl e
-  where
-    go : (b : Bool) → eqb k 39 ≡ b → either b (eqb k 49) ≡ true → Ranged k
-    go true q t = let h : k ≡ 39 = eqb-true k 39 q in record { least = omega arith; most = omega arith }
-    go false q t = let h : k ≡ 49 = eqb-true k 49 t in record { least = omega arith; most = omega arith }
+known-range k e = let h = known-bounds k e in record { least = omega arith; most = omega arith }
 
 -- ---- places
 

@@ -1,45 +1,32 @@
 -- When the search may be asked: for a rate and a doubtful list that opening accepts.
 --
---   rate-code          the two crates' tests of the rate are one
 --   rate-small         a known rate is at most 49
 --   fit-places         a fit doubtful list has different places, all below 64
 --   asked-fit          so the search may be asked
 --   take-short, list-few  a list of at most 8 places
 --   opened-fit, fit-opened   opening accepts exactly these
-use mathlib.Core.Bool.{Bool, true, false, _&&_, _||_}
+use mathlib.Core.Bool.{Bool, true, false, _&&_}
 use mathlib.Core.Path.{_≡_, refl, sym, ap, _∙_}
 use mathlib.Core.List.{List, [], _∷_, List·Memᴰ, List·Memᴰ·cases-cons, List·Memᴰ·not-nil}
 use mathlib.Core.Logic.{⊎-elim}
 use Prim.Native.Nat.{ℕ, suc, _≤_}
 use native.Mathlib.Omega.{arith}
-use lib.Dec.{eqb, leb}
+use lib.Dec.{leb}
 use lib.ListN.{length, take, length-take}
 use borrow.Author.Tests.{leb-true}
 use Rattle.refusals.specs.Refusal.{accepted, unknownRate, wrongDoubt}
 use Rattle.lists.specs.Distinct.{below, below-cons, and-left, and-right}
-use Rattle.code.specs.Encoding as Code
+use Rattle.code.specs.Encoding.{knownRate}
+use Rattle.code.specs.Rates.{known-bounds}
 use Rattle.near.specs.Tree.{Places, places-nil, places-cons}
-use Rattle.book.specs.Opening.{knownRate, risingFrom, rising, fitPlaces, fitDoubt}
-use Rattle.book.specs.OpeningLaws.{Rate, rate-39, rate-49, known-rate}
+use Rattle.book.specs.Opening.{risingFrom, rising, fitPlaces, fitDoubt}
 use Rattle.session.specs.declared.Opened.{Opened}
 use Rattle.session.specs.Calls.{refusedWith, openedOf}
 use Rattle.session.specs.Laws.{opened-rate, opened-list, opened-new}
 use Rattle.chase.specs.Nearest.{Asked}
 
-pub rate-code : (k : ℕ) → Code.knownRate k ≡ knownRate k
-unfolding Code.knownRate knownRate
-rate-code k = go (eqb k 39) (eqb k 49)
-  where
-    go : (a b : Bool) → Code.either a b ≡ (a || b)
-    go true b = refl
-    go false b = refl
-
-pub rate-small : (k : ℕ) → Code.knownRate k ≡ true → k ≤ 49
-rate-small k e = go (known-rate k (sym (rate-code k) ∙ e) .1)
-  where
-    go : {n t : ℕ} → Rate n t → n ≤ 49
-    go rate-39 = omega arith
-    go rate-49 = omega arith
+pub rate-small : (k : ℕ) → knownRate k ≡ true → k ≤ 49
+rate-small k known = known-bounds k known .1
 
 rising-above : (n : ℕ) (list : List ℕ) → risingFrom n list ≡ true → (q : ℕ) → List·Memᴰ q list → n ≤ q
 unfolding risingFrom
@@ -71,7 +58,7 @@ module _ (rate : ℕ) (costs doubtful : List ℕ) (doubt : ℕ) where
   pub asked-fit : knownRate rate ≡ true → fitDoubt (take doubt doubtful) ≡ true → length costs ≡ 1024 → doubt ≤ 8
       → Asked rate costs doubtful doubt
   asked-fit known fit size few =
-      record { known = rate-code rate ∙ known; size = size; few = few; places = fit-places (take doubt doubtful) fit }
+      record { known = known; size = size; few = few; places = fit-places (take doubt doubtful) fit }
 
 module _ (rate : ℕ) (list : List ℕ) where
   pub fit-opened : knownRate rate ≡ true → fitDoubt list ≡ true → openedOf rate list .refusal ≡ accepted

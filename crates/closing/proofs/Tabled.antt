@@ -13,12 +13,12 @@ use Rattle.lists.specs.Padded.{padded, padded-take}
 use Rattle.soft.specs.Column.{places, symbols, costsFrom, columnOf}
 use Rattle.soft.specs.ColumnLaws.{costs-length}
 use Rattle.soft.specs.Doubt.{mostDoubt, doubtfulOf}
-use Rattle.code.specs.Encoding as Code
+use Rattle.code.specs.Encoding.{knownRate}
 use Rattle.book.specs.Opening.{fitDoubt}
 use Rattle.book.specs.Closing.{reportLength, Closed, decodeOf}
 use Rattle.book.specs.Table.{tableLength, tableColumns, pickedOf, tableOf, table-decoded, picked-length, picked-fit}
 use Rattle.chase.specs.Nearest.{Asked}
-use Rattle.closing.proofs.Asked.{rate-code, asked-fit}
+use Rattle.closing.proofs.Asked.{asked-fit}
 
 module _ (table : List ℕ) (doubt : ℕ) (few : doubt ≤ mostDoubt) {costs doubtful : List ℕ} (c : costs ≡ costsFrom (places * symbols) table)
     (d : doubtful ≡ padded mostDoubt (doubtfulOf places doubt (columnOf symbols costs))) where
@@ -30,10 +30,10 @@ module _ (table : List ℕ) (doubt : ℕ) (few : doubt ≤ mostDoubt) {costs dou
       ap (take doubt) (d ∙ ap (λ (l : List ℕ). padded mostDoubt (doubtfulOf places doubt (columnOf symbols l))) c)
       ∙ ap (λ k. take k (padded mostDoubt list)) (sym n) ∙ padded-take mostDoubt list (omega arith)
 
-  module _ (rate : ℕ) (known : Code.knownRate rate ≡ true) where
+  module _ (rate : ℕ) (known : knownRate rate ≡ true) where
     pub table-asked : Asked rate costs doubtful doubt
     table-asked =
-        asked-fit rate costs doubtful doubt (sym (rate-code rate) ∙ known) (ap fitDoubt table-list ∙ picked-fit table doubt few)
+        asked-fit rate costs doubtful doubt known (ap fitDoubt table-list ∙ picked-fit table doubt few)
         (ap length c ∙ costs-length (places * symbols) table) few
 
     pub table-answers : (message report : List ℕ) → length table ≡ tableLength → length message ≡ rate → length report ≡ reportLength
@@ -42,4 +42,4 @@ module _ (table : List ℕ) (doubt : ℕ) (few : doubt ≤ mostDoubt) {costs dou
     unfolding tableColumns
     table-answers message report whole long eight e =
         e ∙ ap₂ (λ (l list : List ℕ). decodeOf rate (columnOf symbols l) list message report) c table-list
-        ∙ sym (table-decoded rate table doubt message report (sym (rate-code rate) ∙ known) whole long eight few)
+        ∙ sym (table-decoded rate table doubt message report known whole long eight few)

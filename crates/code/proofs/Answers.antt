@@ -1,31 +1,25 @@
 -- What each answer of encoding and of reading back comes to, by the checks that led to it.
-use mathlib.Core.Bool.{Bool, true, false, false≢true}
-use mathlib.Core.Path.{_≡_, refl, sym, ap, ap₂, _∙_}
+use mathlib.Core.Bool.{true, false}
+use mathlib.Core.Path.{_≡_, sym, ap, ap₂, _∙_}
 use mathlib.Core.List.{List, _++_}
 use mathlib.Core.Option.{Option, some, none}
 use Prim.Native.Nat.{ℕ, _+_, _-_, _<_, _≤_}
 use native.Mathlib.Omega.{arith}
-use lib.Dec.{eqb}
 use lib.ListN.{length, take, drop}
 use lib.Seq.{drop-drop}
-use borrow.Author.Tests.{eq-eqb, ne-eqb, le-leb, lt-leb, eqb-true}
+use borrow.Author.Tests.{eq-eqb, ne-eqb, le-leb, lt-leb}
 use Rattle.lists.specs.Listed.{listed-length, take-listed}
 use Rattle.lists.specs.Words.{allBelow}
 use Rattle.refusals.specs.Refusal.{accepted, unknownRate, wrongSize, noSymbol, noCodeword}
-use Rattle.code.specs.Encoding.{valueAt, encodeOf, either, knownRate, readBackOf}
+use Rattle.code.specs.Encoding.{valueAt, encodeOf, knownRate, readBackOf}
+use Rattle.code.specs.Rates.{known-bounds}
 use Rattle.code.specs.Calls.{outcome, found, fitsFrame, placed, encodeCall, readBackCall}
 use Rattle.code.specs.Extraction.{messageAt, extractOf}
 use Rattle.code.specs.Laws.{read-by-extraction-some, read-by-extraction-none}
 
 -- a known rate is small enough to be read back
 pub known-small : (k : ℕ) → knownRate k ≡ true → k ≤ 58
-unfolding knownRate
-known-small k e = go (eqb k 39) refl (eqb k 49) refl e
-  where
-    go : (a : Bool) → eqb k 39 ≡ a → (b : Bool) → eqb k 49 ≡ b → either a b ≡ true → k ≤ 58
-    go true p b q r = omega (arith, eqb-true k 39 p)
-    go false p true q r = omega (arith, eqb-true k 49 q)
-    go false p false q r = absurd (false≢true r)
+known-small k e = omega (arith, known-bounds k e)
 
 pub encode-length : (k : ℕ) (m : List ℕ) → length (encodeOf k m) ≡ 64
 unfolding encodeOf

@@ -7,7 +7,7 @@
 --   knownRate k      rate 39 or 49
 --   encodesTo k v m  m encodes to the word v, as a test
 --   readBackOf k v   the first message of k symbols that encodes to v, or none
-use mathlib.Core.Bool.{Bool, true, false}
+use mathlib.Core.Bool.{Bool, _||_}
 use mathlib.Core.List.{List}
 use mathlib.Core.Option.{Option}
 use Prim.Native.Nat.{ℕ}
@@ -34,13 +34,8 @@ valueAt k m p = xorSum k (term m p)
 unfoldable pub encodeOf : ℕ → List ℕ → List ℕ
 encodeOf k m = listed 64 (valueAt k m)
 
--- one test or the other
-abbrev pub either : Bool → Bool → Bool
-either true b = true
-either false b = b
-
 unfoldable pub knownRate : ℕ → Bool
-knownRate k = either (eqb k 39) (eqb k 49)
+knownRate k = eqb k 39 || eqb k 49
 
 unfoldable pub encodesTo : ℕ → List ℕ → List ℕ → Bool
 encodesTo k v m = same (encodeOf k m) v

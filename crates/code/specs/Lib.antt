@@ -1,6 +1,7 @@
 pub mod Curve
 pub mod Points
 pub mod Encoding
+pub mod Rates
 pub mod Calls
 pub mod Evaluation
 pub mod Bridge

@@ -3,15 +3,13 @@
 --   flag-away, flag-doubtful, flag-settled   the three cases of a flag
 --   settled-session      the nodes of the word of best symbols and the flags are those of the session's book
 --   session-reading      so their reading is the book's
---   m-of                 M is between 32 and 127 at a known rate
-use mathlib.Core.Bool.{Bool, true, false, cond, not, _&&_, _||_}
+use mathlib.Core.Bool.{Bool, true, false, cond, not, _&&_}
 use mathlib.Core.Path.{_≡_, refl, sym, ap, ap₂, _∙_}
 use mathlib.Core.List.{List, [], _∷_}
 use Prim.Native.Nat.{ℕ, zero, suc, _+_, _<_, _≤_}
 use native.Mathlib.Omega.{arith}
 use lib.Dec.{eqb}
 use lib.ListN.{getD, take}
-use borrow.Author.Tests.{eqb-true}
 use Rattle.lists.specs.Count.{bit}
 use Rattle.lists.specs.Listed.{listed, listed-at}
 use Rattle.lists.specs.Distinct.{among}
@@ -23,7 +21,6 @@ use Rattle.near.specs.Near.{mOf}
 use Rattle.interpolant.specs.LeastQ.{readingOf}
 use Rattle.interpolation.specs.Settled.{settled, settled-nil, settled-suc}
 use Rattle.book.specs.Book.{places}
-use Rattle.book.specs.Opening.{knownRate}
 use Rattle.book.specs.Reading.{isSettled, settledAt, settledBelow, settledOf}
 use Rattle.session.specs.declared.Session.{Session}
 use Rattle.session.specs.View.{bookOf, Good}
@@ -74,11 +71,3 @@ module _ (s : Session) (good : Good s) (word flags : List ℕ) (w : word ≡ bes
   pub session-reading : readingOf (s .rate + 5) (settled word flags 64) ≡ readingOf (mOf (s .rate)) (settledOf (bookOf s))
   unfolding settledOf mOf
   session-reading = ap (readingOf (s .rate + 5)) (settled-session 64 (omega arith))
-
-pub m-of : (rate : ℕ) → knownRate rate ≡ true → (32 ≤ rate + 5) × (rate + 5 ≤ 127)
-unfolding knownRate
-m-of rate k = go (eqb rate 39) refl k
-  where
-    go : (b : Bool) → eqb rate 39 ≡ b → (b || eqb rate 49) ≡ true → (32 ≤ rate + 5) × (rate + 5 ≤ 127)
-    go true e t = let q : rate ≡ 39 = eqb-true rate 39 e in (omega arith, omega arith)
-    go false e t = let q : rate ≡ 49 = eqb-true rate 49 t in (omega arith, omega arith)

@@ -63,7 +63,7 @@ pub fn read_interpolant(session: Session, out: &mut [u8]) -> u8
         return WRONG_SIZE;
     }
     let rate = session.rate as usize;
-    if !session::known_rate(rate) {
+    if !code::encoding::known_rate(rate) {
         return UNKNOWN_RATE;
     }
     let taken = session.taken;

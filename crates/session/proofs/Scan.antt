@@ -1,18 +1,16 @@
 -- Loops that go through a list of places, at each turn of which what is asked of the list is asked of what is left of it; and what the tests of
 -- an opening say.
-use mathlib.Core.Bool.{Bool, true, false, _&&_, _||_, and-false}
+use mathlib.Core.Bool.{Bool, true, false, _&&_, and-false}
 use mathlib.Core.Path.{_≡_, refl, sym, ap, _∙_}
 use mathlib.Core.List.{List, _∷_}
 use Prim.Native.Nat.{ℕ, suc, _+_, _<_, _≤_}
 use native.Mathlib.Numerals.{add-one}
-use native.Mathlib.Omega.{arith}
-use lib.Dec.{eqb}
 use lib.ListN.{length, getD, drop, drop-of-length-le}
 use lib.Seq.{drop-cons}
-use borrow.Author.Tests.{lt-ltb, le-ltb, le-leb, lt-leb, eq-eqb, ne-eqb, eqb-true}
+use borrow.Author.Tests.{lt-ltb, le-ltb, le-leb, lt-leb, eq-eqb, ne-eqb}
 use Rattle.lists.specs.Distinct.{among, below}
 use Rattle.book.specs.Book.{places}
-use Rattle.book.specs.Opening.{knownRate, risingFrom, rising, fitPlaces, fitDoubt}
+use Rattle.book.specs.Opening.{risingFrom, rising, fitPlaces, fitDoubt}
 
 -- none of the places is above 63, each is at least n and above the one before it
 unfoldable pub fitsFrom : ℕ → List ℕ → Bool
@@ -63,14 +61,6 @@ module _ (p : ℕ) (list : List ℕ) (i : ℕ) (h : i < length list) (e : among 
   among-next q = e ∙ ap (among p) (drop-cons list i 0 h) ∙ rw (add-one i, ne-eqb (getD list i 0) p q)
 
 -- ---- the tests of an opening
-
-pub known-small : (rate : ℕ) → knownRate rate ≡ true → rate < 256
-unfolding knownRate
-known-small rate k = go (eqb rate 39) refl k
-  where
-    go : (b : Bool) → eqb rate 39 ≡ b → (b || eqb rate 49) ≡ true → rate < 256
-    go true e t = omega (arith, eqb-true rate 39 e)
-    go false e t = omega (arith, eqb-true rate 49 t)
 
 pub long-unfit : (list : List ℕ) → 8 < length list → fitDoubt list ≡ false
 unfolding fitDoubt

@@ -11,8 +11,9 @@ use mathlib.Core.Path.{_≡_}
 use mathlib.Core.List.{List, []}
 use Prim.Native.Nat.{ℕ}
 use Rattle.refusals.specs.Refusal.{accepted, unknownRate, wrongDoubt}
+use Rattle.code.specs.Encoding.{knownRate}
 use Rattle.book.specs.Book.{Outcome}
-use Rattle.book.specs.Opening.{knownRate, fitDoubt}
+use Rattle.book.specs.Opening.{fitDoubt}
 use Rattle.book.specs.Delivery.{deliverOf}
 use Rattle.session.specs.declared.Session.{Session}
 use Rattle.session.specs.declared.Opened.{Opened}

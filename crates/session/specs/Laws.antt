@@ -25,8 +25,9 @@ use Rattle.refusals.specs.Refusal.{accepted, unknownRate, wrongDoubt, noPlace, 
 use Rattle.lists.specs.Listed.{listed, listed-nil, listed-suc, listed-ext, listed-length}
 use Rattle.lists.specs.Distinct.{among, below, distinct, among-nil, among-one, among-at, below-at, among-append, below-append, below-one, below-nil, distinct-nil, distinct-snoc, distinct-all, among-snoc, or-none, and-both}
 use Rattle.lists.specs.Block.{block, putBlock, block-length, put-length, put-same, put-other, block-replicate, block-ext}
+use Rattle.code.specs.Encoding.{knownRate}
 use Rattle.book.specs.Book.{places, width, Entry, Book, newBook, columnOf, taken, Outcome}
-use Rattle.book.specs.Opening.{knownRate, risingFrom, rising, fitPlaces, fitDoubt, refusedOpening, openOf}
+use Rattle.book.specs.Opening.{risingFrom, rising, fitPlaces, fitDoubt, refusedOpening, openOf}
 use Rattle.book.specs.Delivery.{withEntry}
 use Rattle.book.specs.RowLaws.{placesOf, wide, Proper, places-append, wide-append, column-append, column-one, taken-among, deliver-above, deliver-taken, deliver-accepted, open-refused-rate, open-refused-list, open-accepted}
 use Rattle.book.specs.RoundTrip.{list-short}

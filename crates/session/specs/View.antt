@@ -14,8 +14,9 @@ use lib.ListN.{length, getD, take, drop, replicate}
 use Rattle.lists.specs.Listed.{listed}
 use Rattle.lists.specs.Distinct.{among, below, distinct}
 use Rattle.lists.specs.Block.{block}
+use Rattle.code.specs.Encoding.{knownRate}
 use Rattle.book.specs.Book.{places, width, Entry, Book}
-use Rattle.book.specs.Opening.{knownRate, fitDoubt}
+use Rattle.book.specs.Opening.{fitDoubt}
 use Rattle.session.specs.declared.Session.{Session}
 
 unfoldable pub padded : List ℕ → List ℕ

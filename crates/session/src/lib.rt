@@ -7,7 +7,7 @@ ghost use lib.ListN.{length};
 ghost use Rattle.lists.specs.Distinct.{among, below};
 ghost use Rattle.lists.specs.Block.{putBlock};
 ghost use Rattle.book.specs.Book.{places, width};
-ghost use Rattle.book.specs.Opening.{knownRate, fitPlaces};
+ghost use Rattle.book.specs.Opening.{fitPlaces};
 ghost use Rattle.session.specs.View.{padded, newSession};
 ghost use Rattle.session.specs.Calls.{refusedWith, openedOf, declinedWith, Delivery};
 use soft::costs::COSTS;
@@ -36,15 +36,6 @@ pub struct Opened {
 pub struct Delivered {
     pub refusal: u8,
     pub session: Session,
-}
-
-pub fn known_rate(rate: usize) -> bool
-    ensures { λ r. ⌜ r ≡ knownRate rate ⌝ }
-{
-    if rate == 39 {
-        return true;
-    }
-    rate == 49
 }
 
 // Whether no place is above 63 and each is above the one before it.
@@ -113,7 +104,7 @@ pub fn refused(number: u8) -> Opened
 pub fn open(rate: usize, doubtful: &[u8]) -> Opened
     ensures { λ r. ⌜ r ≡ openedOf rate (now (doubtful .entry)) ⌝ }
 {
-    if !known_rate(rate) {
+    if !code::encoding::known_rate(rate) {
         return refused(refusals::UNKNOWN_RATE);
     }
     if MOST_DOUBT < doubtful.len() {

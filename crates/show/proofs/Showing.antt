@@ -6,19 +6,19 @@
 --   known-short          a known rate is at most 64
 --   zeros-take           the first of some zeros are zeros
 --   appended-within      a text ends within its buffer
-use mathlib.Core.Bool.{Bool, true, false, _||_, false≢true}
+use mathlib.Core.Bool.{true}
 use mathlib.Core.Path.{_≡_, refl, sym, ap, ap₂, _∙_}
 use mathlib.Core.List.{List, _∷_, _++_}
 use Prim.Native.Nat.{ℕ, zero, suc, _+_, _≤_}
 use native.Mathlib.Nat.{le-of-suc-le-suc, not-suc-le-zero}
 use native.Mathlib.Omega.{arith}
-use lib.Dec.{eqb}
 use lib.ListN.{length, take, replicate, length-take}
 use lib.Seq.{length-take-le}
-use borrow.Author.Tests.{eqb-true, eq-eqb, ne-eqb}
+use borrow.Author.Tests.{eq-eqb, ne-eqb}
 use Rattle.refusals.specs.Refusal.{accepted}
+use Rattle.code.specs.Encoding.{knownRate}
+use Rattle.code.specs.Rates.{known-bounds}
 use Rattle.book.specs.Book.{Book, Outcome}
-use Rattle.book.specs.Opening.{knownRate}
 use Rattle.book.specs.Closing.{Closed, reportLength, closeOf}
 use Rattle.session.specs.declared.Session.{Session}
 use Rattle.session.specs.View.{bookOf, Good}
@@ -78,13 +78,7 @@ module _ (s : Session) (message report message′ report′ : List ℕ) (r : ℕ
       message-there = unfold closed in closing .message-bytes good
 
 pub known-short : (rate : ℕ) → knownRate rate ≡ true → rate ≤ 64
-unfolding knownRate
-known-short rate h = go (eqb rate 39) refl (eqb rate 49) refl h
-  where
-    go : (a : Bool) → eqb rate 39 ≡ a → (b : Bool) → eqb rate 49 ≡ b → (a || b) ≡ true → rate ≤ 64
-    go true e b f k = omega (arith, eqb-true rate 39 e)
-    go false e true f k = omega (arith, eqb-true rate 49 f)
-    go false e false f k = absurd (false≢true k)
+known-short rate known = omega (arith, known-bounds rate known)
 
 pub zeros-take : (k n : ℕ) → k ≤ n → take {A = ℕ} k (replicate n 0) ≡ replicate k 0
 zeros-take zero n h = refl

@@ -3,10 +3,9 @@ use mathlib.Core.Bool.{true}
 use mathlib.Core.Path.{_≡_, sym, _∙_}
 use mathlib.Core.Logic.{inl, inr}
 use borrow.Author.Tests.{not-true, not-false}
-use Rattle.book.specs.Opening.{knownRate}
+use Rattle.code.specs.Encoding.{knownRate}
 use Rattle.book.specs.Closing.{refusedClosing}
 use Rattle.book.specs.Table.{table-rate, table-size, table-doubt}
-use Rattle.closing.proofs.Asked.{rate-code}
 use Rattle.closing.proofs.Tabled.{table-asked, table-answers}
 use borrow.Author.Needs.{needs}
 use Rattle.closing.proofs.decode_table.Statement.{statement}
@@ -17,11 +16,11 @@ known-rate-requires c κs = search needs
 
 -- past the first check the rate is known
 known : (c : tie.Else1) → knownRate (c .before .before .before .before .before .args .rate) ≡ true
-known c = sym (rate-code _) ∙ sym (c .before .known-rate .ensures) ∙ not-false _ (c .if1 .left)
+known c = sym (c .before .known-rate .ensures) ∙ not-false _ (c .if1 .left)
 
 returns : tie.Need-returns
 unfolding refusedClosing
-returns c = sym (table-rate _ _ _ _ _ (sym (rate-code _) ∙ sym (c .before .known-rate .ensures) ∙ not-true _ (c .if1 .taken)))
+returns c = sym (table-rate _ _ _ _ _ (sym (c .before .known-rate .ensures) ∙ not-true _ (c .if1 .taken)))
 
 returns-2 : tie.Need-returns-2
 unfolding refusedClosing
@@ -59,7 +58,7 @@ decode-requires c κs =
     record {
       asked =
           table-asked _ _ (c .before .before .before .before .before .before .if5 .left) (c .before .before .before .before .before .table-from .ensures) (c .before .before .before .doubtful .ensures) _
-          (rate-code _ ∙ known (c .before .before .before .before .before .before .before .before .before .before));
+          (known (c .before .before .before .before .before .before .before .before .before .before));
       message-long = c .before .before .before .before .before .before .before .before .if3 .left;
       report-long = c .before .before .before .before .before .before .before .if4 .left;
     }
@@ -72,7 +71,7 @@ same-length-2 c = search needs
 
 returns-6 : tie.Need-returns-6
 returns-6 c =
-    table-answers _ _ (c .before .before .before .before .before .before .before .before .before .before .before .if5 .left) (c .before .before .before .before .before .before .before .before .before .before .table-from .ensures) (c .before .before .before .before .before .before .before .before .doubtful .ensures) _ (rate-code _ ∙ known (c .before .before .before .before .before .before .before .before .before .before .before .before .before .before .before)) _ _
+    table-answers _ _ (c .before .before .before .before .before .before .before .before .before .before .before .if5 .left) (c .before .before .before .before .before .before .before .before .before .before .table-from .ensures) (c .before .before .before .before .before .before .before .before .doubtful .ensures) _ (known (c .before .before .before .before .before .before .before .before .before .before .before .before .before .before .before)) _ _
     (c .before .before .before .before .before .before .before .before .before .before .before .before .before .before .if2 .left) (c .before .before .before .before .before .before .before .before .before .before .before .before .before .if3 .left) (c .before .before .before .before .before .before .before .before .before .before .before .before .if4 .left) (c .before .before .before .before .decode .ensures)
 
 pub decode-table-spec : {M : Type 1} → statement M

@@ -8,10 +8,11 @@ use lib.Seq.{length-take-le}
 use borrow.Author.Needs.{needs}
 use borrow.Author.Tests.{not-true, not-false}
 use Rattle.interpolant.specs.Reading.{reading-size}
-use Rattle.book.specs.Opening.{knownRate}
+use Rattle.code.specs.Encoding.{knownRate}
+use Rattle.code.specs.Rates.{known-bounds}
 use Rattle.session.specs.declared.Session.{Session}
 use Rattle.session.specs.AnsweringLaws.{reading-by-hand, reading-wrong-size, reading-read}
-use Rattle.reading.proofs.Settling.{session-reading, m-of}
+use Rattle.reading.proofs.Settling.{session-reading}
 use Rattle.reading.proofs.read_interpolant.Statement.{statement}
 use Rattle.reading.proofs.read_interpolant.Tie as tie
 
@@ -72,7 +73,7 @@ add-reading : tie.Need-add-reading
 add-reading c = search needs
 
 reading-requires : tie.Need-reading-requires
-reading-requires c κs = m-of _ (known (c .before .before .before .before .before .before .before .before .before .before))
+reading-requires c κs = omega (arith, known-bounds _ (known (c .before .before .before .before .before .before .before .before .before .before)))
 
 put-requires : tie.Need-put-requires
 put-requires c κs = search needs

@@ -3,8 +3,9 @@ use borrow.Author.Needs.{needs}
 use mathlib.Core.Path.{sym, ap, _∙_}
 use native.Mathlib.Omega.{arith}
 use borrow.Author.Tests.{not-true, not-false}
+use Rattle.code.specs.Rates.{known-bounds}
 use Rattle.session.specs.declared.Session.{Session}
-use Rattle.session.proofs.Scan.{known-small, long-unfit, short-fit}
+use Rattle.session.proofs.Scan.{long-unfit, short-fit}
 use Rattle.session.specs.Laws.{opened-rate, opened-list, opened-new}
 use Rattle.session.proofs.open.Statement.{statement}
 use Rattle.session.proofs.open.Tie as tie
@@ -49,7 +50,7 @@ cast-new-session : tie.Need-cast-new-session
 cast-new-session c =
     omega (
       arith,
-      known-small _
+      known-bounds _
           (sym (c .before .before .before .before .known-rate .ensures) ∙ not-false _ (c .before .before .before .if1 .left)),
     )
 

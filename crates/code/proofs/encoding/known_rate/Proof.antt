@@ -6,11 +6,11 @@ use Rattle.code.proofs.encoding.known_rate.Tie as tie
 
 returns : tie.Need-returns
 unfolding knownRate
-returns c = simp (eq-eqb _ _ (c .if1 .taken))
+returns c = rw (eq-eqb (c .before .args .rate) 39 (c .if1 .taken))
 
 returns-2 : tie.Need-returns-2
 unfolding knownRate
-returns-2 c = simp (ne-eqb _ _ (c .if1 .left))
+returns-2 c = rw (ne-eqb (c .before .args .rate) 39 (c .if1 .left))
 
 pub known-rate-spec : {M : Type 1} → statement M
 known-rate-spec = tie.close (tie.spec returns returns-2)
