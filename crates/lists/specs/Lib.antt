@@ -19,3 +19,4 @@ pub mod Rank
 pub mod Padded
 pub mod Falling
 pub mod Filled
+pub mod Over

@@ -6,7 +6,7 @@
 --   listed-read      what it has stored so far can be read
 --   listed-length, listed-at, listed-ext    its length, its entries, equal rules
 --   listed-cons      from the front
---   take-listed      the first k of them
+--   take-listed      the first k of them; listed-take: a list's first entries are listed by its entries
 --   listed-getD      every list is listed by its entries
 --   sets-all         stores written out one after the other, of all entries
 use mathlib.Core.Path.{_≡_, refl, sym, ap, ap₂, _∙_}
@@ -63,7 +63,7 @@ module _ {ℓ} {A : Type ℓ} where
   listed-ext (suc n) f g h =
       ap₂ (λ (l : List A) x. l ++ (x ∷ [])) (listed-ext n f g (λ k l. h k (le-step l))) (h n (lt-suc-self n))
 
-  listed-take : (n : ℕ) (l : List A) (d : A) → n ≤ length l → listed n (λ k. getD l k d) ≡ take n l
+  pub listed-take : (n : ℕ) (l : List A) (d : A) → n ≤ length l → listed n (λ k. getD l k d) ≡ take n l
   unfolding listed
   listed-take zero l d h = refl
   listed-take (suc n) l d h = ap (λ (r : List A). r ++ (getD l n d ∷ [])) (listed-take n l d (omega arith)) ∙ sym (take-suc l n d h)
