@@ -13,7 +13,7 @@ use Rattle.lists.specs.Listed.{listed, listed-length}
 use Rattle.lists.specs.Filled.{Filled}
 use Rattle.hermitian.specs.Present.{genus}
 use Rattle.hermitian.specs.Orders.{orderOf, orderOf-large, isPresent, presents}
-use Rattle.code.specs.Encoding.{encodeOf}
+use Rattle.code.specs.Encoding.{encodeOf, encode-beyond}
 use Rattle.near.specs.Reach.{genus-4}
 
 ordered : ℕ → ℕ
@@ -53,7 +53,8 @@ message-end k t l out f e h =
 
 -- the first k symbols of a message, lent as a part
 pub lent-message : (k : ℕ) (message : List ℕ) → k ≤ 49 → length message ≡ 49
-    → encodeOf (length (take (k - 0) (drop 0 message))) (take (k - 0) (drop 0 message)) ≡ encodeOf k (take k message)
+    → encodeOf 58 (take (k - 0) (drop 0 message)) ≡ encodeOf k (take k message)
 lent-message k message h e =
     let z : k - 0 ≡ k = omega arith in
-    ap (λ n. encodeOf (length (take n message)) (take n message)) z ∙ ap (λ n. encodeOf n (take k message)) (omega (arith, length-take k message))
+    let l : length (take k message) ≤ k = omega (arith, length-take k message) in
+    ap (λ n. encodeOf 58 (take n message)) z ∙ encode-beyond 58 k (take k message) (omega arith) l

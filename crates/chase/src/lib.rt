@@ -21,7 +21,7 @@ ghost use Rattle.chase.specs.Searching.{symbolIn, Lowest, Flagged, Range
 ghost use Rattle.chase.specs.Known.{Sound, OneOf, Outside, Governs, WithinOf, BelowOf, BranchOf};
 use basis::Leads;
 use basis::Rows;
-use code::encoding::write_codeword;
+use code::encoding::codeword_of;
 use division::dividing::divide;
 use division::parts::with_z;
 use division::parts::without_z;
@@ -94,9 +94,7 @@ fn encoded(message: [u8; 49], k: usize) -> [u8; 64]
     requires { ⌜ k ≤ 49 ⌝ }
     ensures { λ r. ⌜ r ≡ encodeOf k (take k message) ⌝ }
 {
-    let mut codeword = [0u8; 64];
-    write_codeword(&message[0..k], &mut codeword);
-    codeword
+    codeword_of(&message[0..k])
 }
 
 fn distance(codeword: [u8; 64], word: [u8; 64]) -> usize

@@ -1,6 +1,5 @@
 -- From what the search found to what decoding answers.
 --
---   listed-take        the first entries of a list
 --   tests-few          at most 256 test words have a codeword within T, so that their count fits two bytes
 --   answered-none      nobody near: refused with 9, the buffers as they were
 --   decoded-near       the same from the steps of the code
@@ -14,12 +13,11 @@ use lib.Pow.{pow-mono}
 use lib.Seq.{length-take-le}
 use Rattle.refusals.specs.Refusal.{accepted, noneNear}
 use Rattle.lists.specs.Count.{bit-le}
-use Rattle.lists.specs.Listed.{listed, take-listed, listed-getD}
-use Rattle.soft.specs.Doubt.{entryOf}
+use Rattle.lists.specs.Over.{over, over-short}
 use Rattle.soft.specs.TestWord.{testWords}
 use Rattle.soft.specs.TestWordLaws.{testWords-count}
 use Rattle.soft.specs.Total.{totalOf, pinnedOf, changedOf, reportOf}
-use Rattle.code.specs.Encoding.{encodeOf}
+use Rattle.code.specs.Encoding.{encodeOf, encode-beyond}
 use Rattle.near.specs.Near.{isSome, codewordNear, testsNear, messageCost}
 use Rattle.near.specs.Laws.{tests-nil, tests-cons}
 use Rattle.book.specs.Closing.{refusedClosing, reportFor, decodeOf}
@@ -28,10 +26,6 @@ use Rattle.book.specs.Table.{closed}
 use Rattle.chase.specs.declared.Answer.the-variants.{NoneNear, Near}
 use Rattle.chase.specs.declared.Found.{Found}
 use Rattle.chase.specs.Nearest.{Nearest}
-
--- the first entries of a list, by its rule
-pub listed-take : (n : ℕ) (l : List ℕ) → n ≤ length l → listed n (entryOf l) ≡ take n l
-listed-take n l h = sym (take-listed 0 n (length l) (entryOf l) h) ∙ ap (take n) (listed-getD l 0)
 
 pub tests-le : (k : ℕ) (ts : List (List ℕ)) → testsNear k ts ≤ length ts
 tests-le k [] = omega (arith, tests-nil k)
@@ -63,13 +57,13 @@ module _ (rate : ℕ) (columns : ℕ → List ℕ) (doubtful : List ℕ) (f : Fo
 
     -- the same, step by step as the code goes
     pub decoded-near : {t pinned changed : ℕ} {message′ word report′ : List ℕ} → f .answer ≡ Near t → length message ≡ rate
-        → length (f .message) ≡ 49 → rate ≤ 49 → message′ ≡ take (length message) (f .message) → word ≡ encodeOf (length message′) message′
+        → length (f .message) ≡ 49 → rate ≤ 49 → message′ ≡ over (f .message) message → word ≡ encodeOf 58 message′
         → pinned ≡ pinnedOf 64 columns word → changed ≡ changedOf 64 columns word → report′ ≡ reportOf t (f .tests) pinned changed
         → closed accepted message′ report′ ≡ decodeOf rate columns doubtful message report
     decoded-near {t} {pinned} {changed} {message′} {word} {report′} e long size small m w p q r =
-        let a : message′ ≡ take rate (f .message) = m ∙ ap (λ n. take n (f .message)) long in
+        let a : message′ ≡ take rate (f .message) = m ∙ over-short (f .message) message (omega arith) ∙ ap (λ n. take n (f .message)) long in
         let b : length message′ ≡ rate = ap length a ∙ length-take-le rate (f .message) (omega arith) in
-        let v : word ≡ encodeOf rate (take rate (f .message)) = w ∙ ap₂ (λ (n : ℕ) (l : List ℕ). encodeOf n l) b a in
+        let v : word ≡ encodeOf rate (take rate (f .message)) = w ∙ encode-beyond 58 rate message′ (omega arith) (omega arith) ∙ ap (encodeOf rate) a in
         ap₂ (λ (x y : List ℕ). closed accepted x y) a
         (r ∙ ap₂ (λ (x y : ℕ). reportOf t (f .tests) x y) (p ∙ ap (pinnedOf 64 columns) v) (q ∙ ap (changedOf 64 columns) v))
         ∙ answered-near t e

@@ -3,7 +3,7 @@
 --   rate-small         a known rate is at most 49
 --   fit-places         a fit doubtful list has different places, all below 64
 --   asked-fit          so the search may be asked
---   take-short, list-few  a list of at most 8 places
+--   list-few           a list of at most 8 places
 --   opened-fit, fit-opened   opening accepts exactly these
 use mathlib.Core.Bool.{Bool, true, false, _&&_}
 use mathlib.Core.Path.{_≡_, refl, sym, ap, _∙_}
@@ -74,8 +74,5 @@ module _ (rate : ℕ) (list : List ℕ) where
       go true r false f = absurd (omega (arith, sym (ap (λ (o : Opened). o .refusal) (opened-list rate list r f)) ∙ e))
       go false r b f = absurd (omega (arith, sym (ap (λ (o : Opened). o .refusal) (opened-rate rate list r)) ∙ e))
 
-pub take-short : (n : ℕ) (l : List ℕ) → length (take n l) ≤ n
-take-short n l = omega (arith, length-take n l)
-
 pub list-few : {rate doubt : ℕ} {costs doubtful : List ℕ} → Asked rate costs doubtful doubt → length (take doubt doubtful) ≤ 8
-list-few {rate} {doubt} {costs} {doubtful} asked = omega (arith, take-short doubt doubtful, asked .few)
+list-few {rate} {doubt} {costs} {doubtful} asked = omega (arith, length-take doubt doubtful, asked .few)

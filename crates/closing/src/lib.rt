@@ -1,5 +1,6 @@
 // The two calls that decode: closing a session, and table decoding. Each checks its arguments in document 01's order and then decodes.
 // The search is `chase`'s; nothing here knows how it goes.
+use lists::copy;
 use refusals::ACCEPTED;
 use refusals::NONE_NEAR;
 use refusals::PLACE_MISSING;
@@ -8,8 +9,7 @@ use refusals::WRONG_DOUBT;
 use refusals::WRONG_SIZE;
 use session::Session;
 ghost use mathlib.Core.Path.{_≡_};
-ghost use Prim.Native.Nat.{_≤_};
-ghost use lib.ListN.{length, take};
+ghost use lib.ListN.{take};
 ghost use Rattle.soft.specs.Column.{symbols, columnOf};
 ghost use Rattle.book.specs.Closing.{decodeOf};
 ghost use Rattle.book.specs.Table.{closed, tableOf};
@@ -23,18 +23,6 @@ const REPORT_BYTES: usize = 8;
 const PLACES: usize = 64;
 
 const MOST_DOUBT: usize = 8;
-
-// The first bytes of an array of 49, as many as there is room for.
-fn copy_message(from: [u8; 49], to: &mut [u8])
-    requires { ⌜ length (now to) ≤ 49 ⌝ }
-    ensures { λ _. ⌜ now (to .exit) ≡ take (length (now (to .entry))) from ⌝ }
-{
-    let mut i = 0;
-    while i < to.len() {
-        to[i] = from[i];
-        i += 1;
-    }
-}
 
 // 'None near', the buffers as they were; or the answer's message and its report.
 fn decode(
@@ -54,9 +42,8 @@ fn decode(
         return NONE_NEAR;
     };
     let best = found.message;
-    copy_message(best, message);
-    let mut word = [0u8; 64];
-    code::encoding::write_codeword(message, &mut word);
+    copy(&best, message);
+    let word = code::encoding::codeword_of(message);
     let pinned = soft::total::pinned(costs, &word);
     let changed = soft::total::changed(costs, &word);
     soft::report::report(report, total, found.tests as u16, pinned, changed);

@@ -13,7 +13,7 @@ use Rattle.galois.specs.Field16.{times-lt, times-mod, times-comm, times-assoc, 
 use Rattle.code.specs.Curve.{power, power-nil, power-suc, xOf, yOf}
 use Rattle.code.specs.Evaluation.{valueOf}
 use Rattle.code.specs.Points.{element}
-use Rattle.code.specs.Horner.{xTerm, inX, nextSum, spreadAt, timesPlus, OnlyPresent, horner}
+use Rattle.code.specs.Horner.{xTerm, inX, nextSum, spreadAt, timesPlus, horner}
 use Rattle.code.proofs.Moments.{blank16}
 
 pub next-entry : (xs s : List ℕ) (c x : ℕ) {v : ℕ} → v ≡ times (getD s x 0) (getD xs x 0) → bitXor v (c % 16) ≡ nextSum xs s c x
@@ -133,18 +133,18 @@ plus-is f g a b c q =
     ap₂ bitXor (ap₂ times (ap (λ l. getD l p 0) b ∙ listed-at 64 p f 0 h) (ap (λ l. getD l p 0) a ∙ listed-at 64 p yOf 0 h))
     (ap (λ l. getD l p 0) c ∙ listed-at 64 p g 0 h))
 
-pub codeword-is : (f : List ℕ) {ys x3 v3 x2 s2 v2 x1 s1 v1 x0 s0 r : List ℕ} → OnlyPresent f → ys ≡ listed 64 yOf
+pub codeword-is : (f : List ℕ) {ys x3 v3 x2 s2 v2 x1 s1 v1 x0 s0 r : List ℕ} → ys ≡ listed 64 yOf
     → x3 ≡ listed 16 (inX f 3) → v3 ≡ listed 64 (spreadAt x3)
     → x2 ≡ listed 16 (inX f 2) → s2 ≡ listed 64 (spreadAt x2) → v2 ≡ listed 64 (timesPlus ys v3 s2)
     → x1 ≡ listed 16 (inX f 1) → s1 ≡ listed 64 (spreadAt x1) → v1 ≡ listed 64 (timesPlus ys v2 s1)
     → x0 ≡ listed 16 (inX f 0) → s0 ≡ listed 64 (spreadAt x0) → r ≡ listed 64 (timesPlus ys v1 s0)
     → r ≡ listed 64 (valueOf f)
 unfolding plus inXAt
-codeword-is f present y a b c d e g h i j k l =
+codeword-is f y a b c d e g h i j k l =
     plus-is (plus (plus (at 3) (at 2)) (at 1)) (at 0) y
     (plus-is (plus (at 3) (at 2)) (at 1) y (plus-is (at 3) (at 2) y (spread-is f 3 a b) (spread-is f 2 c d) e) (spread-is f 1 g h) i)
     (spread-is f 0 j k) l
-    ∙ listed-ext 64 _ _ (λ p m. horner f present p)
+    ∙ listed-ext 64 _ _ (λ p m. horner f p)
   where
     at : ℕ → ℕ → ℕ
     at n = inXAt f n

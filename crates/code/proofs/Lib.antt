@@ -5,4 +5,3 @@ pub mod Codeword
 pub mod Answers
 pub mod Moments
 pub mod Horner
-pub mod Copied

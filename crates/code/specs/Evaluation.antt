@@ -1,10 +1,12 @@
--- Functions by order: 64 coefficients, that of order o at o, 0 at missing orders. What the code holds and evaluates.
+-- Functions by order: 64 coefficients, that of order o at o; what stands at a missing order counts for nothing. What the code holds and
+-- evaluates.
 --
 --   monomialAt p o       the monomial of order o at place p, as a rule for the list of all orders
---   valueOf f p          the value at place p of the function with coefficients f
+--   ifPresent b a        a where the order is present, 0 where it is missing; present-yes, present-no
+--   valueOf f p          the value at place p of the function with coefficients f at the present orders
 --   coefficientOf m o    the coefficient of order o in the function of message m: symbol t at the t-th present order
 --   functionOf m         all 64 of them
---   function-value       its value is that of the message (document 01's sum over message symbols)
+--   function-value       its value is that of the message's first 58 symbols (document 01's sum over message symbols)
 --   nextOf, monomial-start, monomial-y, monomial-next, monomial-x, monomial-x4   how each monomial comes from an earlier one
 use mathlib.Core.Bool.{Bool, true, false}
 use mathlib.Core.Path.{_≡_, refl, sym, ap, ap₂, _∙_}
@@ -13,12 +15,12 @@ use Prim.Native.Nat.{ℕ, zero, suc, _-_, _/_, _%_, _<_, _≤_}
 use native.Mathlib.Omega.{arith}
 use lib.Dec.{leb, lit<, lit≤}
 use lib.Bits.{bitXor, xor-zero-r}
-use lib.ListN.{length, getD, List·getD-eq-default}
+use lib.ListN.{getD}
 use borrow.Author.Tests.{le-leb, lt-leb, leb-true, leb-false}
 use Rattle.lists.specs.Listed.{listed, listed-at}
-use Rattle.lists.specs.XorSum.{xorSum, xorSum-nil, xorSum-suc, xorSum-ext, xorSum-more}
+use Rattle.lists.specs.XorSum.{xorSum, xorSum-nil, xorSum-suc, xorSum-ext}
 use Rattle.galois.specs.Gf16.{times}
-use Rattle.galois.specs.Field16.{times-comm, times-assoc, times-zero, times-one}
+use Rattle.galois.specs.Field16.{times-comm, times-assoc, times-one}
 use Rattle.hermitian.specs.Present.{Present, decPresent, genus}
 use Rattle.hermitian.specs.Orders.{isPresent, rank, rank-nil, rank-yes, rank-no, rank-large, orderOf, orderOf-rank}
 use Rattle.code.specs.Curve.{power, power-suc, xOf, yOf}
@@ -27,16 +29,15 @@ use Rattle.code.specs.Encoding.{monomial, term, valueAt}
 unfoldable pub monomialAt : ℕ → ℕ → ℕ
 monomialAt p o = monomial o p
 
-unfoldable pub valueTerm : List ℕ → ℕ → ℕ → ℕ
-valueTerm f p o = times (getD f o 0) (monomial o p)
-
-unfoldable pub valueOf : List ℕ → ℕ → ℕ
-valueOf f p = xorSum 64 (valueTerm f p)
-
--- a where the order is present, 0 where it is missing
 abbrev pub ifPresent : Bool → ℕ → ℕ
 ifPresent true a = a
 ifPresent false a = 0
+
+unfoldable pub valueTerm : List ℕ → ℕ → ℕ → ℕ
+valueTerm f p o = ifPresent (isPresent 4 o) (times (getD f o 0) (monomial o p))
+
+unfoldable pub valueOf : List ℕ → ℕ → ℕ
+valueOf f p = xorSum 64 (valueTerm f p)
 
 unfoldable pub coefficientOf : List ℕ → ℕ → ℕ
 coefficientOf m o = ifPresent (isPresent 4 o) (getD m (rank 4 o) 0)
@@ -44,43 +45,46 @@ coefficientOf m o = ifPresent (isPresent 4 o) (getD m (rank 4 o) 0)
 unfoldable pub functionOf : List ℕ → List ℕ
 functionOf m = listed 64 (coefficientOf m)
 
-zero-times : (a : ℕ) → times 0 a ≡ 0
-zero-times a = times-comm 0 a ∙ times-zero a
+pub present-yes : (o a : ℕ) → Present 4 o → ifPresent (isPresent 4 o) a ≡ a
+unfolding isPresent
+present-yes o a h = ap (λ b. ifPresent b a) (le-leb (o % 4) (o / 4) h)
+
+pub present-no : (o a : ℕ) → ¬ Present 4 o → ifPresent (isPresent 4 o) a ≡ 0
+unfolding isPresent
+present-no o a h = ap (λ b. ifPresent b a) (lt-leb (o % 4) (o / 4) (omega arith))
 
 pub coefficient-present : (m : List ℕ) (o : ℕ) → Present 4 o → coefficientOf m o ≡ getD m (rank 4 o) 0
-unfolding coefficientOf isPresent
-coefficient-present m o h = ap (λ b. ifPresent b (getD m (rank 4 o) 0)) (le-leb (o % 4) (o / 4) h)
+unfolding coefficientOf
+coefficient-present m o h = present-yes o _ h
 
 pub coefficient-missing : (m : List ℕ) (o : ℕ) → ¬ Present 4 o → coefficientOf m o ≡ 0
-unfolding coefficientOf isPresent
-coefficient-missing m o h = ap (λ b. ifPresent b (getD m (rank 4 o) 0)) (lt-leb (o % 4) (o / 4) (omega arith))
+unfolding coefficientOf
+coefficient-missing m o h = present-no o _ h
 
-term-beyond : (m : List ℕ) (p t : ℕ) → length m ≤ t → term m p t ≡ 0
-unfolding term
-term-beyond m p t h = ap (λ x. times x (monomial (orderOf 4 t) p)) (List·getD-eq-default m 0 h) ∙ zero-times _
+-- what order o adds at place p, for the function of a message
+messageTerm : List ℕ → ℕ → ℕ → ℕ
+messageTerm m p o = ifPresent (isPresent 4 o) (times (coefficientOf m o) (monomial o p))
 
-next : (m : List ℕ) (p n : ℕ) → Dec (Present 4 n)
-    → bitXor (xorSum (rank 4 n) (term m p)) (times (coefficientOf m n) (monomial n p)) ≡ xorSum (rank 4 (suc n)) (term m p)
-unfolding term
+next : (m : List ℕ) (p n : ℕ) → Dec (Present 4 n) → bitXor (xorSum (rank 4 n) (term m p)) (messageTerm m p n) ≡ xorSum (rank 4 (suc n)) (term m p)
+unfolding term messageTerm
 next m p n (yes h) =
-    ap₂ (λ x o. bitXor (xorSum (rank 4 n) (term m p)) (times x (monomial o p))) (coefficient-present m n h) (sym (orderOf-rank 4 (lit≤ tt) n h))
+    ap (bitXor (xorSum (rank 4 n) (term m p)))
+    (present-yes n _ h ∙ ap₂ (λ x o. times x (monomial o p)) (coefficient-present m n h) (sym (orderOf-rank 4 (lit≤ tt) n h)))
     ∙ sym (xorSum-suc (rank 4 n) (term m p)) ∙ ap (λ k. xorSum k (term m p)) (sym (rank-yes 4 n h))
 next m p n (no h) =
-    ap (λ x. bitXor (xorSum (rank 4 n) (term m p)) (times x (monomial n p))) (coefficient-missing m n h)
-    ∙ ap (bitXor (xorSum (rank 4 n) (term m p))) (zero-times _) ∙ xor-zero-r _ ∙ ap (λ k. xorSum k (term m p)) (sym (rank-no 4 n h))
+    ap (bitXor (xorSum (rank 4 n) (term m p))) (present-no n _ h) ∙ xor-zero-r _ ∙ ap (λ k. xorSum k (term m p)) (sym (rank-no 4 n h))
 
 -- orders below n hold the symbols below its rank
-by-rank : (m : List ℕ) (p n : ℕ) → xorSum n (λ o. times (coefficientOf m o) (monomial o p)) ≡ xorSum (rank 4 n) (term m p)
+by-rank : (m : List ℕ) (p n : ℕ) → xorSum n (messageTerm m p) ≡ xorSum (rank 4 n) (term m p)
 by-rank m p zero = xorSum-nil _ ∙ sym (ap (λ k. xorSum k (term m p)) (rank-nil 4) ∙ xorSum-nil _)
-by-rank m p (suc n) = xorSum-suc n _ ∙ ap (λ x. bitXor x (times (coefficientOf m n) (monomial n p))) (by-rank m p n) ∙ next m p n (decPresent 4 n)
+by-rank m p (suc n) = xorSum-suc n _ ∙ ap (λ x. bitXor x (messageTerm m p n)) (by-rank m p n) ∙ next m p n (decPresent 4 n)
 
-pub function-value : (m : List ℕ) (p : ℕ) → length m ≤ 58 → valueOf (functionOf m) p ≡ valueAt (length m) m p
-unfolding valueOf valueTerm functionOf valueAt genus
-function-value m p h =
-    xorSum-ext 64 _ _ (λ o l. ap (λ x. times x (monomial o p)) (listed-at 64 o (coefficientOf m) 0 l))
+pub function-value : (m : List ℕ) (p : ℕ) → valueOf (functionOf m) p ≡ valueAt 58 m p
+unfolding valueOf valueTerm functionOf valueAt messageTerm genus
+function-value m p =
+    xorSum-ext 64 _ _ (λ o l. ap (λ x. ifPresent (isPresent 4 o) (times x (monomial o p))) (listed-at 64 o (coefficientOf m) 0 l))
     ∙ by-rank m p 64
     ∙ ap (λ k. xorSum k (term m p)) (omega (arith, rank-large 4 (lit≤ tt) 64 (lit≤ tt)))
-    ∙ xorSum-more (length m) 58 (term m p) h (λ t a b. term-beyond m p t a)
 
 -- ---- the monomials of a place, one after another
 pub monomial-start : (p : ℕ) → monomialAt p 0 ≡ 1

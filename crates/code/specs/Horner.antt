@@ -4,26 +4,25 @@
 --   nextSum xs s c x    a step of the rule in x: the sum at x times x, and the next coefficient
 --   spreadAt s p     the sum at the place's x
 --   timesPlus ys v m p   a step of the rule in y: the value times y, and more
---   OnlyPresent f    the coefficients of missing orders are 0; function-present: so it is with a message's function
 --   horner           the rule in y, from y^3 down, gives the value
-use mathlib.Core.Path.{_≡_, sym, ap, ap₂, _∙_}
+use mathlib.Core.Bool.{Bool, true, false}
+use mathlib.Core.Path.{_≡_, refl, sym, ap, ap₂, _∙_}
 use mathlib.Core.List.{List}
 use Prim.Native.Nat.{ℕ, _+_, _-_, _*_, _/_, _%_, _<_, _≤_}
 use native.Mathlib.Nat.{add-sub-of-le}
 use native.Mathlib.Omega.{arith}
 use lib.Bits.{bitXor}
 use lib.ListN.{getD}
-use Rattle.lists.specs.Listed.{listed-at}
 use Rattle.lists.specs.XorSum.{xorSum, xorSum-below}
 use Rattle.algebra.specs.Field.{Field, zero-mul, zero-add, mul-assoc, ring}
 use Rattle.algebra.specs.Sum.{sum, sum-ext, sum-zero, sum-swap, sum-scale-right, sum-append, sum-blocks}
 use Rattle.algebra.specs.Power.{pow}
 use Rattle.galois.specs.Gf16.{times}
-use Rattle.galois.specs.Field16.{GF, K16, toF, toF-add, toF-times, toF-zero, toF-injective, times-lt, xor-below}
-use Rattle.hermitian.specs.Present.{Present}
+use Rattle.galois.specs.Field16.{GF, K16, toF, toF-add, toF-times, toF-zero, toF-injective, times-lt, times-comm, times-zero, xor-below}
+use Rattle.hermitian.specs.Orders.{isPresent}
 use Rattle.code.specs.Curve.{power, xOf, yOf}
 use Rattle.code.specs.Encoding.{monomial}
-use Rattle.code.specs.Evaluation.{valueTerm, valueOf, coefficientOf, functionOf, coefficient-missing}
+use Rattle.code.specs.Evaluation.{ifPresent, valueTerm, valueOf, present-yes, present-no}
 use Rattle.code.specs.Bridge.{toF-power, toF-xorSum, px, py}
 
 -- Horner's rule on four terms, in any field
@@ -51,18 +50,10 @@ spreadAt s p = getD s (xOf p) 0
 unfoldable pub timesPlus : List ℕ → List ℕ → List ℕ → ℕ → ℕ
 timesPlus ys v m p = bitXor (times (getD v p 0) (getD ys p 0)) (getD m p 0)
 
-pub record OnlyPresent (f : List ℕ) : Type 0 where
-  pub missing : (o : ℕ) → ¬ Present 4 o → getD f o 0 ≡ 0
-
-pub function-present : (m : List ℕ) → OnlyPresent (functionOf m)
-unfolding functionOf
-function-present m =
-    record { missing = λ o h. listed-at 64 o (coefficientOf m) 0 (omega arith) ∙ coefficient-missing m o h }
-
 -- ---- what multiplies each power of y, and the value from it
-module _ (f : List ℕ) (present : OnlyPresent f) (x : ℕ) where
+module _ (f : List ℕ) (x : ℕ) where
   c : ℕ → GF
-  c o = toF (getD f o 0)
+  c o = toF (ifPresent (isPresent 4 o) (getD f o 0))
 
   xs : ℕ → GF
   xs n = pow K16 (toF x) n
@@ -81,13 +72,17 @@ module _ (f : List ℕ) (present : OnlyPresent f) (x : ℕ) where
       j≤16 = omega arith
 
       none : (q : ℕ) → q < j → c (q * 4 + j) ⊗ xs (q - j) ≡ 𝟘
-      none q l = ap (λ n. toF n ⊗ xs (q - j)) (present .missing (q * 4 + j) (λ p. omega arith)) ∙ ap (λ z. z ⊗ xs (q - j)) toF-zero ∙ zero-mul K16 _
+      none q l = ap (λ n. toF n ⊗ xs (q - j)) (present-no (q * 4 + j) _ (λ p. omega arith)) ∙ ap (λ z. z ⊗ xs (q - j)) toF-zero ∙ zero-mul K16 _
 
       some : (i : ℕ) → i < 16 - j → c ((j + i) * 4 + j) ⊗ xs (j + i - j) ≡ toF (times (getD f (4 * i + 5 * j) 0) (power x i))
       some i l =
           let o : (j + i) * 4 + j ≡ 4 * i + 5 * j = omega arith in
           let n : j + i - j ≡ i = omega arith in
-          ap₂ (λ a b. c a ⊗ xs b) o n ∙ sym (toF-times _ _ ∙ ap (λ z. c (4 * i + 5 * j) ⊗ z) (toF-power x i))
+          let y : (4 * i + 5 * j) % 4 ≡ j = omega arith in
+          let u : (4 * i + 5 * j) / 4 ≡ i + j = omega arith in
+          ap₂ (λ a b. c a ⊗ xs b) o n
+          ∙ ap (λ a. toF a ⊗ xs i) (present-yes (4 * i + 5 * j) _ (omega arith))
+          ∙ sym (toF-times _ _ ∙ ap (λ z. toF (getD f (4 * i + 5 * j) 0) ⊗ z) (toF-power x i))
 
 -- a step of the rule
 step : ℕ → ℕ → ℕ → ℕ
@@ -113,9 +108,18 @@ inX-lt f j x = xorSum-below 4 (16 - j) _ (λ i l. times-lt _ _)
 
 valueOf-lt : (f : List ℕ) (p : ℕ) → valueOf f p < 16
 unfolding valueOf valueTerm
-valueOf-lt f p = xorSum-below 4 64 _ (λ o l. times-lt _ _)
+valueOf-lt f p = xorSum-below 4 64 _ (λ o l. below (isPresent 4 o) _ (times-lt _ _))
+  where
+    below : (b : Bool) (a : ℕ) → a < 16 → ifPresent b a < 16
+    below true a h = h
+    below false a h = omega arith
 
-module _ (f : List ℕ) (present : OnlyPresent f) (p : ℕ) where
+-- a term of a missing order is the term of coefficient 0
+present-times : (b : Bool) (a x : ℕ) → ifPresent b (times a x) ≡ times (ifPresent b a) x
+present-times true a x = refl
+present-times false a x = sym (times-comm 0 x ∙ times-zero x)
+
+module _ (f : List ℕ) (p : ℕ) where
   toF-valueOf : toF (valueOf f p) ≡ sum K16 4 (λ j. toF (inX f j (xOf p)) ⊗ pow K16 (py p) j)
   unfolding valueOf valueTerm monomial c xs
   toF-valueOf =
@@ -123,16 +127,16 @@ module _ (f : List ℕ) (present : OnlyPresent f) (p : ℕ) where
       ∙ sum-blocks K16 16 4 _
       ∙ sum-ext K16 16 _ _ (λ q l. sum-ext K16 4 _ _ (λ j h. split q j h))
       ∙ sum-swap K16 16 4 _
-      ∙ sum-ext K16 4 _ _ (λ j h. sum-scale-right K16 16 (pow K16 (py p) j) _ ∙ ap (λ z. z ⊗ pow K16 (py p) j) (column f present (xOf p) j h))
+      ∙ sum-ext K16 4 _ _ (λ j h. sum-scale-right K16 16 (pow K16 (py p) j) _ ∙ ap (λ z. z ⊗ pow K16 (py p) j) (column f (xOf p) j h))
     where
       split : (q j : ℕ) → j < 4
-          → toF (times (getD f (q * 4 + j) 0) (times (power (xOf p) ((q * 4 + j) / 4 - (q * 4 + j) % 4)) (power (yOf p) ((q * 4 + j) % 4))))
-          ≡ (toF (getD f (q * 4 + j) 0) ⊗ pow K16 (px p) (q - j)) ⊗ pow K16 (py p) j
+          → toF (valueTerm f p (q * 4 + j)) ≡ (c f (xOf p) (q * 4 + j) ⊗ pow K16 (px p) (q - j)) ⊗ pow K16 (py p) j
       split q j h =
           let i : (q * 4 + j) / 4 - (q * 4 + j) % 4 ≡ q - j = omega arith in
           let r : (q * 4 + j) % 4 ≡ j = omega arith in
-          toF-times _ _
-          ∙ ap (λ z. toF (getD f (q * 4 + j) 0) ⊗ z)
+          ap toF (present-times (isPresent 4 (q * 4 + j)) _ _)
+          ∙ toF-times _ _
+          ∙ ap (λ z. c f (xOf p) (q * 4 + j) ⊗ z)
           (ap₂ (λ a b. toF (times (power (xOf p) a) (power (yOf p) b))) i r
           ∙ toF-times _ _ ∙ ap₂ (λ a b. a ⊗ b) (toF-power (xOf p) (q - j)) (toF-power (yOf p) j))
           ∙ sym (mul-assoc K16 _ _ _)

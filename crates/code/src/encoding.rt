@@ -1,13 +1,12 @@
 // A message as a function, symbol t at the t-th present order, and its values at all places.
 ghost use mathlib.Core.Path.{_≡_};
-ghost use Prim.Native.Nat.{_≤_};
-ghost use lib.ListN.{length};
 ghost use Rattle.lists.specs.Words.{allBelow};
 ghost use Rattle.hermitian.specs.Present.{Present};
 ghost use Rattle.hermitian.specs.Orders.{rank};
 ghost use Rattle.code.specs.Encoding.{encodeOf, knownRate};
 ghost use Rattle.code.specs.Evaluation.{coefficientOf, functionOf};
 ghost use Rattle.code.specs.Calls.{outcome, encodeCall};
+use lists::copy;
 use refusals::ACCEPTED;
 use refusals::NO_SYMBOL;
 use refusals::UNKNOWN_RATE;
@@ -56,18 +55,11 @@ fn function_of(message: &[u8]) -> [u8; 64]
     out
 }
 
-// The codeword of a message into a part of 64 bytes.
-pub fn write_codeword(message: &[u8], part: &mut [u8])
-    requires { ⌜ (length (now message) ≤ 58) × (length (now part) ≡ 64) ⌝ }
-    ensures { λ _. ⌜ now (part .exit) ≡ encodeOf (length (now (message .entry))) (now (message .entry)) ⌝ }
+// The codeword of a message; symbols after the 58th are not read.
+pub fn codeword_of(message: &[u8]) -> [u8; 64]
+    ensures { λ r. ⌜ r ≡ encodeOf 58 (now (message .entry)) ⌝ }
 {
-    let values = crate::evaluation::codeword(function_of(message));
-    let mut place = 0;
-    while place < 64 {
-        let symbol = values[place];
-        part[place] = symbol;
-        place += 1;
-    }
+    crate::evaluation::codeword(function_of(message))
 }
 
 pub fn known_rate(rate: usize) -> bool
@@ -112,7 +104,8 @@ pub fn encode(rate: usize, message: &[u8], frame: &mut [u8], start: usize) -> u8
     if !symbols_only(message) {
         return NO_SYMBOL;
     }
+    let word = codeword_of(message);
     let end = start + 64;
-    write_codeword(message, &mut frame[start..end]);
+    copy(&word, &mut frame[start..end]);
     ACCEPTED
 }

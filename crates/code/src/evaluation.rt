@@ -4,7 +4,7 @@ ghost use mathlib.Core.Path.{_≡_};
 ghost use Prim.Native.Nat.{_<_, _≤_};
 ghost use Rattle.lists.specs.Listed.{listed};
 ghost use Rattle.code.specs.Evaluation.{monomialAt, nextOf, valueOf};
-ghost use Rattle.code.specs.Horner.{nextSum, inX, spreadAt, timesPlus, OnlyPresent};
+ghost use Rattle.code.specs.Horner.{nextSum, inX, spreadAt, timesPlus};
 use galois::product;
 
 // The monomial of this order, from the one four orders below.
@@ -104,9 +104,8 @@ fn times_plus(ys: [u8; 64], values: [u8; 64], more: [u8; 64]) -> [u8; 64]
     out
 }
 
-// The value of a function at each place.
+// The value of a function at each place; what stands at a missing order is not read.
 pub fn codeword(function: [u8; 64]) -> [u8; 64]
-    requires { ⌜ OnlyPresent function ⌝ }
     ensures { λ r. ⌜ r ≡ listed 64 (valueOf function) ⌝ }
 {
     let ys = crate::points::ys();

@@ -10,6 +10,7 @@ ghost use Rattle.code.specs.Curve.{power};
 ghost use Rattle.code.specs.Extraction.{addedAt, atZero, extractOf, fibreSum, momentRow, momentsOf, symbolIn};
 ghost use Rattle.code.specs.Calls.{outcome, readBackCall};
 use galois::product;
+use lists::copy;
 use refusals::ACCEPTED;
 use refusals::NO_CODEWORD;
 use refusals::NO_SYMBOL;
@@ -165,17 +166,6 @@ fn same(a: &[u8], b: &[u8]) -> bool
     true
 }
 
-fn copy(from: &[u8], into: &mut [u8])
-    requires { ⌜ length (now from) ≡ length (now into) ⌝ }
-    ensures { λ _. ⌜ now (into .exit) ≡ now (from .entry) ⌝ }
-{
-    let mut i = 0;
-    while i < from.len() {
-        into[i] = from[i];
-        i += 1;
-    }
-}
-
 // Read back: the message of a codeword into the caller's buffer.
 pub fn read_back(rate: usize, word: &[u8], message: &mut [u8]) -> u8
     ensures { λ r. ⌜ outcome r (now (message .exit)) ≡ readBackCall rate (now (word .entry)) (now (message .entry)) ⌝ }
@@ -193,8 +183,7 @@ pub fn read_back(rate: usize, word: &[u8], message: &mut [u8]) -> u8
         return NO_SYMBOL;
     }
     let found = extracted(word);
-    let mut again = [0u8; 64];
-    crate::encoding::write_codeword(&found[..rate], &mut again);
+    let again = crate::encoding::codeword_of(&found[..rate]);
     if !same(&again, word) {
         return NO_CODEWORD;
     }

@@ -1,13 +1,13 @@
 // Interpolant reading of a session: the least Q through its settled places, into the caller's 82 bytes.
 // It keeps nothing between calls and writes nothing but the buffer; how Q is found is `interpolation`'s.
 ghost use mathlib.Core.Path.{_≡_};
-ghost use lib.ListN.{length};
 ghost use Rattle.lists.specs.Listed.{listed};
 ghost use Rattle.book.specs.Book.{places};
 ghost use Rattle.session.specs.Answering.{Reading};
 ghost use Rattle.reading.specs.Flags.{flagOf};
 use interpolation::PLACES;
 use interpolation::READING;
+use lists::copy;
 use refusals::ACCEPTED;
 use refusals::PLACE_TAKEN;
 use refusals::UNKNOWN_RATE;
@@ -44,17 +44,6 @@ fn flags(arrived: &[u8], doubtful: &[u8]) -> [u8; PLACES]
     out
 }
 
-fn put(bytes: [u8; READING], out: &mut [u8])
-    requires { ⌜ length (now out) ≡ 82 ⌝ }
-    ensures { λ _. ⌜ now (out .exit) ≡ bytes ⌝ }
-{
-    let mut i = 0;
-    while i < READING {
-        out[i] = bytes[i];
-        i += 1;
-    }
-}
-
 // Only a session record that was built by hand meets a refusal after the first.
 pub fn read_interpolant(session: Session, out: &mut [u8]) -> u8
     ensures { λ r. ⌜ Reading session (now (out .entry)) r (now (out .exit)) ⌝ }
@@ -80,6 +69,6 @@ pub fn read_interpolant(session: Session, out: &mut [u8]) -> u8
     let word = soft::doubt::best_word(&costs);
     let settled = flags(&arrival[..taken], &doubtful[..doubt]);
     let bytes = interpolation::reading::reading(word, settled, rate + M_ABOVE_RATE);
-    put(bytes, out);
+    copy(&bytes, out);
     ACCEPTED
 }

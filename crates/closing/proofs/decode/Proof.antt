@@ -1,8 +1,8 @@
 -- `decode` meets its contract: what the search found is the answer, and the report is that of its codeword.
-use mathlib.Core.Path.{_≡_, ap}
+use mathlib.Core.Path.{_≡_}
 use native.Mathlib.Omega.{arith}
 use lib.ListN.{length}
-use Rattle.closing.proofs.Asked.{rate-small, take-short, list-few}
+use Rattle.closing.proofs.Asked.{rate-small, list-few}
 use Rattle.closing.proofs.Answered.{tests-few, answered-none, decoded-near}
 use borrow.Author.Needs.{needs}
 use Rattle.closing.proofs.decode.Statement.{statement}
@@ -25,15 +25,14 @@ returns : tie.Need-returns
 returns c =
     answered-none _ _ _ _ (c .before .before .nearest .ensures (c .before .before .before .before .before .before .pre .asked)) _ _ (c .enum-told .given .1)
 
-copy-message-requires : tie.Need-copy-message-requires
-copy-message-requires c κs = omega (arith, c .before .before .before .before .before .before .before .before .before .pre .message-long, rate-small _ (c .before .before .before .before .before .before .before .before .before .pre .asked .known))
+slice-aggregate-copy : tie.Need-slice-aggregate-copy
+slice-aggregate-copy c = search needs
 
-slice-aggregate-write-codeword : tie.Need-slice-aggregate-write-codeword
-slice-aggregate-write-codeword c = search needs
+copy-requires : tie.Need-copy-requires
+copy-requires c κs = search needs
 
-write-codeword-requires : tie.Need-write-codeword-requires
-write-codeword-requires c κs =
-    (omega (arith, c .before .before .before .before .before .before .before .before .before .before .before .before .before .before .pre .message-long, rate-small _ (c .before .before .before .before .before .before .before .before .before .before .before .before .before .before .pre .asked .known), ap length (c .before .before .before .before .copy-message .ensures), take-short (length (c .before .before .before .before .before .before .before .before .before .before .before .before .before .before .args .message .now)) (c .before .before .before .before .before .before .before .before .before .before .nearest .result .message)), search needs)
+codeword-of-requires : tie.Need-codeword-of-requires
+codeword-of-requires c κs = search needs
 
 slice-aggregate-pinned : tie.Need-slice-aggregate-pinned
 slice-aggregate-pinned c = search needs
@@ -49,7 +48,8 @@ changed-requires c κs = search needs
 
 cast-report : tie.Need-cast-report
 cast-report c =
-    omega (arith, tests-few _ _ _ _ (c .before .before .before .before .before .before .before .before .before .before .before .before .before .before .before .before .before .before .nearest .ensures (c .before .before .before .before .before .before .before .before .before .before .before .before .before .before .before .before .before .before .before .before .before .before .pre .asked)) (list-few (c .before .before .before .before .before .before .before .before .before .before .before .before .before .before .before .before .before .before .before .before .before .before .pre .asked)))
+    let asked = c .before .before .before .before .before .before .before .before .before .before .before .before .before .before .before .before .before .before .before .before .before .pre .asked in
+    omega (arith, tests-few _ _ _ _ (c .before .before .before .before .before .before .before .before .before .before .before .before .before .before .before .before .before .nearest .ensures asked) (list-few asked))
 
 report-requires : tie.Need-report-requires
 report-requires c κs = search needs
@@ -62,8 +62,9 @@ same-length-2 c = search needs
 
 returns-2 : tie.Need-returns-2
 returns-2 c =
-    decoded-near _ _ _ _ (c .before .before .before .before .before .before .before .before .before .before .before .before .before .before .before .before .before .before .before .before .before .nearest .ensures (c .before .before .before .before .before .before .before .before .before .before .before .before .before .before .before .before .before .before .before .before .before .before .before .before .before .pre .asked)) _ _ (c .before .before .before .before .before .before .before .before .before .before .before .before .before .before .before .before .before .before .before .answer .given .1) (c .before .before .before .before .before .before .before .before .before .before .before .before .before .before .before .before .before .before .before .before .before .before .before .before .before .pre .message-long) (found-room (c .before .before .before .before .before .before .before .before .before .before .before .before .before .before .before .before .before .before .before .before .before))
-    (rate-small _ (c .before .before .before .before .before .before .before .before .before .before .before .before .before .before .before .before .before .before .before .before .before .before .before .before .before .pre .asked .known)) (c .before .before .before .before .before .before .before .before .before .before .before .before .before .before .before .copy-message .ensures) (c .before .before .before .before .before .before .before .before .before .before .write-codeword .ensures)
+    let asked = c .before .before .before .before .before .before .before .before .before .before .before .before .before .before .before .before .before .before .before .before .before .before .before .before .pre .asked in
+    decoded-near _ _ _ _ (c .before .before .before .before .before .before .before .before .before .before .before .before .before .before .before .before .before .before .before .before .nearest .ensures asked) _ _ (c .before .before .before .before .before .before .before .before .before .before .before .before .before .before .before .before .before .before .answer .given .1) (c .before .before .before .before .before .before .before .before .before .before .before .before .before .before .before .before .before .before .before .before .before .before .before .before .pre .message-long) (found-room (c .before .before .before .before .before .before .before .before .before .before .before .before .before .before .before .before .before .before .before .before))
+    (rate-small _ (asked .known)) (c .before .before .before .before .before .before .before .before .before .before .before .before .before .copy .ensures) (c .before .before .before .before .before .before .before .before .before .codeword-of .ensures)
     (c .before .before .before .before .before .before .before .pinned .ensures) (c .before .before .before .before .before .changed .ensures) (c .before .before .report .ensures)
 
 pub decode-spec : {M : Type 1} → statement M
@@ -74,9 +75,9 @@ decode-spec =
     enum-known-answer
     enum-told
     returns
-    copy-message-requires
-    slice-aggregate-write-codeword
-    write-codeword-requires
+    slice-aggregate-copy
+    copy-requires
+    codeword-of-requires
     slice-aggregate-pinned
     pinned-requires
     slice-aggregate-changed

@@ -7,6 +7,7 @@ use lib.ListN.{length}
 use lib.Seq.{length-take-le}
 use borrow.Author.Needs.{needs}
 use borrow.Author.Tests.{not-true, not-false}
+use Rattle.lists.specs.Over.{over-same}
 use Rattle.interpolant.specs.Reading.{reading-size}
 use Rattle.code.specs.Encoding.{knownRate}
 use Rattle.code.specs.Rates.{known-bounds}
@@ -75,18 +76,23 @@ add-reading c = search needs
 reading-requires : tie.Need-reading-requires
 reading-requires c κs = omega (arith, known-bounds _ (known (c .before .before .before .before .before .before .before .before .before .before)))
 
-put-requires : tie.Need-put-requires
-put-requires c κs = search needs
+slice-aggregate-copy : tie.Need-slice-aggregate-copy
+slice-aggregate-copy c = search needs
+
+copy-requires : tie.Need-copy-requires
+copy-requires c κs = search needs
 
 same-length : tie.Need-same-length
 same-length c = search needs
 
 returns-5 : tie.Need-returns-5
 returns-5 c =
-    let s : Session = c .before .before .before .before .before .before .before .before .before .before .before .before .before .before .before .before .before .before .before .before .args .session in
-    let read = c .before .before .put .ensures ∙ c .before .before .before .before .reading .ensures in
-    reading-read s _ _ (c .before .before .before .before .before .before .before .before .before .before .before .before .before .before .before .before .before .before .if1 .left) (ap length read ∙ reading-size _ _)
-    (λ good. read ∙ session-reading s good _ _ (c .before .before .before .before .before .before .before .before .best-word .ensures) (c .before .before .before .before .before .flags .ensures))
+    let s : Session = c .before .before .before .before .before .before .before .before .before .before .before .before .before .before .before .before .before .before .before .before .before .args .session in
+    let sized = c .before .before .before .before .before .before .before .before .before .before .before .before .before .before .before .before .before .before .before .if1 .left in
+    let size = ap length (c .before .before .before .before .before .reading .ensures) ∙ reading-size _ _ in
+    let read = c .before .before .copy .ensures ∙ over-same _ _ (sized ∙ sym size) ∙ c .before .before .before .before .before .reading .ensures in
+    reading-read s _ _ sized (ap length read ∙ reading-size _ _)
+    (λ good. read ∙ session-reading s good _ _ (c .before .before .before .before .before .before .before .before .before .best-word .ensures) (c .before .before .before .before .before .before .flags .ensures))
 
 pub read-interpolant-spec : {M : Type 1} → statement M
 read-interpolant-spec =
@@ -107,6 +113,7 @@ read-interpolant-spec =
     flags-requires
     add-reading
     reading-requires
-    put-requires
+    slice-aggregate-copy
+    copy-requires
     same-length
     returns-5)

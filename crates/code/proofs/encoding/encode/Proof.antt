@@ -5,6 +5,7 @@ use mathlib.Core.Path.{_≡_, refl, sym, _∙_}
 use native.Mathlib.Omega.{arith}
 use lib.ListN.{length-take, length-drop}
 use borrow.Author.Tests.{not-true, not-false}
+use Rattle.code.proofs.Codeword.{codeword-copied}
 use Rattle.code.proofs.Answers.{known-small, encode-rate, encode-message, encode-frame, encode-symbol, encode-done}
 use borrow.Author.Needs.{needs}
 use Rattle.code.proofs.encoding.encode.Statement.{statement}
@@ -40,30 +41,36 @@ returns-5 c =
     encode-symbol _ _ _ _ (known (c .before .before .before .before .before)) (c .before .before .before .before .if2 .left) (omega arith)
     (sym (c .before .symbols-only .ensures) ∙ not-true _ (c .if5 .taken))
 
+codeword-of-requires : tie.Need-codeword-of-requires
+codeword-of-requires c κs = search needs
+
 add-end : tie.Need-add-end
 add-end c = search needs
 
-sub-write-codeword : tie.Need-sub-write-codeword
-sub-write-codeword c = search needs
+slice-aggregate-copy : tie.Need-slice-aggregate-copy
+slice-aggregate-copy c = search needs
 
-part-write-codeword-start : tie.Need-part-write-codeword-start
-part-write-codeword-start c = search needs
+sub-copy : tie.Need-sub-copy
+sub-copy c = search needs
 
-part-write-codeword-end : tie.Need-part-write-codeword-end
-part-write-codeword-end c = search needs
+part-copy-start : tie.Need-part-copy-start
+part-copy-start c = search needs
 
-write-codeword-requires : tie.Need-write-codeword-requires
-write-codeword-requires c κs =
-    let k = known-small _ (known (c .before .before .before .before .before .before)) in
-    (omega (arith, c .before .before .before .before .before .if2 .left), simp (length-take, length-drop) (omega arith))
+part-copy-end : tie.Need-part-copy-end
+part-copy-end c = search needs
+
+copy-requires : tie.Need-copy-requires
+copy-requires c κs = search needs
 
 same-length : tie.Need-same-length
 same-length c = search needs
 
 returns-6 : tie.Need-returns-6
 returns-6 c =
-    encode-done _ _ _ _ (known (c .before .before .before .before .before .before .before .before .before)) (c .before .before .before .before .before .before .before .before .if2 .left) (omega arith) _ _
-    (sym (c .before .before .before .before .before .symbols-only .ensures) ∙ not-false _ (c .before .before .before .before .if5 .left)) refl (c .before .before .write-codeword .ensures)
+    let k = known-small _ (known (c .before .before .before .before .before .before .before .before .before .before .before)) in
+    encode-done _ _ _ _ (known (c .before .before .before .before .before .before .before .before .before .before .before)) (c .before .before .before .before .before .before .before .before .before .before .if2 .left) (omega arith) _ _
+    (sym (c .before .before .before .before .before .before .before .symbols-only .ensures) ∙ not-false _ (c .before .before .before .before .before .before .if5 .left)) refl
+    (codeword-copied _ _ (omega (arith, c .before .before .before .before .before .before .before .before .before .before .if2 .left)) (simp (length-take, length-drop) (omega arith)) (c .before .before .before .before .before .codeword-of .ensures) (c .before .before .copy .ensures))
 
 pub encode-spec : {M : Type 1} → statement M
 encode-spec =
@@ -77,10 +84,12 @@ encode-spec =
     returns-4
     symbols-only-requires
     returns-5
+    codeword-of-requires
     add-end
-    sub-write-codeword
-    part-write-codeword-start
-    part-write-codeword-end
-    write-codeword-requires
+    slice-aggregate-copy
+    sub-copy
+    part-copy-start
+    part-copy-end
+    copy-requires
     same-length
     returns-6)

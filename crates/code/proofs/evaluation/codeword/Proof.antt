@@ -42,7 +42,7 @@ times-plus-requires-3 c κs = search needs
 
 returns : tie.Need-returns
 returns c =
-    codeword-is _ (c .before .before .before .before .before .before .before .before .before .before .before .before .pre) (c .before .before .before .before .before .before .before .before .before .before .before .ys .ensures) (c .before .before .before .before .before .before .before .before .before .before .in-x .ensures) (c .before .before .before .before .before .before .before .before .before .spread .ensures)
+    codeword-is _ (c .before .before .before .before .before .before .before .before .before .before .before .ys .ensures) (c .before .before .before .before .before .before .before .before .before .before .in-x .ensures) (c .before .before .before .before .before .before .before .before .before .spread .ensures)
     (c .before .before .before .before .before .before .before .before .in-x2 .ensures) (c .before .before .before .before .before .before .before .spread2 .ensures) (c .before .before .before .before .before .before .times-plus .ensures)
     (c .before .before .before .before .before .in-x3 .ensures) (c .before .before .before .before .spread3 .ensures) (c .before .before .before .times-plus2 .ensures)
     (c .before .before .in-x4 .ensures) (c .before .spread4 .ensures) (c .times-plus3 .ensures)

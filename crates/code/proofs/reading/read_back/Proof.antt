@@ -1,11 +1,12 @@
 -- `read_back` meets its contract: the message extracted is the only one that can encode to the word, so one comparison decides.
 use mathlib.Core.Bool.{true, false≢true}
-use mathlib.Core.Path.{_≡_, refl, sym, ap, ap₂, _∙_}
+use mathlib.Core.Path.{_≡_, refl, sym, ap, _∙_}
 use Prim.Native.Nat.{_≤_}
 use native.Mathlib.Omega.{arith}
 use lib.ListN.{length, take}
 use borrow.Author.Tests.{not-true, not-false}
-use Rattle.code.specs.Encoding.{knownRate, encodeOf}
+use Rattle.lists.specs.Over.{over-same}
+use Rattle.code.specs.Encoding.{knownRate, encodeOf, encode-beyond}
 use Rattle.code.specs.Extraction.{extractOf}
 use Rattle.code.specs.Calls.{outcome}
 use denote.Ref.{now}
@@ -35,9 +36,11 @@ prefix c = ap (take (c .before .before .before .before .before .before .before .
 prefix-length : (c : tie.After-extracted) → length (take (c .before .before .before .before .before .before .before .before .before .args .rate) (c .extracted .result)) ≡ c .before .before .before .before .before .before .before .before .before .args .rate
 prefix-length c = ap length (prefix c) ∙ extract-length _ _
 
-again : (c : tie.After-write-codeword)
-    → c .write-codeword .last .1 .0 ≡ encodeOf (c .before .before .before .before .before .before .before .before .before .before .before .before .args .rate) (extractOf (c .before .before .before .before .before .before .before .before .before .before .before .before .args .rate) (now (c .before .before .before .before .before .before .before .before .before .before .before .before .args .word)))
-again c = c .write-codeword .ensures ∙ ap₂ encodeOf (prefix-length (c .before .before .before)) (prefix (c .before .before .before))
+again : (c : tie.After-codeword-of)
+    → c .codeword-of .result ≡ encodeOf (c .before .before .before .before .before .before .before .before .before .before .before .args .rate) (extractOf (c .before .before .before .before .before .before .before .before .before .before .before .args .rate) (now (c .before .before .before .before .before .before .before .before .before .before .before .args .word)))
+again c =
+    let l = prefix-length (c .before .before) in
+    c .codeword-of .ensures ∙ encode-beyond 58 _ _ (omega (arith, few (c .before .before .before))) (omega arith) ∙ ap (encodeOf _) (prefix (c .before .before))
 
 returns : tie.Need-returns
 returns c = read-rate _ _ _ (sym (c .before .known-rate .ensures) ∙ not-true _ (c .if1 .taken))
@@ -60,43 +63,41 @@ extracted-requires c κs = search needs
 array-share-prefix-found : tie.Need-array-share-prefix-found
 array-share-prefix-found c = omega (arith, found-length c, few (c .before))
 
-slice-aggregate-write-codeword : tie.Need-slice-aggregate-write-codeword
-slice-aggregate-write-codeword c = sym (prefix-length (c .before))
+slice-aggregate-codeword-of : tie.Need-slice-aggregate-codeword-of
+slice-aggregate-codeword-of c = sym (prefix-length (c .before))
 
-slice-aggregate-write-codeword-2 : tie.Need-slice-aggregate-write-codeword-2
-slice-aggregate-write-codeword-2 c = refl
-
-write-codeword-requires : tie.Need-write-codeword-requires
-write-codeword-requires c κs = (omega (arith, prefix-length (c .before .before), few (c .before .before .before)), refl)
+codeword-of-requires : tie.Need-codeword-of-requires
+codeword-of-requires c κs = search needs
 
 slice-aggregate-same : tie.Need-slice-aggregate-same
-slice-aggregate-same c = sym (ap length (again (c .before .before)) ∙ encode-length _ _)
+slice-aggregate-same c = sym (ap length (again (c .before)) ∙ encode-length _ _)
 
 same-requires : tie.Need-same-requires
-same-requires c κs = ap length (again (c .before .before)) ∙ encode-length _ _ ∙ sym (c .before .before .before .before .before .before .before .before .before .if2 .left)
+same-requires c κs = ap length (again (c .before)) ∙ encode-length _ _ ∙ sym (c .before .before .before .before .before .before .before .if2 .left)
 
 returns-5 : tie.Need-returns-5
 returns-5 c =
-    read-refused _ _ _ (known (c .before .before .before .before .before .before .before .before .before .before .before .before)) (c .before .before .before .before .before .before .before .before .before .before .before .if2 .left) (c .before .before .before .before .before .before .before .before .before .before .if3 .left) (sym (c .before .before .before .before .before .before .before .before .before .symbols-only .ensures) ∙ not-false _ (c .before .before .before .before .before .before .before .before .if4 .left))
-    (λ e. absurd (false≢true (sym (not-true _ (c .if5 .taken)) ∙ c .before .same .ensures .1 (again (c .before .before .before .before) ∙ e))))
+    read-refused _ _ _ (known (c .before .before .before .before .before .before .before .before .before .before)) (c .before .before .before .before .before .before .before .before .before .if2 .left) (c .before .before .before .before .before .before .before .before .if3 .left) (sym (c .before .before .before .before .before .before .before .symbols-only .ensures) ∙ not-false _ (c .before .before .before .before .before .before .if4 .left))
+    (λ e. absurd (false≢true (sym (not-true _ (c .if5 .taken)) ∙ c .before .same .ensures .1 (again (c .before .before .before) ∙ e))))
 
 array-share-prefix-found-2 : tie.Need-array-share-prefix-found-2
-array-share-prefix-found-2 c = omega (arith, found-length (c .before .before .before .before .before .before .before), few (c .before .before .before .before .before .before .before .before))
+array-share-prefix-found-2 c = omega (arith, found-length (c .before .before .before .before .before), few (c .before .before .before .before .before .before))
 
 slice-aggregate-copy : tie.Need-slice-aggregate-copy
-slice-aggregate-copy c = sym (prefix-length (c .before .before .before .before .before .before .before .before))
+slice-aggregate-copy c = sym (prefix-length (c .before .before .before .before .before .before))
 
 copy-requires : tie.Need-copy-requires
-copy-requires c κs = prefix-length (c .before .before .before .before .before .before .before .before .before) ∙ sym (c .before .before .before .before .before .before .before .before .before .before .before .before .if3 .left)
+copy-requires c κs = search needs
 
 same-length : tie.Need-same-length
 same-length c = c .before .before .copy .kept .1 .0
 
 returns-6 : tie.Need-returns-6
 returns-6 c =
-    ap (outcome 0) (c .before .before .copy .ensures ∙ prefix (c .before .before .before .before .before .before .before .before .before .before .before .before))
-    ∙ read-done _ _ _ (known (c .before .before .before .before .before .before .before .before .before .before .before .before .before .before .before .before .before)) (c .before .before .before .before .before .before .before .before .before .before .before .before .before .before .before .before .if2 .left) (c .before .before .before .before .before .before .before .before .before .before .before .before .before .before .before .if3 .left) (sym (c .before .before .before .before .before .before .before .before .before .before .before .before .before .before .symbols-only .ensures) ∙ not-false _ (c .before .before .before .before .before .before .before .before .before .before .before .before .before .if4 .left))
-    (sym (again (c .before .before .before .before .before .before .before .before .before)) ∙ c .before .before .before .before .before .before .same .ensures .0 (not-false _ (c .before .before .before .before .before .if5 .left)))
+    ap (outcome 0)
+    (c .before .before .copy .ensures ∙ over-same _ _ (c .before .before .before .before .before .before .before .before .before .before .before .before .before .if3 .left ∙ sym (prefix-length (c .before .before .before .before .before .before .before .before .before .before))) ∙ prefix (c .before .before .before .before .before .before .before .before .before .before))
+    ∙ read-done _ _ _ (known (c .before .before .before .before .before .before .before .before .before .before .before .before .before .before .before)) (c .before .before .before .before .before .before .before .before .before .before .before .before .before .before .if2 .left) (c .before .before .before .before .before .before .before .before .before .before .before .before .before .if3 .left) (sym (c .before .before .before .before .before .before .before .before .before .before .before .before .symbols-only .ensures) ∙ not-false _ (c .before .before .before .before .before .before .before .before .before .before .before .if4 .left))
+    (sym (again (c .before .before .before .before .before .before .before .before)) ∙ c .before .before .before .before .before .before .same .ensures .0 (not-false _ (c .before .before .before .before .before .if5 .left)))
 
 pub read-back-spec : {M : Type 1} → statement M
 read-back-spec =
@@ -110,9 +111,8 @@ read-back-spec =
     returns-4
     extracted-requires
     array-share-prefix-found
-    slice-aggregate-write-codeword
-    slice-aggregate-write-codeword-2
-    write-codeword-requires
+    slice-aggregate-codeword-of
+    codeword-of-requires
     slice-aggregate-same
     same-requires
     returns-5

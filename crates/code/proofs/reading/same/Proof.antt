@@ -1,7 +1,7 @@
 -- `same` meets its contract: the bytes passed are equal.
-use Rattle.code.proofs.Copied.{differ-at}
-use mathlib.Core.Path.{_≡_, refl}
+use mathlib.Core.Path.{_≡_, refl, ap}
 use mathlib.Core.Bool.{false≢true}
+use mathlib.Core.List.{List}
 use Prim.Native.Nat.{ℕ, _≤_, _<_, _-_}
 use native.Mathlib.Omega.{arith}
 use borrow.Author.Count.{below-none, below-more}
@@ -10,6 +10,10 @@ use lib.Seq.{ext-getD}
 use borrow.Author.Needs.{needs}
 use Rattle.code.proofs.reading.same.Statement.{statement}
 use Rattle.code.proofs.reading.same.Tie as tie
+
+-- lists that differ at an entry are not equal
+differ-at : (a b : List ℕ) (i : ℕ) → (getD a i 0 ≡ getD b i 0 → ⊥) → a ≡ b → ⊥
+differ-at a b i n e = n (ap (λ l. getD l i 0) e)
 
 abbrev Inv-loop : tie.InvT-loop
 Inv-loop a b place₀ place = ((k : ℕ) → k < place → getD a k 0 ≡ getD b k 0) × (place ≤ length a) × (length a ≡ length b)
