@@ -22,7 +22,7 @@ use Rattle.lists.specs.XorSum.{xorSum, xorSum-nil, xorSum-suc, xorSum-ext}
 use Rattle.galois.specs.Gf16.{times}
 use Rattle.galois.specs.Field16.{times-comm, times-assoc, times-one}
 use Rattle.hermitian.specs.Present.{Present, decPresent, genus}
-use Rattle.hermitian.specs.Orders.{isPresent, rank, rank-nil, rank-yes, rank-no, rank-large, orderOf, orderOf-rank}
+use Rattle.hermitian.specs.Orders.{isPresent, rank, rank-nil, rank-yes, rank-no, rank-large, orderOf-rank}
 use Rattle.code.specs.Curve.{power, power-suc, xOf, yOf}
 use Rattle.code.specs.Encoding.{monomial, term, valueAt}
 

@@ -4,7 +4,7 @@
 --   over-same        two lists of one length: nothing of into is left
 --   over-short       into is not longer than from: from's first entries
 --   over-entries     the entries of from, one by one, as far as both lists go
-use mathlib.Core.Path.{_≡_, refl, sym, ap, ap₂, _∙_}
+use mathlib.Core.Path.{_≡_, sym, ap, ap₂, _∙_}
 use mathlib.Core.List.{List, _++_, append-nil}
 use Prim.Native.Nat.{ℕ, min, _≤_}
 use native.Mathlib.Decide.{decLe}
