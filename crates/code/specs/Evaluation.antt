@@ -7,7 +7,10 @@
 --   coefficientOf m o    the coefficient of order o in the function of message m: symbol t at the t-th present order
 --   functionOf m         all 64 of them
 --   function-value       its value is that of the message's first 58 symbols (document 01's sum over message symbols)
---   nextOf, monomial-start, monomial-y, monomial-next, monomial-x, monomial-x4   how each monomial comes from an earlier one
+--   nextOf, monomial-start, monomial-y, monomial-next, monomial-x4   how each monomial comes from an earlier one
+--   Held n p out         out has the monomials of place p of the orders below n, and zeros after them
+--   Starts n y out       so it is at every place with this y
+--   Continues m n x first out   so it is at every place with this x where it is so of first, of the orders below m
 use mathlib.Core.Bool.{Bool, true, false}
 use mathlib.Core.Path.{_≡_, refl, sym, ap, ap₂, _∙_}
 use mathlib.Core.List.{List}
@@ -15,9 +18,10 @@ use Prim.Native.Nat.{ℕ, zero, suc, _-_, _/_, _%_, _<_, _≤_}
 use native.Mathlib.Omega.{arith}
 use lib.Dec.{leb, lit<, lit≤}
 use lib.Bits.{bitXor, xor-zero-r}
-use lib.ListN.{getD}
+use lib.ListN.{getD, replicate}
 use borrow.Author.Tests.{le-leb, lt-leb, leb-true, leb-false}
 use Rattle.lists.specs.Listed.{listed, listed-at}
+use Rattle.lists.specs.Filled.{Filled}
 use Rattle.lists.specs.XorSum.{xorSum, xorSum-nil, xorSum-suc, xorSum-ext}
 use Rattle.galois.specs.Gf16.{times}
 use Rattle.galois.specs.Field16.{times-comm, times-assoc, times-one}
@@ -110,7 +114,7 @@ unfoldable pub nextOf : ℕ → ℕ → ℕ → ℕ
 nextOf o x below = either (leb (o / 4) (o % 4)) below (times x below)
 
 -- x times the monomial four orders below
-pub monomial-x : (p o : ℕ) → o % 4 < o / 4 → monomialAt p o ≡ times (xOf p) (monomialAt p (o - 4))
+monomial-x : (p o : ℕ) → o % 4 < o / 4 → monomialAt p o ≡ times (xOf p) (monomialAt p (o - 4))
 unfolding monomialAt monomial
 monomial-x p o h =
     let i : o / 4 - o % 4 ≡ suc ((o - 4) / 4 - (o - 4) % 4) = omega arith in
@@ -147,3 +151,13 @@ monomial-next p o h = go (leb (o / 4) (o % 4)) refl
     go : (b : Bool) → leb (o / 4) (o % 4) ≡ b → monomialAt p o ≡ either b (monomialAt p (o - 4)) (times (xOf p) (monomialAt p (o - 4)))
     go true e = monomial-same p o h (leb-true (o / 4) (o % 4) e)
     go false e = monomial-x p o (leb-false (o / 4) (o % 4) e)
+
+-- ---- the same in arrays: some orders after others
+abbrev pub Held : ℕ → ℕ → List ℕ → Type 0
+Held n p out = Filled (replicate 64 0) (monomialAt p) n out
+
+pub record Starts (n y : ℕ) (out : List ℕ) : Type 0 where
+  pub held : (p : ℕ) → y ≡ yOf p → Held n p out
+
+pub record Continues (m n x : ℕ) (first out : List ℕ) : Type 0 where
+  pub held : (p : ℕ) → x ≡ xOf p → Held m p first → Held n p out

@@ -1,9 +1,9 @@
 // Functions on the curve by order: the coefficient of order o at o, 64 of them. The monomials of one place, and a function's values
 // at all places.
 ghost use mathlib.Core.Path.{_≡_};
-ghost use Prim.Native.Nat.{_<_, _≤_};
+ghost use Prim.Native.Nat.{_%_, _<_, _≤_};
 ghost use Rattle.lists.specs.Listed.{listed};
-ghost use Rattle.code.specs.Evaluation.{monomialAt, nextOf, valueOf};
+ghost use Rattle.code.specs.Evaluation.{monomialAt, nextOf, valueOf, Starts, Continues};
 ghost use Rattle.code.specs.Horner.{nextSum, inX, spreadAt, timesPlus};
 use galois::product;
 
@@ -18,13 +18,10 @@ fn next(order: usize, x: u8, below: u8) -> u8
     product(below, x)
 }
 
-// The value of each monomial at a place, by order.
-pub fn monomials(place: usize) -> [u8; 64]
-    requires { ⌜ place < 64 ⌝ }
-    ensures { λ r. ⌜ r ≡ listed 64 (monomialAt place) ⌝ }
+// The monomials of the orders below 4, the powers of y; zeros after them.
+fn below_4(y: u8) -> [u8; 64]
+    ensures { λ r. ⌜ Starts 4 y r ⌝ }
 {
-    let x = crate::points::x_at(place);
-    let y = crate::points::y_at(place);
     let mut out = [0u8; 64];
     out[0] = 1;
     let mut o = 1;
@@ -32,21 +29,44 @@ pub fn monomials(place: usize) -> [u8; 64]
         out[o] = product(out[o - 1], y);
         o += 1;
     }
-    while o < 16 {
+    out
+}
+
+// From the orders below 4 to those below 32, each from four orders below.
+fn below_32(held: [u8; 64], x: u8) -> [u8; 64]
+    ensures { λ r. ⌜ Continues 4 32 x held r ⌝ }
+{
+    let mut out = held;
+    let mut o = 4;
+    while o < 32 {
         out[o] = next(o, x, out[o - 4]);
         o += 1;
     }
-    while o < 32 {
-        out[o] = product(out[o - 4], x);
-        o += 1;
-    }
+    out
+}
+
+// From the orders below 32 to all, by x^4 from sixteen orders below: sixteen do not wait for each other.
+fn below_64(held: [u8; 64], x: u8) -> [u8; 64]
+    ensures { λ r. ⌜ Continues 32 64 x held r ⌝ }
+{
     let x2 = product(x, x);
     let x4 = product(x2, x2);
+    let mut out = held;
+    let mut o = 32;
     while o < 64 {
         out[o] = product(out[o - 16], x4);
         o += 1;
     }
     out
+}
+
+// The value of each monomial at a place, by order. A place number counts modulo 64.
+pub fn monomials(place: usize) -> [u8; 64]
+    ensures { λ r. ⌜ r ≡ listed 64 (monomialAt (place % 64)) ⌝ }
+{
+    let x = crate::points::x_at(place);
+    let y = crate::points::y_at(place);
+    below_64(below_32(below_4(y), x), x)
 }
 
 // One step of Horner's rule in x, at all sixteen x: each lane is one x.

@@ -1,6 +1,6 @@
 // The constant points by place: place 4X + r has x = X and the r-th smallest y on the curve.
 ghost use mathlib.Core.Path.{_≡_};
-ghost use Prim.Native.Nat.{_<_};
+ghost use Prim.Native.Nat.{_%_};
 ghost use Rattle.lists.specs.Listed.{listed};
 ghost use Rattle.code.specs.Curve.{xOf, yOf};
 ghost use Rattle.code.specs.Points.{element};
@@ -92,11 +92,11 @@ const YS: [u8; 64] = [
     5, // place 63 is (15,5), bench sheet C4
 ];
 
+// A place number counts modulo 64.
 pub fn x_at(place: usize) -> u8
-    requires { ⌜ place < 64 ⌝ }
-    ensures { λ r. ⌜ r ≡ xOf place ⌝ }
+    ensures { λ r. ⌜ r ≡ xOf (place % 64) ⌝ }
 {
-    (place / 4) as u8
+    (place % 64 / 4) as u8
 }
 
 // All sixteen x.
@@ -113,10 +113,10 @@ pub fn ys() -> [u8; 64]
     YS
 }
 
+// A place number counts modulo 64.
 pub fn y_at(place: usize) -> u8
-    requires { ⌜ place < 64 ⌝ }
-    ensures { λ r. ⌜ r ≡ yOf place ⌝ }
+    ensures { λ r. ⌜ r ≡ yOf (place % 64) ⌝ }
 {
     let ys = ys();
-    ys[place]
+    ys[place % 64]
 }

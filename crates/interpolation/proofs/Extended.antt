@@ -1,7 +1,8 @@
 -- What `extend` returns, by the class chosen.
 use mathlib.Core.Path.{_≡_, refl, ap, _∙_, sym, subst}
 use mathlib.Core.List.{List, List·Memᴰ·head, List·Memᴰ·tail, List·Memᴰ·cases-cons}
-use Prim.Native.Nat.{ℕ, _≤_, _+_, _<_}
+use Prim.Native.Nat.{ℕ, _≤_, _+_, _%_, _<_}
+use native.Mathlib.Nat.{mod-eq-of-lt}
 use native.Mathlib.Omega.{arith}
 use lib.ListN.{length, getD, set, length-set}
 use Rattle.lists.specs.Listed.{listed}
@@ -44,23 +45,30 @@ module _ (L : ℕ) (rows : List (List ℕ)) (leads weights ds : List ℕ) (at : 
       go (none q z) = absurd (omega arith)
       go (one s f) = unspent L rows leads weights at h (λ q. s .passes .nonzero (ap (λ l. getD l at 0) e ∙ q))
 
-  module _ (p z : ℕ) (monomials : List ℕ) (small : L ≤ 127) (eight : length leads ≡ 8) (known : monomials ≡ listed 64 (monomialAt p))
-      (weighted : coef weights ≡ weighed (coef monomials) (toF z)) where
+  -- the place is one of the 64, so that counting modulo 64 leaves its number
+  module _ (p z : ℕ) (monomials : List ℕ) (small : L ≤ 127) (inside : p < 64) (eight : length leads ≡ 8)
+      (known : monomials ≡ listed 64 (monomialAt (p % 64))) (weighted : coef weights ≡ weighed (coef monomials) (toF z)) where
+    own : p % 64 ≡ p
+    own = mod-eq-of-lt inside
+
+    known-own : monomials ≡ listed 64 (monomialAt p)
+    known-own = known ∙ ap (λ k. listed 64 (monomialAt k)) own
+
     pub extends-same : 8 ≤ at → Extends L p z rows leads rows leads
-    extends-same h = steps-extend L p z rows leads rows leads monomials weights small eight known weighted refl (go chosen)
+    extends-same h = steps-extend L p z rows leads rows leads monomials weights small eight known-own weighted refl (go chosen)
       where
         go : Chosen 8 ds leads at → Stepped (px p) (listed 8 (discrepancyAt L leads rows weights)) rows leads rows leads
         go (none q n) = same (λ r l. ap (λ k. getD k r 0) (sym e) ∙ n r l) refl refl
         go (one s f) = absurd (omega (arith, s .within))
 
-    pub extends-raised : (rows′ : List (List ℕ)) (x : ℕ) → at < 8 → x ≡ xOf p → NextRows at (toF x) ds rows rows′
+    pub extends-raised : (rows′ : List (List ℕ)) (x : ℕ) → at < 8 → x ≡ xOf (p % 64) → NextRows at (toF x) ds rows rows′
         → Extends L p z rows leads rows′ (set leads at (getD leads at 0 + 8))
     unfolding leadAt
     extends-raised rows′ x h q next =
-        steps-extend L p z rows leads rows′ (set leads at (getD leads at 0 + 8)) monomials weights small eight known weighted
+        steps-extend L p z rows leads rows′ (set leads at (getD leads at 0 + 8)) monomials weights small eight known-own weighted
         (length-set leads at (getD leads at 0 + 8))
         (subst (λ k. Stepped (px p) k rows leads rows′ (set leads at (getD leads at 0 + 8))) e (go chosen))
       where
         go : Chosen 8 ds leads at → Stepped (px p) ds rows leads rows′ (set leads at (getD leads at 0 + 8))
         go (none q n) = absurd (omega arith)
-        go (one s f) = raised at s (subst (λ a. NextRows at (toF a) ds rows rows′) q next) refl
+        go (one s f) = raised at s (subst (λ a. NextRows at (toF a) ds rows rows′) (q ∙ ap xOf own) next) refl

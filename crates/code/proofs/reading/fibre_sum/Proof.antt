@@ -1,7 +1,9 @@
 -- `fibre_sum` meets its contract: the loop holds the sum of the places passed.
-use mathlib.Core.Path.{_≡_}
+use mathlib.Core.Path.{_≡_, ap, _∙_}
 use Prim.Native.Nat.{_-_, _<_}
+use native.Mathlib.Nat.{mod-eq-of-lt}
 use lib.ListN.{length}
+use Rattle.code.specs.Curve.{yOf}
 use Rattle.code.specs.Extraction.{fibreTerm, fibreSum}
 use Rattle.code.proofs.Moments.{fibre-entry}
 use Rattle.lists.specs.Summed.{Summed, summed-start, summed-turn, summed-end}
@@ -43,7 +45,7 @@ loop-less : tie.Need-loop-less Inv-loop μ-loop
 loop-less c = search needs
 
 loop-again : tie.Need-loop-again Inv-loop μ-loop
-loop-again c = (search needs, search needs, summed-turn (c .before .before .before .before .before .loop .inv .2) (c .before .before .before .before .loop-test .taken) (fibre-entry _ _ _ _ (c .before .before .y-at .ensures) (c .before .power .ensures) (c .product .ensures)))
+loop-again c = (search needs, search needs, summed-turn (c .before .before .before .before .before .loop .inv .2) (c .before .before .before .before .loop-test .taken) (fibre-entry _ _ _ _ (c .before .before .y-at .ensures ∙ ap yOf (mod-eq-of-lt (search needs))) (c .before .power .ensures) (c .product .ensures)))
 
 returns : tie.Need-returns Inv-loop μ-loop
 unfolding fibreSum

@@ -19,7 +19,7 @@ choice-requires c κs = search needs
 
 returns : tie.Need-returns
 returns c =
-    extends-same _ _ _ _ _ _ (c .before .before .discrepancies .ensures) (c .before .choice .ensures) _ _ _ (search needs) (search needs)
+    extends-same _ _ _ _ _ _ (c .before .before .discrepancies .ensures) (c .before .choice .ensures) _ _ _ (search needs) (search needs) (search needs)
     (c .before .before .before .before .monomials .ensures) (c .before .before .before .weights .ensures) (c .if1 .taken)
 
 mul-leads : tie.Need-mul-leads
@@ -47,7 +47,7 @@ next-rows-requires c κs = search needs
 
 returns-2 : tie.Need-returns-2
 returns-2 c =
-    extends-raised _ _ _ _ _ _ (c .before .before .before .before .discrepancies .ensures) (c .before .before .before .choice .ensures) _ _ _ (search needs) (search needs)
+    extends-raised _ _ _ _ _ _ (c .before .before .before .before .discrepancies .ensures) (c .before .before .before .choice .ensures) _ _ _ (search needs) (search needs) (search needs)
     (c .before .before .before .before .before .before .monomials .ensures) (c .before .before .before .before .before .weights .ensures) _ _ (search needs)
     (c .before .x-at .ensures) (c .next-rows .ensures .0 (search needs))
 
