@@ -1,15 +1,14 @@
 -- A node of the tree: spent, a leaf, or two branches.
-use mathlib.Core.Path.{_≡_, refl, sym, ap, ap₂, _∙_, subst, subst₂}
+use mathlib.Core.Bool.{Bool, true}
+use mathlib.Core.Path.{_≡_, sym, ap, ap₂, _∙_, subst}
 use mathlib.Core.List.{List, [], _∷_, _++_}
-use mathlib.Core.Option.{none}
 use Prim.Native.Nat.{ℕ, suc, _+_, _-_, _*_, _/_, _%_, _^_, _<_, _≤_}
 use native.Mathlib.Nat.{mod-eq-of-lt, pow-suc}
 use native.Mathlib.Omega.{arith}
 use lib.Dec.{T, leb, leb→le}
 use Rattle.lists.specs.Count.{bit, bit-le}
 use Rattle.lists.specs.Every.{every, every-at}
-use lib.ListN.{length, getD, take, drop, set, length-set, length-take, drop-of-length-le}
-use lib.Seq.{drop-cons, getD-take}
+use lib.ListN.{length, getD, take, drop, set, length-set}
 use Rattle.algebra.specs.Koetter.{Basis}
 use Rattle.galois.specs.Field16.{K16}
 use Rattle.hermitian.specs.Repair.{limit}
@@ -17,21 +16,22 @@ use Rattle.basis.specs.Choice.{leadAt}
 use Rattle.basis.specs.Step.{rowAt}
 use Rattle.interpolation.specs.Polynomial.{polynomials}
 use Rattle.interpolation.specs.Extending.{Extends}
-use Rattle.code.specs.Nodes.{Node, node, ThroughNodes}
+use Rattle.code.specs.Nodes.{node, ThroughNodes}
 use Rattle.soft.specs.Total.{differing}
 use Rattle.soft.specs.TestWord.{bestAt, secondAt, expand}
 use Rattle.soft.specs.TestWordLaws.{expand-nil, expand-cons}
-use Rattle.near.specs.Near.{mOf, reachOf, testsNear, answerOf}
+use Rattle.near.specs.Near.{mOf, reachOf}
 use Rattle.near.specs.Reach.{genus-4}
 use Rattle.near.specs.Interpolated.{limitOf}
 use Rattle.near.specs.Tree.{Places, places-cons, Decided, decided-step, decided-through, tree-spent}
 use Rattle.chase.specs.declared.Answer.the-variants.{NoneNear}
 use Rattle.chase.specs.declared.Found.{Found}
 use Rattle.chase.specs.Nearest.{Nearest}
-use Rattle.chase.specs.Searching.{Lowest, Ranged, Held, Ready, LeafOf, SearchOf, BetterOf}
-use Rattle.chase.specs.Known.{Sound, Governs, testsWithin, WithinOf, BelowOf, BranchOf}
+use Rattle.chase.specs.Searching.{Lowest, Ranged, Ready, LeafOf, SearchOf, BetterOf}
+use Rattle.chase.specs.Known.{Sound, governsOf, testsWithin, WithinOf, BelowOf, BranchOf}
 use Rattle.chase.proofs.Candidate.{workable, nearest-none}
-use Rattle.chase.proofs.Governing.{within-leaf, within-branch, below-tests, governed-nearest}
+use Rattle.chase.proofs.Settling.{left-cons, left-none}
+use Rattle.chase.proofs.Governing.{governs-all, within-leaf, within-branch, below-tests, governed-nearest}
 
 pub limit-is : {k : ℕ} → Ranged k → 2 * ((52 - k) / 2 + 6 + (k + 5)) + 1 ≡ limitOf k
 unfolding limitOf limit mOf reachOf
@@ -75,15 +75,16 @@ module _ {k : ℕ} (rate : Ranged k) (columns : ℕ → List ℕ) (word ps : Lis
 -- one branch: the place is decided with the symbol, by a codeword that is known or by one more node
 module _ {k : ℕ} (rate : Ranged k) (columns : ℕ → List ℕ) (word : List ℕ) (place symbol : ℕ) (ps : List ℕ) (rows : List (List ℕ)) (leads : List ℕ)
     (left : ℕ) (size : length word ≡ 64) where
-  pub branch-known : (known f : Found) (tests : ℕ) → Sound k columns known → (Places ps → Governs k known (set word place symbol) ps)
+  pub branch-known : (known f : Found) (tests : ℕ) (b : Bool) → Sound k columns known → b ≡ governsOf k known (set word place symbol) ps → b ≡ true
       → WithinOf k columns (known .codeword) (set word place symbol) ps left tests → BelowOf known tests f
       → BranchOf k columns word place symbol ps rows leads left f
-  branch-known known f tests sound governs counted below =
+  branch-known known f tests b sound test governs counted below =
       record {
         few = omega (arith, below-tests below, counted .few);
         finds = λ R P.
-            governed-nearest (workable rate) columns known (set word place symbol) ps (length-set word place symbol ∙ size) sound
-            (governs (places-rest P)) f tests (counted .counts (places-rest P)) below;
+            let l : length (set word place symbol) ≡ 64 = length-set word place symbol ∙ size in
+            let g = governs-all k known (set word place symbol) ps rate l (sym test ∙ governs) (places-rest P) in
+            governed-nearest (workable rate) columns known (set word place symbol) ps l sound g f tests (counted .counts (places-rest P)) below;
       }
 
   module _ (L : ℕ) (L-is : L ≡ limitOf k) (rows′ : List (List ℕ)) (leads′ : List ℕ) (E : Extends L place symbol rows leads rows′ leads′) where
@@ -112,9 +113,8 @@ module _ (doubtful : List ℕ) (doubt left : ℕ) (eight : length doubtful ≡ 8
 
   next-place : drop (doubt - left) (take doubt doubtful) ≡ x ∷ rest
   next-place =
-      let n : suc (doubt - left) ≡ doubt - (left - 1) = omega arith in
-      drop-cons (take doubt doubtful) (doubt - left) 0 (omega (arith, length-take doubt doubtful))
-      ∙ ap₂ (λ a m. a ∷ drop m (take doubt doubtful)) (getD-take doubt doubtful (doubt - left) 0 (omega arith)) n
+      let n : doubt - left + 1 ≡ doubt - (left - 1) = omega arith in
+      left-cons doubtful doubt (doubt - left) eight few (omega arith) ∙ ap (λ m. x ∷ drop m (take doubt doubtful)) n
 
   same-place : (place : ℕ) → place ≡ x % 64 → Places (x ∷ rest) → place ≡ x
   same-place place place-is (places-cons h fresh P) = place-is ∙ mod-eq-of-lt h
@@ -180,10 +180,8 @@ power-few n h = leb→le (2 ^ n) 256 (every-at 9 (λ m. leb (2 ^ m) 256) (few-al
 pub tests-fit : (a b n : ℕ) → n < 9 → a ≤ 2 ^ n → b ≤ 2 ^ n → a + b ≤ 65535
 tests-fit a b n h p q = omega (arith, power-few n h)
 
-pub none-left : (doubt left : ℕ) (doubtful : List ℕ) → left ≡ 0 → length doubtful ≡ 8 → drop (doubt - left) (take doubt doubtful) ≡ []
-none-left doubt left doubtful e l =
-    let b : length (take doubt doubtful) ≤ doubt - left = omega (arith, length-take doubt doubtful) in
-    drop-of-length-le (take doubt doubtful) b
+pub none-left : (doubt left : ℕ) (doubtful : List ℕ) → left ≡ 0 → drop (doubt - left) (take doubt doubtful) ≡ []
+none-left doubt left doubtful e = left-none doubtful doubt (doubt - left) (omega arith)
 
 pub some-left : (left : ℕ) → (left ≡ 0 → ⊥) → 0 < left
 some-left left h = omega arith

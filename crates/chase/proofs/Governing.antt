@@ -1,5 +1,5 @@
 -- A known codeword that is close enough to every test word below a node is the only one that can be near them: they are only counted.
-use mathlib.Core.Bool.{Bool, true, false, not, _||_}
+use mathlib.Core.Bool.{Bool, true, false, cond, not, _||_, false≢true}
 use mathlib.Core.Path.{_≡_, refl, sym, ap, _∙_, subst}
 use mathlib.Core.List.{List, [], _∷_, _++_, List·Memᴰ, List·Memᴰ·head, List·Memᴰ·tail, List·Memᴰ·cases-cons, List·Memᴰ·not-nil}
 use mathlib.Core.Logic.{_⊎_, inl, inr, ⊎-elim}
@@ -8,13 +8,13 @@ use Prim.Native.Nat.{ℕ, zero, suc, _+_, _-_, _/_, _%_, _<_, _≤_}
 use native.Mathlib.Nat.{mod-eq-of-lt}
 use native.Mathlib.Decide.{ℕ-discrete}
 use native.Mathlib.Omega.{arith}
-use lib.Dec.{T, eqb, leb, leb→le}
+use lib.Dec.{T, eqb, leb, ltb, leb→le}
 use lib.ListN.{length, getD, take, drop, set, length-set, length-take, length-drop}
-use lib.Seq.{getD-set-other, getD-take, getD-drop}
-use borrow.Author.Tests.{eq-eqb, ne-eqb, le-leb, lt-leb}
+use lib.Seq.{getD-set-other}
+use borrow.Author.Tests.{eq-eqb, ne-eqb, le-leb, lt-leb, ltb-true}
 use Rattle.lists.specs.Count.{bit, sumOf-mono, sumOf-plus, count, count-nil, count-suc, count-none}
 use Rattle.lists.specs.Every.{both}
-use Rattle.lists.specs.Member.{member-at}
+use Rattle.lists.specs.Distinct.{and-left, and-right}
 use Rattle.lists.specs.Words.{Word, Lex, lex-asym, lex-or}
 use Rattle.lists.specs.Answers.{Found, best, answers-unique}
 use Rattle.code.specs.Encoding.{encodeOf}
@@ -26,14 +26,15 @@ use Rattle.near.specs.Near.{mOf, reachOf, nearTo, codewordNear, near, isSome, t
 use Rattle.near.specs.Reach.{Workable}
 use Rattle.near.specs.Distance.{codewords-apart}
 use Rattle.near.specs.Laws.{near-member, near-answers, word-answers, answer-none, codeword-none, tests-nil, tests-cons}
-use Rattle.near.specs.Tree.{Places}
+use Rattle.near.specs.Tree.{Places, places-nil, places-cons}
+use Rattle.chase.specs.declared.Answer.{Answer}
 use Rattle.chase.specs.declared.Answer.the-variants.{NoneNear, Near}
 use Rattle.chase.specs.declared.Found.{Found as Answered}
 use Rattle.chase.specs.Nearest.{Nearest}
 use Rattle.chase.specs.Searching.{Ranged}
-use Rattle.chase.specs.Known.{Sound, Same, OneOf, of-first, of-other, Outside, Governs, testsWithin, BelowOf, below-none, below-some}
+use Rattle.chase.specs.Known.{Sound, Same, OneOf, of-first, of-other, isNear, laterOf, filledOf, Outside, Governs, governsOf, testsWithin, BelowOf, below-none, below-some}
 use Rattle.chase.proofs.Candidate.{nearest-none, nearest-some}
-use Rattle.chase.proofs.Settling.{places-at}
+use Rattle.chase.proofs.Settling.{left-cons, left-none}
 
 -- ---- words that have the same symbols but at some places differ in no more than these
 
@@ -117,46 +118,66 @@ module _ (doubtful : List ℕ) (doubt left : ℕ) (eight : length doubtful ≡ 8
   pub rest-length : length rest ≡ left
   rest-length = omega (arith, length-drop (doubt - left) (take doubt doubtful), length-take doubt doubtful)
 
-  -- the word is written at a place left
-  pub filled-turn : (word out : List ℕ) (i s : ℕ) → doubt - left ≤ i → i < doubt → Places rest → Outside rest word out
-      → Outside rest word (set out (getD doubtful i 0 % 64) s)
-  filled-turn word out i s above below P o =
-      record {
-        size = length-set out (x % 64) s ∙ o .size;
-        same = λ p n. getD-set-other out (x % 64) p s 0 (λ e. n (subst (λ y. List·Memᴰ y rest) (sym (e ∙ mod-eq-of-lt small)) inside)) ∙ o .same p n;
-      }
-    where
-      x : ℕ
-      x = getD doubtful i 0
+-- a loop that writes one place after the other
+module _ (c doubtful out : List ℕ) (doubt i : ℕ) where
+  pub filled-turn : length doubtful ≡ 8 → doubt ≤ 8 → i < doubt
+      → filledOf c out (drop i (take doubt doubtful))
+      ≡ filledOf c (set out (getD doubtful i 0 % 64) (getD c (getD doubtful i 0 % 64) 0)) (drop (i + 1) (take doubt doubtful))
+  unfolding filledOf
+  filled-turn eight few h = ap (filledOf c out) (left-cons doubtful doubt i eight few h)
 
-      j : ℕ
-      j = i - (doubt - left)
+  pub filled-end : doubt ≤ i → filledOf c out (drop i (take doubt doubtful)) ≡ out
+  unfolding filledOf
+  filled-end h = ap (filledOf c out) (left-none doubtful doubt i h)
 
-      short : j < length rest
-      short = omega (arith, rest-length)
-
-      there : getD rest j 0 ≡ x
-      there =
-          let e : doubt - left + j ≡ i = omega arith in
-          getD-drop (doubt - left) (take doubt doubtful) j 0 ∙ ap (λ n. getD (take doubt doubtful) n 0) e ∙ getD-take doubt doubtful i 0 below
-
-      inside : List·Memᴰ x rest
-      inside = subst (λ y. List·Memᴰ y rest) there (member-at rest 0 j short)
-
-      small : x < 64
-      small = subst (λ y. y < 64) there (places-at P j short)
-
-pub governs-all : {k : ℕ} → Ranged k → (known : Answered) (word ps agreed : List ℕ) (t left d : ℕ) → known .answer ≡ Near t → length ps ≡ left
-    → Outside ps word agreed → d ≡ differing 64 (known .codeword) agreed → d + left + (52 - k) / 2 < 59 - k → Governs k known word ps
-unfolding reachOf mOf
-governs-all {k} rate known word ps agreed t left d near size o d-is close =
+filled-outside : (c : List ℕ) {ps : List ℕ} → Places ps → (word : List ℕ) → length word ≡ 64 → Outside ps word (filledOf c word ps)
+unfolding filledOf
+filled-outside c places-nil word l = record { size = l; same = λ p n. refl }
+filled-outside c (places-cons {p} {ps} h fresh P) word l =
+    let s = getD c (p % 64) 0 in
+    let o = filled-outside c P (set word (p % 64) s) (length-set word (p % 64) s ∙ l) in
     record {
-      total = t;
-      near = near;
-      apart = λ v w.
-          let r : (52 - k) / 2 ≡ (57 - (k + 5)) / 2 = omega arith in
-          omega (arith, r, size, d-is, differing-triangle 64 (known .codeword) agreed v, outside-differing o w);
+      size = o .size;
+      same = λ q n.
+          o .same q (λ m. n (List·Memᴰ·tail m)) ∙ getD-set-other word (p % 64) q s 0 (λ e. n (List·Memᴰ·head (e ∙ mod-eq-of-lt h)));
     }
+
+-- ---- the test of the known codeword
+
+near-total : (a : Answer) → isNear a ≡ true → (t : ℕ) × (a ≡ Near t)
+unfolding isNear
+near-total NoneNear e = absurd (false≢true e)
+near-total (Near t) e = (t, refl)
+
+module _ (k : ℕ) (known : Answered) (word ps : List ℕ) where
+  pub governs-none : known .answer ≡ NoneNear → false ≡ governsOf k known word ps
+  unfolding governsOf isNear
+  governs-none e = sym (rw e)
+
+  module _ (rate : Ranged k) where
+    pub governs-some : (t left d : ℕ) (agreed : List ℕ) → known .answer ≡ Near t → length ps ≡ left → agreed ≡ filledOf (known .codeword) word ps
+        → d ≡ differing 64 (known .codeword) agreed → ltb (d + left + (52 - k) / 2) (59 - k) ≡ governsOf k known word ps
+    unfolding governsOf isNear reachOf mOf
+    governs-some t left d agreed near size agreed-is d-is =
+        let r : (52 - k) / 2 ≡ (57 - (k + 5)) / 2 = omega arith in
+        let m : 59 - k ≡ 64 - (k + 5) = omega arith in
+        rw (near, d-is, agreed-is, sym size, r, m)
+
+    -- a codeword that passes the test governs
+    pub governs-all : length word ≡ 64 → governsOf k known word ps ≡ true → Places ps → Governs k known word ps
+    unfolding governsOf reachOf mOf
+    governs-all size e P =
+        let c = known .codeword in
+        let agreed = filledOf c word ps in
+        let near = isNear (known .answer) in
+        let test = ltb (differing 64 c agreed + length ps + reachOf k) (64 - mOf k) in
+        let n = near-total (known .answer) (and-left near test e) in
+        let close : differing 64 c agreed + length ps + reachOf k < 64 - mOf k = ltb-true _ _ (and-right near test e) in
+        record {
+          total = n .0;
+          near = n .1;
+          apart = λ v w. omega (arith, close, differing-triangle 64 c agreed v, outside-differing (filled-outside c P word size) w);
+        }
 
 -- ---- how many test words are within T of a codeword
 
@@ -284,6 +305,26 @@ sound-same {k} {columns} s e =
       encoded = λ t h. e .codeword ∙ s .encoded t (sym (e .answer) ∙ h) ∙ ap (λ m. encodeOf k (take k m)) (sym (e .message));
       cost = λ t h. s .cost t (sym (e .answer) ∙ h) ∙ ap (λ m. messageCost k columns (take k m)) (sym (e .message));
     }
+
+module _ (first known : Answered) where
+  pub later-none : first .answer ≡ NoneNear → known ≡ laterOf first known
+  unfolding laterOf isNear
+  later-none e = sym (rw e)
+
+  pub later-some : (t : ℕ) → first .answer ≡ Near t → first ≡ laterOf first known
+  unfolding laterOf isNear
+  later-some t e = sym (rw e)
+
+pub later-one : (first known f : Answered) → f ≡ laterOf first known → OneOf first known f
+unfolding laterOf
+later-one first known f e = go (isNear (first .answer)) e
+  where
+    same : {a : Answered} → f ≡ a → Same a f
+    same q = record { answer = ap (λ (x : Answered). x .answer) q; message = ap (λ (x : Answered). x .message) q; codeword = ap (λ (x : Answered). x .codeword) q }
+
+    go : (b : Bool) → f ≡ cond b first known → OneOf first known f
+    go true q = of-first (same q)
+    go false q = of-other (same q)
 
 pub sound-one : {k : ℕ} {columns : ℕ → List ℕ} {a b f : Answered} → Sound k columns a → Sound k columns b → OneOf a b f → Sound k columns f
 sound-one s r (of-first e) = sound-same s e

@@ -1,18 +1,17 @@
 -- From the settled places to the root of the tree: flags, nodes, and the known rates.
 use mathlib.Core.Bool.{Bool, true, false, cond}
-use mathlib.Core.Path.{_≡_, refl, sym, ap, ap₂, _∙_, subst, subst₂}
+use mathlib.Core.Path.{_≡_, refl, sym, ap, ap₂, _∙_, subst}
 use mathlib.Core.List.{List, [], _∷_, _++_, List·Memᴰ, List·Memᴰ·head, List·Memᴰ·tail, List·Memᴰ·cases-cons, List·Memᴰ·append-cases, List·Memᴰ·eq-of-singleton, List·Memᴰ·not-nil, Memᴰ·append-left, Memᴰ·append-right}
-use mathlib.Core.Logic.{_≢_, _⊎_, inl, inr, ⊎-elim}
+use mathlib.Core.Logic.{_⊎_, inl, inr, ⊎-elim}
 use Prim.Native.Nat.{ℕ, zero, suc, _+_, _-_, _%_, _<_, _≤_}
 use native.Mathlib.Nat.{mod-eq-of-lt, eq-or-lt-of-le, le-of-suc-le-suc, le-step}
 use native.Mathlib.Decide.{ℕ-discrete}
 use native.Mathlib.Numerals.{add-one}
 use native.Mathlib.Omega.{arith}
 use lib.Dec.{eqb}
-use lib.ListN.{length, getD, take, drop, set, replicate, length-set, length-take, getD-replicate}
-use lib.Seq.{take-suc, getD-set-same, getD-set-other, getD-take}
-use borrow.Author.Tests.{eq-eqb, ne-eqb, eqb-true}
-use Rattle.lists.specs.Member.{member-at, at-member}
+use lib.ListN.{length, getD, take, drop, set, replicate, length-set, length-take, getD-replicate, drop-of-length-le}
+use lib.Seq.{take-suc, drop-cons, getD-set-same, getD-set-other, getD-take}
+use borrow.Author.Tests.{eq-eqb, eqb-true}
 use Rattle.code.specs.Nodes.{Node, node, ThroughNodes}
 use Rattle.code.specs.Encoding.{knownRate}
 use Rattle.code.specs.Rates.{known-bounds}
@@ -41,6 +40,18 @@ pub places-at : {ps : List ℕ} → Places ps → (i : ℕ) → i < length ps �
 places-at places-nil i h = absurd (omega arith)
 places-at (places-cons a f P) zero h = a
 places-at (places-cons a f P) (suc i) h = places-at P i (le-of-suc-le-suc h)
+
+-- the list of doubtful places, from one of them on
+module _ (doubtful : List ℕ) (doubt i : ℕ) where
+  pub left-cons : length doubtful ≡ 8 → doubt ≤ 8 → i < doubt → drop i (take doubt doubtful) ≡ getD doubtful i 0 ∷ drop (i + 1) (take doubt doubtful)
+  left-cons eight few h =
+      drop-cons (take doubt doubtful) i 0 (omega (arith, length-take doubt doubtful))
+      ∙ ap₂ (λ a m. a ∷ drop m (take doubt doubtful)) (getD-take doubt doubtful i 0 h) (sym (add-one i))
+
+  pub left-none : doubt ≤ i → drop i (take doubt doubtful) ≡ []
+  left-none h =
+      let b : length (take doubt doubtful) ≤ i = omega (arith, length-take doubt doubtful) in
+      drop-of-length-le (take doubt doubtful) b
 
 -- ---- flags
 

@@ -18,7 +18,7 @@ ghost use Rattle.near.specs.Near.{reachOf};
 ghost use Rattle.near.specs.Tree.{Places};
 ghost use Rattle.chase.specs.Nearest.{Asked, Nearest};
 ghost use Rattle.chase.specs.Searching.{symbolIn, Lowest, Flagged, Ranged, LeafOf, SearchOf, BetterOf};
-ghost use Rattle.chase.specs.Known.{Sound, OneOf, Outside, Governs, WithinOf, BelowOf, BranchOf};
+ghost use Rattle.chase.specs.Known.{Sound, OneOf, laterOf, filledOf, governsOf, WithinOf, BelowOf, BranchOf};
 use basis::Leads;
 use basis::Rows;
 use code::encoding::codeword_of;
@@ -235,7 +235,7 @@ fn least(leads: Leads) -> usize
 
 // The known codeword for later branches: the one just found, if there is one.
 fn later(first: Found, known: Found) -> Found
-    ensures { λ r. ⌜ OneOf first known r ⌝ }
+    ensures { λ r. ⌜ r ≡ laterOf first known ⌝ }
 {
     let answer = first.answer;
     if let Answer::NoneNear = answer {
@@ -253,8 +253,7 @@ fn filled(
     left: usize,
 ) -> [u8; 64]
     requires { ⌜ (doubt ≤ 8) × (left ≤ doubt) ⌝ }
-    ensures { λ r.
-        ⌜ (Places (drop (doubt - left) (take doubt doubtful)) → Outside (drop (doubt - left) (take doubt doubtful)) word r) ⌝ }
+    ensures { λ r. ⌜ r ≡ filledOf codeword word (drop (doubt - left) (take doubt doubtful)) ⌝ }
 {
     let mut out = word;
     let mut i = doubt - left;
@@ -277,10 +276,7 @@ fn governs(
     left: usize,
 ) -> bool
     requires { ⌜ Ranged k × (doubt ≤ 8) × (left ≤ doubt) ⌝ }
-    ensures { λ r.
-        ⌜ (r ≡ true
-        → Places (drop (doubt - left) (take doubt doubtful))
-        → Governs k known word (drop (doubt - left) (take doubt doubtful))) ⌝ }
+    ensures { λ r. ⌜ r ≡ governsOf k known word (drop (doubt - left) (take doubt doubtful)) ⌝ }
 {
     let answer = known.answer;
     if let Answer::NoneNear = answer {

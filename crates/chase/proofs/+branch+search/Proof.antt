@@ -5,7 +5,7 @@ use native.Mathlib.Omega.{arith}
 use lib.ListN.{length}
 use Rattle.basis.specs.Choice.{leadAt}
 use Rattle.soft.specs.Column.{bestOf, secondOf}
-use Rattle.chase.proofs.Governing.{sound-none, sound-one, sound-below}
+use Rattle.chase.proofs.Governing.{sound-none, sound-one, sound-below, later-one}
 use Rattle.chase.proofs.Descending.{limit-is, branch-known, branch-node, node-spent, node-leaf, node-branch, tests-fit, none-left, some-left}
 use borrow.Author.Needs.{needs}
 use borrow.Fn.Kinds.{In}
@@ -106,7 +106,7 @@ branch-below-requires t c κs = search needs
 branch-returns : (t : ℕ) → branch-lts.Need-returns (branch-claims t) (branch-at t) branch.Post
 branch-returns t c =
     let h = c .before .before .before .before .before .before .pre .1 in (
-      branch-known (h .0) _ _ _ _ _ _ _ _ (branch-lengths t (c .before .before .before .before .before .before)) _ _ _ (h .4) (c .before .before .before .before .governs .ensures (c .before .before .before .if1 .taken)) (c .before .tests-within .ensures) (c .below .ensures),
+      branch-known (h .0) _ _ _ _ _ _ _ _ (branch-lengths t (c .before .before .before .before .before .before)) _ _ _ _ (h .4) (c .before .before .before .before .governs .ensures) (c .before .before .before .if1 .taken) (c .before .tests-within .ensures) (c .below .ensures),
       sound-below (h .4) (c .below .ensures),
     )
 
@@ -194,7 +194,7 @@ search-leaf-requires t c κs = search needs
 search-returns-2 : (t : ℕ) → search-lts.Need-returns-2 (search-claims t) (search-at t) search′.Post
 unfolding leadAt
 search-returns-2 t c = (
-  node-leaf (c .before .before .before .before .before .before .pre .1 .0) _ _ _ _ _ _ _ (limit-is (c .before .before .before .before .before .before .pre .1 .0)) _ (c .before .before .before .before .least .ensures) _ (c .before .before .if2 .taken) (none-left _ _ _ (c .before .before .if2 .taken) (search-lengths t (c .before .before .before .before .before .before))) (c .before .before .before .if1 .left) (c .leaf .ensures .0),
+  node-leaf (c .before .before .before .before .before .before .pre .1 .0) _ _ _ _ _ _ _ (limit-is (c .before .before .before .before .before .before .pre .1 .0)) _ (c .before .before .before .before .least .ensures) _ (c .before .before .if2 .taken) (none-left _ _ _ (c .before .before .if2 .taken)) (c .before .before .before .if1 .left) (c .leaf .ensures .0),
   c .leaf .ensures .1,
 )
 
@@ -233,7 +233,7 @@ search-later-requires t c κs = search needs
 search-branch-requires-2 : (t : ℕ) → search-lts.Need-branch-requires-2 (search-claims t) (search-at t) search′.Post
 search-branch-requires-2 t c κs =
     let h = c .before .before .before .before .before .before .before .before .before .pre in
-    (omega (arith, h .0, c .before .before .before .before .before .if2 .left), (h .1 .0, h .1 .1, omega (arith, h .1 .2), search needs, sound-one (c .before .branch .ensures .1) (h .1 .3) (c .later .ensures)))
+    (omega (arith, h .0, c .before .before .before .before .before .if2 .left), (h .1 .0, h .1 .1, omega (arith, h .1 .2), search needs, sound-one (c .before .branch .ensures .1) (h .1 .3) (later-one _ _ _ (c .later .ensures))))
 
 search-better-requires : (t : ℕ) → search-lts.Need-better-requires (search-claims t) (search-at t) search′.Post
 search-better-requires t c κs =

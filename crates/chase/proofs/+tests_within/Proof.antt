@@ -57,7 +57,7 @@ tests-within-within-requires : (t : ℕ) → tests-within-lts.Need-within-requir
 tests-within-within-requires t c κs = search needs
 
 tests-within-returns : (t : ℕ) → tests-within-lts.Need-returns (tests-within-claims t) (tests-within-at t) tests-within.Post
-tests-within-returns t c = within-end _ _ _ _ _ _ _ (c .before .if1 .taken) (none-left _ _ _ (c .before .if1 .taken) (tests-within-lengths t (c .before .before .before))) (c .within .ensures)
+tests-within-returns t c = within-end _ _ _ _ _ _ _ (c .before .if1 .taken) (none-left _ _ _ (c .before .if1 .taken)) (c .within .ensures)
 
 tests-within-sub-place : (t : ℕ) → tests-within-lts.Need-sub-place (tests-within-claims t) (tests-within-at t) tests-within.Post
 tests-within-sub-place t c = search needs

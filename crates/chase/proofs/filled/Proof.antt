@@ -1,18 +1,17 @@
--- What is written stands at the places left.
-use mathlib.Core.Path.{_≡_, refl}
-use Prim.Native.Nat.{_≤_, _-_}
+-- The loop's invariant: the word so far, filled at the places still to come, is the whole word filled.
+use mathlib.Core.Path.{_≡_, refl, sym, _∙_}
+use Prim.Native.Nat.{_-_, _<_, _≤_}
 use lib.ListN.{length, take, drop}
-use Rattle.near.specs.Tree.{Places}
-use Rattle.chase.specs.Known.{Outside}
-use Rattle.chase.proofs.Governing.{filled-turn}
+use Rattle.chase.specs.Known.{filledOf}
+use Rattle.chase.proofs.Governing.{filled-turn, filled-end}
 use borrow.Author.Needs.{needs}
 use Rattle.chase.proofs.filled.Statement.{statement}
 use Rattle.chase.proofs.filled.Tie as tie
 
 abbrev Inv-loop : tie.InvT-loop
 Inv-loop doubt left codeword doubtful out₀ i₀ out i =
-    (i ≤ doubt) × (doubt - left ≤ i) × (length doubtful ≡ 8) × (length out ≡ 64)
-    × (Places (drop (doubt - left) (take doubt doubtful)) → Outside (drop (doubt - left) (take doubt doubtful)) out₀ out)
+    (length doubtful ≡ 8) × (length out ≡ 64)
+    × (filledOf codeword out₀ (drop (doubt - left) (take doubt doubtful)) ≡ filledOf codeword out (drop i (take doubt doubtful)))
 
 abbrev μ-loop : tie.MeasureT-loop
 μ-loop doubt left codeword doubtful out₀ i₀ out i = doubt - i
@@ -21,7 +20,7 @@ sub-i : tie.Need-sub-i Inv-loop μ-loop
 sub-i c = search needs
 
 loop-holds : tie.Need-loop-holds Inv-loop μ-loop
-loop-holds c = (search needs, search needs, search needs, search needs, λ P. record { size = search needs; same = λ p n. refl })
+loop-holds c = (search needs, search needs, refl)
 
 array-read-place : tie.Need-array-read-place Inv-loop μ-loop
 array-read-place c = search needs
@@ -44,10 +43,15 @@ loop-less c = search needs
 loop-again : tie.Need-loop-again Inv-loop μ-loop
 loop-again c =
     let i = c .before .loop .inv in
-    (search needs, search needs, i .2, search needs, λ P. filled-turn _ _ _ (i .2) (search needs) (search needs) _ _ _ _ (i .1) (search needs) P (i .4 P))
+    let h : c .before .before .args .doubt ≤ 8 = search needs in
+    let b : c .before .loop .i < c .before .before .args .doubt = search needs in
+    (i .0, search needs, i .2 ∙ filled-turn _ _ _ _ _ (i .0) h b)
 
 returns : tie.Need-returns Inv-loop μ-loop
-returns c = c .before .loop .inv .4
+returns c =
+    let i = c .before .loop .inv in
+    let h : c .before .before .args .doubt ≤ c .before .loop .i = search needs in
+    sym (i .2 ∙ filled-end _ _ _ _ _ h)
 
 pub filled-spec : {M : Type 1} → statement M
 filled-spec =

@@ -1,11 +1,9 @@
--- The measured distance and the places left bound every distance below.
-use mathlib.Core.Bool.{true≢false}
+-- The two cases of the known answer.
 use mathlib.Core.Path.{_≡_, sym, subst}
 use Prim.Native.Nat.{_≤_}
-use borrow.Author.Tests.{ltb-true}
 use lib.ListN.{length}
 use Rattle.soft.specs.TotalLaws.{differing-le}
-use Rattle.chase.proofs.Governing.{governs-all, rest-length}
+use Rattle.chase.proofs.Governing.{governs-none, governs-some, rest-length}
 use borrow.Author.Needs.{needs}
 use Rattle.chase.proofs.governs.Statement.{statement}
 use Rattle.chase.proofs.governs.Tie as tie
@@ -14,7 +12,7 @@ enum-told : tie.Need-enum-told
 enum-told c = search needs
 
 returns : tie.Need-returns
-returns c = λ e P. absurd (true≢false (sym e))
+returns c = governs-none _ _ _ _ (c .enum-told .given .1)
 
 enum-told-2 : tie.Need-enum-told-2
 enum-told-2 c = search needs
@@ -50,7 +48,7 @@ returns-2 c =
     let l : length (c .before .before .before .before .before .args .doubtful) ≡ 8 = search needs in
     let h = c .before .before .before .before .before .pre in
     let g = c .before .before .before .enum-told2 .given in
-    λ e P. governs-all (h .0) _ _ _ _ _ _ _ (g .1) (rest-length _ _ _ l (h .1) (h .2)) (c .before .filled .ensures P) (c .distance .ensures) (ltb-true _ _ e)
+    governs-some _ _ _ _ (h .0) _ _ _ _ (g .1) (rest-length _ _ _ l (h .1) (h .2)) (c .before .filled .ensures) (c .distance .ensures)
 
 pub governs-spec : {M : Type 1} → statement M
 governs-spec =

@@ -1,6 +1,5 @@
 -- The two cases.
-use mathlib.Core.Path.{refl}
-use Rattle.chase.specs.Known.{of-first, of-other}
+use Rattle.chase.proofs.Governing.{later-none, later-some}
 use borrow.Author.Needs.{needs}
 use Rattle.chase.proofs.later.Statement.{statement}
 use Rattle.chase.proofs.later.Tie as tie
@@ -9,13 +8,13 @@ enum-told : tie.Need-enum-told
 enum-told c = search needs
 
 returns : tie.Need-returns
-returns c = of-other (record { answer = refl; message = refl; codeword = refl })
+returns c = later-none _ _ (c .enum-told .given .1)
 
 enum-told-2 : tie.Need-enum-told-2
 enum-told-2 c = search needs
 
 returns-2 : tie.Need-returns-2
-returns-2 c = of-first (record { answer = refl; message = refl; codeword = refl })
+returns-2 c = later-some _ _ _ (c .enum-told2 .given .1)
 
 pub later-spec : {M : Type 1} → statement M
 later-spec = tie.close (tie.spec enum-told returns enum-told-2 returns-2)
