@@ -4,3 +4,4 @@ pub mod Governing
 pub mod Joining
 pub mod Descending
 pub mod Settling
+pub mod Asking

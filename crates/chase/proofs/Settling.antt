@@ -26,7 +26,7 @@ use Rattle.soft.specs.TestWord.{bestWord, expand, testWords}
 use Rattle.near.specs.Near.{mOf}
 use Rattle.near.specs.Interpolated.{limitOf}
 use Rattle.chase.specs.declared.Found.{Found}
-use Rattle.chase.specs.Nearest.{Asked, Nearest}
+use Rattle.chase.specs.Nearest.{Asked, Nearest, NearestCall}
 use Rattle.chase.specs.Searching.{Ranged, Flagged, SearchOf}
 
 -- ---- known rates
@@ -136,23 +136,18 @@ place-small doubtful doubt i l h b P =
 -- ---- the root of the tree
 
 module _ (k : ℕ) (costs doubtful : List ℕ) (doubt : ℕ) (f : Found) where
-  -- arguments that are refused are none that may be asked
-  pub refused-rate : (k < 27 ⊎ 49 < k) → Asked k costs doubtful doubt → Nearest k (columnOf 16 costs) (testWords 64 (columnOf 16 costs) (take doubt doubtful)) f
-  refused-rate h A = let r = known-range k (A .known) in absurd (⊎-elim (λ a. omega arith) (λ a. omega arith) h)
-
-  pub refused-doubt : 8 < doubt → Asked k costs doubtful doubt → Nearest k (columnOf 16 costs) (testWords 64 (columnOf 16 costs) (take doubt doubtful)) f
-  refused-doubt h A = absurd (omega (arith, A .few))
-
-  pub root : (word flags : List ℕ) (rows : List (List ℕ)) (leads : List ℕ) (L : ℕ) → Ranged k → word ≡ bestWord 64 (columnOf 16 costs)
+  pub root : (word flags : List ℕ) (rows : List (List ℕ)) (leads : List ℕ) (L : ℕ) → Asked k costs doubtful doubt
+      → word ≡ bestWord 64 (columnOf 16 costs)
       → (Places (take doubt doubtful) → Flagged (take doubt doubtful) flags) → L ≡ limitOf k
       → Basis K16 8 L (ThroughNodes (k + 5) (settled word flags 64)) (polynomials (k + 5) rows) (leadAt leads)
       → SearchOf k (columnOf 16 costs) word (drop (doubt - doubt) (take doubt doubtful)) rows leads doubt f
-      → Asked k costs doubtful doubt → Nearest k (columnOf 16 costs) (testWords 64 (columnOf 16 costs) (take doubt doubtful)) f
+      → NearestCall k costs doubtful doubt f
   unfolding testWords mOf
-  root word flags rows leads L rate w-is flagged L-is B S A =
+  root word flags rows leads L A w-is flagged L-is B S =
       let z : doubt - doubt ≡ 0 = omega arith in
       let S′ : SearchOf k (columnOf 16 costs) word (take doubt doubtful) rows leads doubt f =
       subst (λ n. SearchOf k (columnOf 16 costs) word (drop n (take doubt doubtful)) rows leads doubt f) z S in
+      let N : Nearest k (columnOf 16 costs) (testWords 64 (columnOf 16 costs) (take doubt doubtful)) f =
       subst (λ w. Nearest k (columnOf 16 costs) (expand (columnOf 16 costs) w (take doubt doubtful)) f) w-is
       (S′ .finds
       (record {
@@ -160,4 +155,5 @@ module _ (k : ℕ) (costs doubtful : List ℕ) (doubt : ℕ) (f : Found) where
         decided = settled-decided word flags (take doubt doubtful) (flagged (A .places));
         basis = subst (λ l. Basis K16 8 l (ThroughNodes (k + 5) (settled word flags 64)) (polynomials (k + 5) rows) (leadAt leads)) L-is B;
       })
-      (A .places))
+      (A .places)) in
+      record { asked = λ _. N; refused = λ n. absurd (n A) }

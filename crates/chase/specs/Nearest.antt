@@ -1,18 +1,25 @@
 -- What the search for the nearest codeword answers.
 --
 --   Asked rate costs doubtful doubt   a known rate, 1,024 costs, and at most 8 doubtful places, different and below 64
+--   arePlaces ps                      the test of a list's places: all below 64, and different
+--   askedOf rate costs doubtful doubt  the test of Asked
 --   Nearest k columns tests f         what is found: how many test words have a codeword within T, and document 01's answer among the near
 --                                     codewords with its total, or that there is none
-use mathlib.Core.Bool.{true}
+--   NearestCall rate costs doubtful doubt f   the nearest codeword by the costs and the doubtful places, where it may be asked for; and nothing
+--                                     where not
+use mathlib.Core.Bool.{Bool, true, _&&_}
 use mathlib.Core.Path.{_≡_}
 use mathlib.Core.List.{List}
-use mathlib.Core.Option.{Option, some, none}
+use mathlib.Core.Option.{some, none}
 use Prim.Native.Nat.{ℕ, _≤_}
+use lib.Dec.{eqb, leb}
 use lib.ListN.{length, take}
+use Rattle.lists.specs.Distinct.{below, distinct}
 use Rattle.code.specs.Encoding.{knownRate}
+use Rattle.soft.specs.Column.{columnOf}
+use Rattle.soft.specs.TestWord.{testWords}
 use Rattle.near.specs.Near.{testsNear, messageCost, answerOf}
 use Rattle.near.specs.Tree.{Places}
-use Rattle.chase.specs.declared.Answer.{Answer}
 use Rattle.chase.specs.declared.Answer.the-variants.{NoneNear, Near}
 use Rattle.chase.specs.declared.Found.{Found}
 
@@ -22,8 +29,20 @@ pub record Asked (rate : ℕ) (costs doubtful : List ℕ) (doubt : ℕ) : Type 0
   pub few : doubt ≤ 8
   pub places : Places (take doubt doubtful)
 
+unfoldable pub arePlaces : List ℕ → Bool
+arePlaces ps = below 64 ps && distinct ps
+
+unfoldable pub askedOf : ℕ → List ℕ → List ℕ → ℕ → Bool
+askedOf rate costs doubtful doubt =
+    knownRate rate && (eqb (length costs) 1024 && (leb doubt 8 && arePlaces (take doubt doubtful)))
+
 pub record Nearest (k : ℕ) (columns : ℕ → List ℕ) (tests : List (List ℕ)) (f : Found) : Type 0 where
   pub count : f .tests ≡ testsNear k tests
   pub nobody : f .answer ≡ NoneNear → answerOf k columns tests ≡ none
   pub somebody : (t : ℕ) → f .answer ≡ Near t
       → (answerOf k columns tests ≡ some (take k (f .message))) × (t ≡ messageCost k columns (take k (f .message)))
+
+pub record NearestCall (rate : ℕ) (costs doubtful : List ℕ) (doubt : ℕ) (f : Found) : Type 0 where
+  pub asked : Asked rate costs doubtful doubt
+      → Nearest rate (columnOf 16 costs) (testWords 64 (columnOf 16 costs) (take doubt doubtful)) f
+  pub refused : ¬ Asked rate costs doubtful doubt → (f .answer ≡ NoneNear) × (f .tests ≡ 0)

@@ -7,21 +7,22 @@ ghost use lib.ListN.{length, take, drop};
 ghost use lib.Dec.{leb};
 ghost use Rattle.lists.specs.Count.{bit};
 ghost use Rattle.lists.specs.Words.{isBefore};
+ghost use Rattle.lists.specs.Distinct.{among};
 ghost use Rattle.lists.specs.Listed.{listed};
 ghost use Rattle.hermitian.specs.Orders.{orderOf};
 ghost use Rattle.basis.specs.Choice.{leadAt};
 ghost use Rattle.code.specs.Encoding.{encodeOf};
 ghost use Rattle.soft.specs.Column.{columnOf};
 ghost use Rattle.soft.specs.Total.{differing, totalOf};
-ghost use Rattle.soft.specs.TestWord.{testWords};
 ghost use Rattle.near.specs.Near.{reachOf};
 ghost use Rattle.near.specs.Tree.{Places};
-ghost use Rattle.chase.specs.Nearest.{Asked, Nearest};
+ghost use Rattle.chase.specs.Nearest.{arePlaces, askedOf, NearestCall};
 ghost use Rattle.chase.specs.Searching.{symbolIn, Lowest, Flagged, Ranged, LeafOf, SearchOf, BetterOf};
 ghost use Rattle.chase.specs.Known.{Sound, OneOf, laterOf, filledOf, governsOf, WithinOf, BelowOf, BranchOf};
 use basis::Leads;
 use basis::Rows;
 use code::encoding::codeword_of;
+use code::encoding::known_rate;
 use division::dividing::divide;
 use division::parts::with_z;
 use division::parts::without_z;
@@ -462,19 +463,61 @@ fn settled_places(doubtful: [u8; 8], doubt: usize) -> [u8; 64]
     out
 }
 
-// The answer by a table of costs and a list of doubtful places. Arguments that no session has, find nothing.
-pub fn nearest(rate: usize, costs: &[u16], doubtful: [u8; 8], doubt: usize) -> Found
-    ensures { λ r.
-        ⌜ (Asked rate (now (costs .entry)) doubtful doubt
-        → Nearest rate (columnOf 16 (now (costs .entry))) (testWords 64 (columnOf 16 (now (costs .entry))) (take doubt doubtful)) r) ⌝ }
+// Whether a place is named from one of the doubtful places on.
+fn is_among(place: u8, doubtful: [u8; 8], from: usize, doubt: usize) -> bool
+    requires { ⌜ doubt ≤ 8 ⌝ }
+    ensures { λ r. ⌜ r ≡ among place (drop from (take doubt doubtful)) ⌝ }
 {
-    if rate < 27 {
-        return none_near();
+    let mut i = from;
+    while i < doubt {
+        if doubtful[i] == place {
+            return true;
+        }
+        i += 1;
     }
-    if 49 < rate {
-        return none_near();
+    false
+}
+
+// Whether the doubtful places are different and below 64.
+fn are_places(doubtful: [u8; 8], doubt: usize) -> bool
+    requires { ⌜ doubt ≤ 8 ⌝ }
+    ensures { λ r. ⌜ r ≡ arePlaces (take doubt doubtful) ⌝ }
+{
+    let mut i = 0;
+    while i < doubt {
+        let place = doubtful[i];
+        if 64 <= place {
+            return false;
+        }
+        if is_among(place, doubtful, i + 1, doubt) {
+            return false;
+        }
+        i += 1;
+    }
+    true
+}
+
+// Whether the arguments are those of a session.
+fn asked(rate: usize, costs: &[u16], doubtful: [u8; 8], doubt: usize) -> bool
+    ensures { λ r. ⌜ r ≡ askedOf rate (now (costs .entry)) doubtful doubt ⌝ }
+{
+    if !known_rate(rate) {
+        return false;
+    }
+    if costs.len() != 1024 {
+        return false;
     }
     if 8 < doubt {
+        return false;
+    }
+    are_places(doubtful, doubt)
+}
+
+// The answer by a table of costs and a list of doubtful places. Arguments that no session has, find nothing.
+pub fn nearest(rate: usize, costs: &[u16], doubtful: [u8; 8], doubt: usize) -> Found
+    ensures { λ r. ⌜ NearestCall rate (now (costs .entry)) doubtful doubt r ⌝ }
+{
+    if !asked(rate, costs, doubtful, doubt) {
         return none_near();
     }
     let word = best_word(costs);

@@ -23,7 +23,7 @@ enum-told c = search needs
 
 returns : tie.Need-returns
 returns c =
-    answered-none _ _ _ _ (c .before .before .nearest .ensures (c .before .before .before .before .before .before .pre .asked)) _ _ (c .enum-told .given .1)
+    answered-none _ _ _ _ (c .before .before .nearest .ensures .asked (c .before .before .before .before .before .before .pre .asked)) _ _ (c .enum-told .given .1)
 
 slice-aggregate-copy : tie.Need-slice-aggregate-copy
 slice-aggregate-copy c = search needs
@@ -49,7 +49,7 @@ changed-requires c κs = search needs
 cast-report : tie.Need-cast-report
 cast-report c =
     let asked = c .before .before .before .before .before .before .before .before .before .before .before .before .before .before .before .before .before .before .before .before .before .pre .asked in
-    omega (arith, tests-few _ _ _ _ (c .before .before .before .before .before .before .before .before .before .before .before .before .before .before .before .before .before .nearest .ensures asked) (list-few asked))
+    omega (arith, tests-few _ _ _ _ (c .before .before .before .before .before .before .before .before .before .before .before .before .before .before .before .before .before .nearest .ensures .asked asked) (list-few asked))
 
 report-requires : tie.Need-report-requires
 report-requires c κs = search needs
@@ -63,7 +63,7 @@ same-length-2 c = search needs
 returns-2 : tie.Need-returns-2
 returns-2 c =
     let asked = c .before .before .before .before .before .before .before .before .before .before .before .before .before .before .before .before .before .before .before .before .before .before .before .before .pre .asked in
-    decoded-near _ _ _ _ (c .before .before .before .before .before .before .before .before .before .before .before .before .before .before .before .before .before .before .before .before .nearest .ensures asked) _ _ (c .before .before .before .before .before .before .before .before .before .before .before .before .before .before .before .before .before .before .answer .given .1) (c .before .before .before .before .before .before .before .before .before .before .before .before .before .before .before .before .before .before .before .before .before .before .before .before .pre .message-long) (found-room (c .before .before .before .before .before .before .before .before .before .before .before .before .before .before .before .before .before .before .before .before))
+    decoded-near _ _ _ _ (c .before .before .before .before .before .before .before .before .before .before .before .before .before .before .before .before .before .before .before .before .nearest .ensures .asked asked) _ _ (c .before .before .before .before .before .before .before .before .before .before .before .before .before .before .before .before .before .before .answer .given .1) (c .before .before .before .before .before .before .before .before .before .before .before .before .before .before .before .before .before .before .before .before .before .before .before .before .pre .message-long) (found-room (c .before .before .before .before .before .before .before .before .before .before .before .before .before .before .before .before .before .before .before .before))
     (rate-small _ (asked .known)) (c .before .before .before .before .before .before .before .before .before .before .before .before .before .copy .ensures) (c .before .before .before .before .before .before .before .before .before .codeword-of .ensures)
     (c .before .before .before .before .before .before .before .pinned .ensures) (c .before .before .before .before .before .changed .ensures) (c .before .before .report .ensures)
 
