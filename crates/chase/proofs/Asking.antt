@@ -2,7 +2,9 @@
 use mathlib.Core.Bool.{true, false, not, _&&_, and-false, false≢true}
 use mathlib.Core.Path.{_≡_, refl, sym, ap, _∙_}
 use mathlib.Core.List.{List, [], _∷_, List·Memᴰ, List·Memᴰ·head, List·Memᴰ·tail}
+use mathlib.Core.Logic.{_⊎_, ⊎-elim}
 use Prim.Native.Nat.{ℕ, _+_, _<_, _≤_}
+use native.Mathlib.Omega.{arith}
 use lib.Dec.{ltb, leb, eqb}
 use lib.ListN.{length, getD, take, drop}
 use borrow.Author.Tests.{eq-eqb, ne-eqb, eqb-true, lt-ltb, le-ltb, le-leb, lt-leb, leb-true}
@@ -12,7 +14,7 @@ use Rattle.near.specs.Tree.{Places, places-nil, places-cons, places-of}
 use Rattle.chase.specs.declared.Answer.the-variants.{NoneNear}
 use Rattle.chase.specs.declared.Found.{Found}
 use Rattle.chase.specs.Nearest.{Asked, arePlaces, askedOf, NearestCall}
-use Rattle.chase.proofs.Settling.{left-cons, left-none}
+use Rattle.chase.proofs.Settling.{known-range, left-cons, left-none}
 
 -- ---- a place among those from one of them on
 
@@ -99,9 +101,18 @@ module _ (rate : ℕ) (costs doubtful : List ℕ) (doubt : ℕ) where
       let t = places-test (A .places) in
       rw (A .known, eq-eqb (length costs) 1024 (A .size), le-leb doubt 8 (A .few), t .0, t .1)
 
-  -- arguments that do not pass find nothing
-  pub unasked : (f : Found) → askedOf rate costs doubtful doubt ≡ false → f .answer ≡ NoneNear → f .tests ≡ 0 → NearestCall rate costs doubtful doubt f
-  unasked f e none zero = record { asked = λ A. absurd (false≢true (sym e ∙ asked-is A)); refused = λ n. (none, zero) }
+  -- arguments that may not be asked find nothing
+  pub unasked : (f : Found) → ¬ Asked rate costs doubtful doubt → f .answer ≡ NoneNear → f .tests ≡ 0 → NearestCall rate costs doubtful doubt f
+  unasked f n none zero = record { asked = λ A. absurd (n A); refused = λ _. (none, zero) }
+
+  pub unasked-rate : rate < 27 ⊎ 49 < rate → ¬ Asked rate costs doubtful doubt
+  unasked-rate h A = let r = known-range rate (A .known) in ⊎-elim (λ a. omega arith) (λ a. omega arith) h
+
+  pub unasked-doubt : 8 < doubt → ¬ Asked rate costs doubtful doubt
+  unasked-doubt h A = omega (arith, A .few)
+
+  pub unasked-test : askedOf rate costs doubtful doubt ≡ false → ¬ Asked rate costs doubtful doubt
+  unasked-test e A = false≢true (sym e ∙ asked-is A)
 
   pub rate-refused : knownRate rate ≡ false → askedOf rate costs doubtful doubt ≡ false
   unfolding askedOf

@@ -513,10 +513,20 @@ fn asked(rate: usize, costs: &[u16], doubtful: [u8; 8], doubt: usize) -> bool
     are_places(doubtful, doubt)
 }
 
-// The answer by a table of costs and a list of doubtful places. Arguments that no session has, find nothing.
+// The answer by a table of costs and a list of doubtful places. Arguments that no session has, find nothing. The ranges of the rate and of
+// the doubt, which `asked` has to say too, stand first: so the compiler knows them in all that the search does.
 pub fn nearest(rate: usize, costs: &[u16], doubtful: [u8; 8], doubt: usize) -> Found
     ensures { λ r. ⌜ NearestCall rate (now (costs .entry)) doubtful doubt r ⌝ }
 {
+    if rate < 27 {
+        return none_near();
+    }
+    if 49 < rate {
+        return none_near();
+    }
+    if 8 < doubt {
+        return none_near();
+    }
     if !asked(rate, costs, doubtful, doubt) {
         return none_near();
     }

@@ -1,71 +1,87 @@
 -- The root of the tree: all settled places are decided.
 use mathlib.Core.Path.{sym, _∙_}
+use mathlib.Core.Logic.{inl, inr}
 use borrow.Author.Tests.{not-true, not-false}
 use Rattle.chase.specs.Nearest.{Asked}
-use Rattle.chase.specs.Searching.{Ranged}
 use Rattle.chase.proofs.Governing.{sound-none}
 use Rattle.chase.proofs.Descending.{limit-is}
 use Rattle.chase.proofs.Settling.{known-range, root}
-use Rattle.chase.proofs.Asking.{asked-yes, unasked}
+use Rattle.chase.proofs.Asking.{asked-yes, unasked, unasked-rate, unasked-doubt, unasked-test}
 use borrow.Author.Needs.{needs}
 use Rattle.chase.proofs.nearest.Statement.{statement}
 use Rattle.chase.proofs.nearest.Tie as tie
-
-asked-requires : tie.Need-asked-requires
-asked-requires c κs = search needs
 
 none-near-requires : tie.Need-none-near-requires
 none-near-requires c κs = search needs
 
 returns : tie.Need-returns
-returns c =
-    unasked _ _ _ _ _ (sym (c .before .before .asked .ensures) ∙ not-true _ (c .before .if1 .taken)) (c .none-near .ensures .0) (c .none-near .ensures .1)
+returns c = unasked _ _ _ _ _ (unasked-rate _ _ _ _ (inl (c .before .if1 .taken))) (c .none-near .ensures .0) (c .none-near .ensures .1)
+
+none-near-requires-2 : tie.Need-none-near-requires-2
+none-near-requires-2 c κs = search needs
+
+returns-2 : tie.Need-returns-2
+returns-2 c = unasked _ _ _ _ _ (unasked-rate _ _ _ _ (inr (c .before .if2 .taken))) (c .none-near2 .ensures .0) (c .none-near2 .ensures .1)
+
+none-near-requires-3 : tie.Need-none-near-requires-3
+none-near-requires-3 c κs = search needs
+
+returns-3 : tie.Need-returns-3
+returns-3 c = unasked _ _ _ _ _ (unasked-doubt _ _ _ _ (c .before .if3 .taken)) (c .none-near3 .ensures .0) (c .none-near3 .ensures .1)
+
+asked-requires : tie.Need-asked-requires
+asked-requires c κs = search needs
+
+none-near-requires-4 : tie.Need-none-near-requires-4
+none-near-requires-4 c κs = search needs
+
+returns-4 : tie.Need-returns-4
+returns-4 c =
+    unasked _ _ _ _ _ (unasked-test _ _ _ _ (sym (c .before .before .asked .ensures) ∙ not-true _ (c .before .if4 .taken))) (c .none-near4 .ensures .0)
+    (c .none-near4 .ensures .1)
 
 -- past the test the arguments are those of a session
-may-ask : (c : tie.Else1)
-    → Asked (c .before .before .before .args .rate) (c .before .before .before .args .costs .now) (c .before .before .before .args .doubtful) (c .before .before .before .args .doubt)
-may-ask c = asked-yes _ _ _ _ (sym (c .before .asked .ensures) ∙ not-false _ (c .if1 .left))
-
-in-range : (c : tie.Else1) → Ranged (c .before .before .before .args .rate)
-in-range c = known-range _ (may-ask c .known)
+may-ask : (c : tie.Else4)
+    → Asked (c .before .before .before .before .before .before .args .rate) (c .before .before .before .before .before .before .args .costs .now) (c .before .before .before .before .before .before .args .doubtful) (c .before .before .before .before .before .before .args .doubt)
+may-ask c = asked-yes _ _ _ _ (sym (c .before .asked .ensures) ∙ not-false _ (c .if4 .left))
 
 best-word-requires : tie.Need-best-word-requires
 best-word-requires c κs = search needs
 
 add-m : tie.Need-add-m
-add-m c = let r = in-range (c .before) in search needs
+add-m c = search needs
 
 sub-limit : tie.Need-sub-limit
-sub-limit c = let r = in-range (c .before) in search needs
+sub-limit c = search needs
 
 add-limit : tie.Need-add-limit
-add-limit c = let r = in-range (c .before) in search needs
+add-limit c = search needs
 
 add-limit-2 : tie.Need-add-limit-2
-add-limit-2 c = let r = in-range (c .before) in search needs
+add-limit-2 c = search needs
 
 mul-limit : tie.Need-mul-limit
-mul-limit c = let r = in-range (c .before) in search needs
+mul-limit c = search needs
 
 add-limit-3 : tie.Need-add-limit-3
-add-limit-3 c = let r = in-range (c .before) in search needs
+add-limit-3 c = search needs
 
 settled-places-requires : tie.Need-settled-places-requires
 settled-places-requires c κs = may-ask (c .before) .few
 
 settle-requires : tie.Need-settle-requires
-settle-requires c κs = let r = in-range (c .before .before .before) in search needs
+settle-requires c κs = search needs
 
-none-near-requires-2 : tie.Need-none-near-requires-2
-none-near-requires-2 c κs = search needs
+none-near-requires-5 : tie.Need-none-near-requires-5
+none-near-requires-5 c κs = search needs
 
 search-requires : tie.Need-search-requires
 search-requires c κs =
     let a = may-ask (c .before .before .before .before .before) in
-    (in-range (c .before .before .before .before .before), a .few, search needs, sound-none _ (c .none-near2 .ensures .0))
+    (known-range _ (a .known), a .few, search needs, sound-none _ (c .none-near5 .ensures .0))
 
-returns-2 : tie.Need-returns-2
-returns-2 c =
+returns-5 : tie.Need-returns-5
+returns-5 c =
     let a = may-ask (c .before .before .before .before .before .before) in
     root _ _ _ _ _ _ _ _ _ _ a (c .before .before .before .before .before .best-word .ensures) (c .before .before .before .before .settled-places .ensures)
     (limit-is (known-range _ (a .known))) (c .before .before .settle .ensures) (c .search .ensures .0)
@@ -74,9 +90,15 @@ pub nearest-spec : {M : Type 1} → statement M
 nearest-spec =
     tie.close
     (tie.spec
-    asked-requires
     none-near-requires
     returns
+    none-near-requires-2
+    returns-2
+    none-near-requires-3
+    returns-3
+    asked-requires
+    none-near-requires-4
+    returns-4
     best-word-requires
     add-m
     sub-limit
@@ -86,6 +108,6 @@ nearest-spec =
     add-limit-3
     settled-places-requires
     settle-requires
-    none-near-requires-2
+    none-near-requires-5
     search-requires
-    returns-2)
+    returns-5)
