@@ -1,72 +1,83 @@
 -- What may be asked: the loops that test the doubtful places, and that the test decides it.
-use mathlib.Core.Bool.{true, false, not, _&&_, and-false, false≢true}
-use mathlib.Core.Path.{_≡_, refl, sym, ap, _∙_}
-use mathlib.Core.List.{List, [], _∷_, List·Memᴰ, List·Memᴰ·head, List·Memᴰ·tail}
+use mathlib.Core.Bool.{Bool, true, false, not, _&&_, false≢true}
+use mathlib.Core.Path.{_≡_, refl, sym, ap, ap₂, _∙_, subst}
+use mathlib.Core.List.{List, [], _∷_, _++_, List·Memᴰ, List·Memᴰ·head, List·Memᴰ·tail}
 use mathlib.Core.Logic.{_⊎_, ⊎-elim}
 use Prim.Native.Nat.{ℕ, _+_, _<_, _≤_}
+use native.Mathlib.Nat.{mod-eq-of-lt}
+use native.Mathlib.Numerals.{add-one}
 use native.Mathlib.Omega.{arith}
 use lib.Dec.{ltb, leb, eqb}
-use lib.ListN.{length, getD, take, drop}
-use borrow.Author.Tests.{eq-eqb, ne-eqb, eqb-true, lt-ltb, le-ltb, le-leb, lt-leb, leb-true}
-use Rattle.lists.specs.Distinct.{among, below, distinct, and-left, and-right, and-both}
+use lib.ListN.{length, getD, take, drop, set, length-take, take-append-drop}
+use lib.Seq.{getD-take, take-suc, take-take}
+use borrow.Author.Tests.{eq-eqb, ne-eqb, eqb-true, lt-ltb, le-leb, lt-leb, leb-true}
+use Rattle.lists.specs.Distinct.{among, among-member, below, below-append, below-one, below-at, distinct, distinct-snoc, distinct-before, and-left, and-right, and-both}
 use Rattle.code.specs.Encoding.{knownRate}
 use Rattle.near.specs.Tree.{Places, places-nil, places-cons, places-of}
 use Rattle.chase.specs.declared.Answer.the-variants.{NoneNear}
 use Rattle.chase.specs.declared.Found.{Found}
 use Rattle.chase.specs.Nearest.{Asked, arePlaces, askedOf, NearestCall}
-use Rattle.chase.proofs.Settling.{known-range, left-cons, left-none}
+use Rattle.chase.specs.Searching.{Flagged}
+use Rattle.chase.proofs.Settling.{known-range, left-cons, flag-turn}
 
--- ---- a place among those from one of them on
-
-module _ (p : ℕ) (doubtful : List ℕ) (doubt i : ℕ) where
-  pub among-end : doubt ≤ i → among p (drop i (take doubt doubtful)) ≡ false
-  unfolding among
-  among-end h = ap (among p) (left-none doubtful doubt i h)
-
-  module _ (eight : length doubtful ≡ 8) (few : doubt ≤ 8) (h : i < doubt) where
-    pub among-here : getD doubtful i 0 ≡ p → among p (drop i (take doubt doubtful)) ≡ true
-    unfolding among
-    among-here e = ap (among p) (left-cons doubtful doubt i eight few h) ∙ rw (eq-eqb (getD doubtful i 0) p e)
-
-    pub among-next : (getD doubtful i 0 ≡ p → ⊥) → among p (drop i (take doubt doubtful)) ≡ among p (drop (i + 1) (take doubt doubtful))
-    unfolding among
-    among-next n = ap (among p) (left-cons doubtful doubt i eight few h) ∙ rw (ne-eqb (getD doubtful i 0) p n)
-
--- ---- the places from one of them on
-
-module _ (doubtful : List ℕ) (doubt i : ℕ) where
-  pub places-end : doubt ≤ i → arePlaces (drop i (take doubt doubtful)) ≡ true
-  unfolding arePlaces below distinct
-  places-end h = ap arePlaces (left-none doubtful doubt i h)
-
-  module _ (eight : length doubtful ≡ 8) (few : doubt ≤ 8) (h : i < doubt) where
-    abbrev x : ℕ
-    x = getD doubtful i 0
-
-    abbrev rest : List ℕ
-    rest = drop (i + 1) (take doubt doubtful)
-
-    here : arePlaces (drop i (take doubt doubtful)) ≡ arePlaces (x ∷ rest)
-    here = ap arePlaces (left-cons doubtful doubt i eight few h)
-
-    pub places-above : 64 ≤ x → arePlaces (drop i (take doubt doubtful)) ≡ false
-    unfolding arePlaces below
-    places-above a = here ∙ rw (le-ltb x 64 a)
-
-    pub places-again : among x rest ≡ true → arePlaces (drop i (take doubt doubtful)) ≡ false
-    unfolding arePlaces distinct
-    places-again a = here ∙ rw a (and-false (below 64 (x ∷ rest)))
-
-    pub places-next : x < 64 → among x rest ≡ false → arePlaces (drop i (take doubt doubtful)) ≡ arePlaces rest
-    unfolding arePlaces below distinct
-    places-next a n = here ∙ rw (lt-ltb x 64 a, n)
-
--- ---- the test decides
+-- ---- the loop that names one place after the other
 
 not-among : (p : ℕ) (ps : List ℕ) → ¬ List·Memᴰ p ps → among p ps ≡ false
 unfolding among
 not-among p [] n = refl
 not-among p (q ∷ ps) n = rw (ne-eqb q p (λ e. n (List·Memᴰ·head (sym e)))) (not-among p ps (λ m. n (List·Memᴰ·tail m)))
+
+fails : (b : Bool) → (b ≡ true → ⊥) → b ≡ false
+fails true n = absurd (n refl)
+fails false n = refl
+
+module _ (doubtful : List ℕ) (i : ℕ) where
+  abbrev x : ℕ
+  x = getD doubtful i 0
+
+  abbrev l : List ℕ
+  l = take i doubtful
+
+  pub places-turn : (flags : List ℕ) → i < length doubtful → x < 64 → (getD flags x 0 ≡ 0 → ⊥) → Flagged (take i doubtful) flags → arePlaces (take i doubtful) ≡ true
+      → Flagged (take (i + 1) doubtful) (set flags x 0) × (arePlaces (take (i + 1) doubtful) ≡ true)
+  unfolding arePlaces
+  places-turn flags h small fresh F e = (
+    subst (λ y. Flagged (take (i + 1) doubtful) (set flags y 0)) (mod-eq-of-lt small) (flag-turn doubtful flags i h small F),
+    ap arePlaces (ap (λ n. take n doubtful) (add-one i) ∙ take-suc doubtful i 0 h)
+        ∙ and-both (below 64 (l ++ (x ∷ []))) (distinct (l ++ (x ∷ [])))
+        (below-append 64 l (x ∷ []) ∙ and-both (below 64 l) (below 64 (x ∷ [])) (and-left (below 64 l) (distinct l) e) (below-one 64 x small))
+        (distinct-snoc l x (and-right (below 64 l) (distinct l) e) (not-among x l (λ m. fresh (F .off x m)))),
+  )
+
+  module _ (doubt : ℕ) (eight : length doubtful ≡ 8) (few : doubt ≤ 8) (h : i < doubt) where
+    pub places-above : 64 ≤ x → arePlaces (take doubt doubtful) ≡ false
+    unfolding arePlaces
+    places-above a =
+        fails (arePlaces (take doubt doubtful))
+        (λ e.
+        omega (
+          arith,
+          below-at 64 (take doubt doubtful) i (and-left (below 64 (take doubt doubtful)) (distinct (take doubt doubtful)) e)
+              (omega (arith, length-take doubt doubtful)),
+          getD-take doubt doubtful i 0 h,
+        ))
+
+    -- the place stands behind those that are named
+    split : take doubt doubtful ≡ take i doubtful ++ (x ∷ drop (i + 1) (take doubt doubtful))
+    split =
+        sym (take-append-drop i (take doubt doubtful))
+        ∙ ap₂ (λ a b. a ++ b) (take-take i doubt doubtful (omega arith)) (left-cons doubtful doubt i eight few h)
+
+    pub places-again : (flags : List ℕ) → x < 64 → getD flags x 0 ≡ 0 → Flagged (take i doubtful) flags → arePlaces (take doubt doubtful) ≡ false
+    unfolding arePlaces
+    places-again flags small named F =
+        fails (arePlaces (take doubt doubtful))
+        (λ e.
+        let d = subst (λ m. distinct m ≡ true) split (and-right (below 64 (take doubt doubtful)) (distinct (take doubt doubtful)) e) in
+        let n = distinct-before (take i doubtful) x (drop (i + 1) (take doubt doubtful)) d in
+        omega (arith, named, F .on x small (λ m. false≢true (sym n ∙ among-member m))))
+
+-- ---- the test decides
 
 places-test : {ps : List ℕ} → Places ps → (below 64 ps ≡ true) × (distinct ps ≡ true)
 unfolding below distinct

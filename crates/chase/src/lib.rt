@@ -7,7 +7,6 @@ ghost use lib.ListN.{length, take, drop};
 ghost use lib.Dec.{leb};
 ghost use Rattle.lists.specs.Count.{bit};
 ghost use Rattle.lists.specs.Words.{isBefore};
-ghost use Rattle.lists.specs.Distinct.{among};
 ghost use Rattle.lists.specs.Listed.{listed};
 ghost use Rattle.hermitian.specs.Orders.{orderOf};
 ghost use Rattle.basis.specs.Choice.{leadAt};
@@ -463,35 +462,22 @@ fn settled_places(doubtful: [u8; 8], doubt: usize) -> [u8; 64]
     out
 }
 
-// Whether a place is named from one of the doubtful places on.
-fn is_among(place: u8, doubtful: [u8; 8], from: usize, doubt: usize) -> bool
-    requires { ⌜ doubt ≤ 8 ⌝ }
-    ensures { λ r. ⌜ r ≡ among place (drop from (take doubt doubtful)) ⌝ }
-{
-    let mut i = from;
-    while i < doubt {
-        if doubtful[i] == place {
-            return true;
-        }
-        i += 1;
-    }
-    false
-}
-
-// Whether the doubtful places are different and below 64.
+// Whether the doubtful places are different and below 64. A flag of 1 for the places not named so far.
 fn are_places(doubtful: [u8; 8], doubt: usize) -> bool
     requires { ⌜ doubt ≤ 8 ⌝ }
     ensures { λ r. ⌜ r ≡ arePlaces (take doubt doubtful) ⌝ }
 {
+    let mut unnamed = [1u8; 64];
     let mut i = 0;
     while i < doubt {
-        let place = doubtful[i];
+        let place = doubtful[i] as usize;
         if 64 <= place {
             return false;
         }
-        if is_among(place, doubtful, i + 1, doubt) {
+        if unnamed[place] == 0 {
             return false;
         }
+        unnamed[place] = 0;
         i += 1;
     }
     true

@@ -1,44 +1,54 @@
--- The loop's invariant: the list passes the test exactly if what is left of it does.
-use mathlib.Core.Path.{_≡_, refl, sym, _∙_}
+-- The loop's invariant: the places so far pass the test, and their flags are 0.
+use mathlib.Core.Bool.{true}
+use mathlib.Core.Path.{_≡_, refl, sym, ap, _∙_}
 use Prim.Native.Nat.{_-_, _<_, _≤_}
-use lib.ListN.{length, take, drop}
+use native.Mathlib.Omega.{arith}
+use lib.ListN.{length, take}
+use Rattle.lists.specs.Distinct.{below, distinct}
 use Rattle.chase.specs.Nearest.{arePlaces}
-use Rattle.chase.proofs.Asking.{places-end, places-above, places-again, places-next}
+use Rattle.chase.specs.Searching.{Flagged}
+use Rattle.chase.proofs.Settling.{flag-start}
+use Rattle.chase.proofs.Asking.{places-turn, places-above, places-again}
 use borrow.Author.Needs.{needs}
 use Rattle.chase.proofs.are_places.Statement.{statement}
 use Rattle.chase.proofs.are_places.Tie as tie
 
 abbrev Inv-loop : tie.InvT-loop
-Inv-loop doubt doubtful i₀ i = (length doubtful ≡ 8) × (arePlaces (take doubt doubtful) ≡ arePlaces (drop i (take doubt doubtful)))
+Inv-loop doubt doubtful unnamed₀ i₀ unnamed i =
+    (i ≤ doubt) × (length doubtful ≡ 8) × (length unnamed ≡ 64) × Flagged (take i doubtful) unnamed × (arePlaces (take i doubtful) ≡ true)
 
 abbrev μ-loop : tie.MeasureT-loop
-μ-loop doubt doubtful i₀ i = doubt - i
+μ-loop doubt doubtful unnamed₀ i₀ unnamed i = doubt - i
 
 loop-holds : tie.Need-loop-holds Inv-loop μ-loop
-loop-holds c = (search needs, refl)
+unfolding arePlaces below distinct
+loop-holds c = (search needs, search needs, search needs, flag-start (c .args .t1), refl)
 
 array-read-place : tie.Need-array-read-place Inv-loop μ-loop
 array-read-place c = search needs
+
+cast-place : tie.Need-cast-place Inv-loop μ-loop
+cast-place c = search needs
 
 returns : tie.Need-returns Inv-loop μ-loop
 returns c =
     let i = c .before .before .loop .inv in
     let h : c .before .before .before .args .doubt ≤ 8 = search needs in
     let b : c .before .before .loop .i < c .before .before .before .args .doubt = search needs in
-    sym (i .1 ∙ places-above _ _ _ (i .0) h b (c .if1 .taken))
+    sym (places-above _ _ _ (i .1) h b (c .if1 .taken))
 
-add-is-among : tie.Need-add-is-among Inv-loop μ-loop
-add-is-among c = search needs
-
-is-among-requires : tie.Need-is-among-requires Inv-loop μ-loop
-is-among-requires c κs = search needs
+array-read-if2 : tie.Need-array-read-if2 Inv-loop μ-loop
+array-read-if2 c = search needs
 
 returns-2 : tie.Need-returns-2 Inv-loop μ-loop
 returns-2 c =
-    let i = c .before .before .before .before .loop .inv in
-    let h : c .before .before .before .before .before .args .doubt ≤ 8 = search needs in
-    let b : c .before .before .before .before .loop .i < c .before .before .before .before .before .args .doubt = search needs in
-    sym (i .1 ∙ places-again _ _ _ (i .0) h b (sym (c .before .is-among .ensures) ∙ c .if2 .taken))
+    let i = c .before .before .before .loop .inv in
+    let h : c .before .before .before .before .args .doubt ≤ 8 = search needs in
+    let b : c .before .before .before .loop .i < c .before .before .before .before .args .doubt = search needs in
+    sym (places-again _ _ _ (i .1) h b _ (c .before .if1 .left) (c .if2 .taken) (i .3))
+
+array-write-unnamed : tie.Need-array-write-unnamed Inv-loop μ-loop
+array-write-unnamed c = search needs
 
 add-i : tie.Need-add-i Inv-loop μ-loop
 add-i c = search needs
@@ -48,15 +58,18 @@ loop-less c = search needs
 
 loop-again : tie.Need-loop-again Inv-loop μ-loop
 loop-again c =
-    let i = c .before .before .before .before .loop .inv in
-    let h : c .before .before .before .before .before .args .doubt ≤ 8 = search needs in
-    let b : c .before .before .before .before .loop .i < c .before .before .before .before .before .args .doubt = search needs in
-    (i .0, i .1 ∙ places-next _ _ _ (i .0) h b (c .before .before .if1 .left) (sym (c .before .is-among .ensures) ∙ c .if2 .left))
+    let i = c .before .before .before .loop .inv in
+    let h : c .before .before .before .before .args .doubt ≤ 8 = search needs in
+    let b : c .before .before .before .loop .i < c .before .before .before .before .args .doubt = search needs in
+    let n : c .before .before .before .loop .i < length (c .before .before .before .before .args .t1) = omega (arith, i .1) in
+    let t = places-turn _ _ _ n (c .before .if1 .left) (c .if2 .left) (i .3) (i .4) in
+    (search needs, i .1, search needs, t .0, t .1)
 
 returns-3 : tie.Need-returns-3 Inv-loop μ-loop
 returns-3 c =
-    let h : c .before .before .args .doubt ≤ c .before .loop .i = search needs in
-    sym (c .before .loop .inv .1 ∙ places-end _ _ _ h)
+    let i = c .before .loop .inv in
+    let e : c .before .loop .i ≡ c .before .before .args .doubt = omega arith in
+    sym (ap (λ n. arePlaces (take n (c .before .before .args .t1))) (sym e) ∙ i .4)
 
 pub are-places-spec : {M : Type 1} → statement M
 are-places-spec =
@@ -66,10 +79,11 @@ are-places-spec =
     μ-loop
     loop-holds
     array-read-place
+    cast-place
     returns
-    add-is-among
-    is-among-requires
+    array-read-if2
     returns-2
+    array-write-unnamed
     add-i
     loop-less
     loop-again
