@@ -13,7 +13,8 @@ use Rattle.lists.specs.Listed.{listed, listed-length}
 use Rattle.lists.specs.Filled.{Filled}
 use Rattle.hermitian.specs.Present.{genus}
 use Rattle.hermitian.specs.Orders.{orderOf, orderOf-large, isPresent, presents}
-use Rattle.code.specs.Encoding.{encodeOf, encode-beyond}
+use Rattle.code.specs.Encoding.{encodeOf}
+use Rattle.code.specs.Evaluation.{encode-beyond}
 use Rattle.near.specs.Reach.{genus-4}
 
 ordered : ℕ → ℕ

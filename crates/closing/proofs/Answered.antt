@@ -17,7 +17,8 @@ use Rattle.lists.specs.Over.{over, over-short}
 use Rattle.soft.specs.TestWord.{testWords}
 use Rattle.soft.specs.TestWordLaws.{testWords-count}
 use Rattle.soft.specs.Total.{totalOf, pinnedOf, changedOf, reportOf}
-use Rattle.code.specs.Encoding.{encodeOf, encode-beyond}
+use Rattle.code.specs.Encoding.{encodeOf}
+use Rattle.code.specs.Evaluation.{encode-beyond}
 use Rattle.near.specs.Near.{isSome, codewordNear, testsNear, messageCost}
 use Rattle.near.specs.Laws.{tests-nil, tests-cons}
 use Rattle.book.specs.Closing.{refusedClosing, reportFor, decodeOf}

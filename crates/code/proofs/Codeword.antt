@@ -6,8 +6,8 @@ use native.Mathlib.Omega.{arith}
 use lib.ListN.{length}
 use Rattle.lists.specs.Listed.{listed, listed-ext}
 use Rattle.lists.specs.Over.{over, over-same}
-use Rattle.code.specs.Encoding.{encodeOf, encode-beyond}
-use Rattle.code.specs.Evaluation.{valueOf, functionOf, function-value}
+use Rattle.code.specs.Encoding.{encodeOf}
+use Rattle.code.specs.Evaluation.{valueOf, functionOf, function-value, encode-beyond}
 use Rattle.code.proofs.Answers.{encode-length}
 
 pub values-of : (m : List ℕ) {f v : List ℕ} → f ≡ functionOf m → v ≡ listed 64 (valueOf f) → v ≡ encodeOf 58 m

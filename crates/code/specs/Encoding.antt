@@ -4,24 +4,21 @@
 --   term m p t       what message symbol t adds at place p: it multiplies the t-th lowest present order
 --   valueAt k m p    the value at place p of the function of a message of k symbols
 --   encodeOf k m     the codeword: that function's value at each of the 64 places
---   encode-beyond    symbols that a message does not have add nothing: the codeword is the same for every k from its length on
 --   knownRate k      rate 39 or 49
 --   encodesTo k v m  m encodes to the word v, as a test
 --   readBackOf k v   the first message of k symbols that encodes to v, or none
 use mathlib.Core.Bool.{Bool, _||_}
 use mathlib.Core.List.{List}
 use mathlib.Core.Option.{Option}
-use mathlib.Core.Path.{_≡_, sym, ap, _∙_}
-use Prim.Native.Nat.{ℕ, _≤_}
+use Prim.Native.Nat.{ℕ}
 use lib.Dec.{eqb}
-use lib.ListN.{length, getD, List·getD-eq-default}
-use Rattle.lists.specs.Listed.{listed, listed-ext}
-use Rattle.lists.specs.XorSum.{xorSum, xorSum-more}
+use lib.ListN.{getD}
+use Rattle.lists.specs.Listed.{listed}
+use Rattle.lists.specs.XorSum.{xorSum}
 use Rattle.lists.specs.Words.{words}
 use Rattle.lists.specs.Answers.{firstThat}
 use Rattle.lists.specs.Same.{same}
 use Rattle.galois.specs.Gf16.{times}
-use Rattle.galois.specs.Field16.{times-comm, times-zero}
 use Rattle.hermitian.specs.Orders.{xPower, yPower, orderOf}
 use Rattle.code.specs.Curve.{power, xOf, yOf}
 
@@ -36,18 +33,6 @@ valueAt k m p = xorSum k (term m p)
 
 unfoldable pub encodeOf : ℕ → List ℕ → List ℕ
 encodeOf k m = listed 64 (valueAt k m)
-
-term-beyond : (m : List ℕ) (p t : ℕ) → length m ≤ t → term m p t ≡ 0
-unfolding term
-term-beyond m p t h = ap (λ x. times x (monomial (orderOf 4 t) p)) (List·getD-eq-default m 0 h) ∙ times-comm 0 _ ∙ times-zero _
-
-value-beyond : (k : ℕ) (m : List ℕ) (p : ℕ) → length m ≤ k → valueAt k m p ≡ valueAt (length m) m p
-unfolding valueAt
-value-beyond k m p h = xorSum-more (length m) k (term m p) h (λ t a b. term-beyond m p t a)
-
-pub encode-beyond : (k n : ℕ) (m : List ℕ) → length m ≤ k → length m ≤ n → encodeOf k m ≡ encodeOf n m
-unfolding encodeOf
-encode-beyond k n m h l = listed-ext 64 _ _ (λ p _. value-beyond k m p h ∙ sym (value-beyond n m p l))
 
 unfoldable pub knownRate : ℕ → Bool
 knownRate k = eqb k 39 || eqb k 49

@@ -7,6 +7,7 @@
 --   coefficientOf m o    the coefficient of order o in the function of message m: symbol t at the t-th present order
 --   functionOf m         all 64 of them
 --   function-value       its value is that of the message's first 58 symbols (document 01's sum over message symbols)
+--   encode-beyond        symbols that a message does not have add nothing: the codeword is the same for every k from its length on
 --   nextOf, monomial-start, monomial-y, monomial-next, monomial-x4   how each monomial comes from an earlier one
 --   Held n p out         out has the monomials of place p of the orders below n, and zeros after them
 --   Starts n y out       so it is at every place with this y
@@ -18,17 +19,17 @@ use Prim.Native.Nat.{ℕ, zero, suc, _-_, _/_, _%_, _<_, _≤_}
 use native.Mathlib.Omega.{arith}
 use lib.Dec.{leb, lit<, lit≤}
 use lib.Bits.{bitXor, xor-zero-r}
-use lib.ListN.{getD, replicate}
+use lib.ListN.{length, getD, replicate, List·getD-eq-default}
 use borrow.Author.Tests.{le-leb, lt-leb, leb-true, leb-false}
-use Rattle.lists.specs.Listed.{listed, listed-at}
+use Rattle.lists.specs.Listed.{listed, listed-at, listed-ext}
 use Rattle.lists.specs.Filled.{Filled}
-use Rattle.lists.specs.XorSum.{xorSum, xorSum-nil, xorSum-suc, xorSum-ext}
+use Rattle.lists.specs.XorSum.{xorSum, xorSum-nil, xorSum-suc, xorSum-ext, xorSum-more}
 use Rattle.galois.specs.Gf16.{times}
-use Rattle.galois.specs.Field16.{times-comm, times-assoc, times-one}
+use Rattle.galois.specs.Field16.{times-comm, times-assoc, times-zero, times-one}
 use Rattle.hermitian.specs.Present.{Present, decPresent, genus}
-use Rattle.hermitian.specs.Orders.{isPresent, rank, rank-nil, rank-yes, rank-no, rank-large, orderOf-rank}
+use Rattle.hermitian.specs.Orders.{isPresent, rank, rank-nil, rank-yes, rank-no, rank-large, orderOf, orderOf-rank}
 use Rattle.code.specs.Curve.{power, power-suc, xOf, yOf}
-use Rattle.code.specs.Encoding.{monomial, term, valueAt}
+use Rattle.code.specs.Encoding.{monomial, term, valueAt, encodeOf}
 
 unfoldable pub monomialAt : ℕ → ℕ → ℕ
 monomialAt p o = monomial o p
@@ -89,6 +90,19 @@ function-value m p =
     xorSum-ext 64 _ _ (λ o l. ap (λ x. ifPresent (isPresent 4 o) (times x (monomial o p))) (listed-at 64 o (coefficientOf m) 0 l))
     ∙ by-rank m p 64
     ∙ ap (λ k. xorSum k (term m p)) (omega (arith, rank-large 4 (lit≤ tt) 64 (lit≤ tt)))
+
+-- ---- a message that is shorter than the code takes
+term-beyond : (m : List ℕ) (p t : ℕ) → length m ≤ t → term m p t ≡ 0
+unfolding term
+term-beyond m p t h = ap (λ x. times x (monomial (orderOf 4 t) p)) (List·getD-eq-default m 0 h) ∙ times-comm 0 _ ∙ times-zero _
+
+value-beyond : (k : ℕ) (m : List ℕ) (p : ℕ) → length m ≤ k → valueAt k m p ≡ valueAt (length m) m p
+unfolding valueAt
+value-beyond k m p h = xorSum-more (length m) k (term m p) h (λ t a b. term-beyond m p t a)
+
+pub encode-beyond : (k n : ℕ) (m : List ℕ) → length m ≤ k → length m ≤ n → encodeOf k m ≡ encodeOf n m
+unfolding encodeOf
+encode-beyond k n m h l = listed-ext 64 _ _ (λ p _. value-beyond k m p h ∙ sym (value-beyond n m p l))
 
 -- ---- the monomials of a place, one after another
 pub monomial-start : (p : ℕ) → monomialAt p 0 ≡ 1

@@ -23,7 +23,7 @@ use galois::inverse;
 use galois::product;
 
 // The coefficient of a row at a key within the limit.
-pub fn coefficient(row: Row, key: usize, m: usize) -> u8
+fn coefficient(row: Row, key: usize, m: usize) -> u8
     requires { ⌜ (key ≤ 127) × (32 ≤ m) ⌝ }
     ensures { λ r. ⌜ toF r ≡ polynomial m (coef row) key ⌝ }
 {
@@ -75,14 +75,14 @@ fn field_equation() -> [u8; READING]
 }
 
 // The class of least lead: every class counts.
-pub fn lowest(leads: Leads) -> usize
+fn lowest(leads: Leads) -> usize
     ensures { λ r. ⌜ Lowest leads r ⌝ }
 {
     basis::step::choice([1; CLASSES], leads)
 }
 
 // The row of least lead, divided by its leading coefficient; where all classes are spent, x^16 + x.
-pub fn interpolant(rows: Rows, leads: Leads, m: usize) -> [u8; READING]
+fn interpolant(rows: Rows, leads: Leads, m: usize) -> [u8; READING]
     requires { ⌜ 32 ≤ m ⌝ }
     ensures { λ r. ⌜ Interpolated m rows leads r ⌝ }
 {

@@ -6,7 +6,8 @@ use native.Mathlib.Omega.{arith}
 use lib.ListN.{length, take}
 use borrow.Author.Tests.{not-true, not-false}
 use Rattle.lists.specs.Over.{over-same}
-use Rattle.code.specs.Encoding.{knownRate, encodeOf, encode-beyond}
+use Rattle.code.specs.Encoding.{knownRate, encodeOf}
+use Rattle.code.specs.Evaluation.{encode-beyond}
 use Rattle.code.specs.Extraction.{extractOf}
 use Rattle.code.specs.Calls.{outcome}
 use denote.Ref.{now}
