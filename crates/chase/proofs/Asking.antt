@@ -1,4 +1,4 @@
--- What may be asked: the loops that test the doubtful places, and that the test decides it.
+-- What may be asked: the loop that tests the doubtful places, and that the test decides it.
 use mathlib.Core.Bool.{Bool, true, false, not, _&&_, false≢true}
 use mathlib.Core.Path.{_≡_, refl, sym, ap, ap₂, _∙_, subst}
 use mathlib.Core.List.{List, [], _∷_, _++_, List·Memᴰ, List·Memᴰ·head, List·Memᴰ·tail}

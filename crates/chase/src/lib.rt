@@ -483,7 +483,7 @@ fn are_places(doubtful: [u8; 8], doubt: usize) -> bool
     true
 }
 
-// Whether the arguments are those of a session.
+// Whether the search may be asked: for a known rate, with 1,024 costs and at most eight doubtful places, different and below 64.
 fn asked(rate: usize, costs: &[u16], doubtful: [u8; 8], doubt: usize) -> bool
     ensures { λ r. ⌜ r ≡ askedOf rate (now (costs .entry)) doubtful doubt ⌝ }
 {
@@ -500,7 +500,7 @@ fn asked(rate: usize, costs: &[u16], doubtful: [u8; 8], doubt: usize) -> bool
 }
 
 // The answer by a table of costs and a list of doubtful places. Arguments that no session has, find nothing. The ranges of the rate and of
-// the doubt, which `asked` has to say too, stand first: so the compiler knows them in all that the search does.
+// the doubt follow from `asked`; they stand first so that the compiler knows them in all that the search does.
 pub fn nearest(rate: usize, costs: &[u16], doubtful: [u8; 8], doubt: usize) -> Found
     ensures { λ r. ⌜ NearestCall rate (now (costs .entry)) doubtful doubt r ⌝ }
 {
