@@ -13,11 +13,13 @@ use lib.Seq.{getD-take, take-suc, take-take}
 use borrow.Author.Tests.{eq-eqb, ne-eqb, eqb-true, lt-ltb, le-leb, lt-leb, leb-true}
 use Rattle.lists.specs.Distinct.{among, among-member, below, below-append, below-one, below-at, distinct, distinct-snoc, distinct-before, and-left, and-right, and-both}
 use Rattle.code.specs.Encoding.{knownRate}
+use Rattle.soft.specs.Column.{columnOf}
 use Rattle.near.specs.Tree.{Places, places-nil, places-cons, places-of}
 use Rattle.chase.specs.declared.Answer.the-variants.{NoneNear}
 use Rattle.chase.specs.declared.Found.{Found}
 use Rattle.chase.specs.Nearest.{Asked, arePlaces, askedOf, NearestCall}
 use Rattle.chase.specs.Searching.{Flagged}
+use Rattle.chase.proofs.Governing.{sound-none}
 use Rattle.chase.proofs.Settling.{known-range, left-cons, flag-turn}
 
 -- ---- the loop that names one place after the other
@@ -114,7 +116,12 @@ module _ (rate : ℕ) (costs doubtful : List ℕ) (doubt : ℕ) where
 
   -- arguments that may not be asked find nothing
   pub unasked : (f : Found) → ¬ Asked rate costs doubtful doubt → f .answer ≡ NoneNear → f .tests ≡ 0 → NearestCall rate costs doubtful doubt f
-  unasked f n none zero = record { asked = λ A. absurd (n A); refused = λ _. (none, zero) }
+  unasked f n none zero =
+      record {
+        asked = λ A. absurd (n A);
+        refused = λ _. (none, zero);
+        encoded = sound-none {k = rate} {columns = columnOf 16 costs} f none .encoded;
+      }
 
   pub unasked-rate : rate < 27 ⊎ 49 < rate → ¬ Asked rate costs doubtful doubt
   unasked-rate h A = let r = known-range rate (A .known) in ⊎-elim (λ a. omega arith) (λ a. omega arith) h

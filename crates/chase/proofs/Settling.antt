@@ -28,6 +28,7 @@ use Rattle.near.specs.Interpolated.{limitOf}
 use Rattle.chase.specs.declared.Found.{Found}
 use Rattle.chase.specs.Nearest.{Asked, Nearest, NearestCall}
 use Rattle.chase.specs.Searching.{Ranged, Flagged, SearchOf}
+use Rattle.chase.specs.Known.{Sound}
 
 -- ---- known rates
 
@@ -141,9 +142,9 @@ module _ (k : ℕ) (costs doubtful : List ℕ) (doubt : ℕ) (f : Found) where
       → (Places (take doubt doubtful) → Flagged (take doubt doubtful) flags) → L ≡ limitOf k
       → Basis K16 8 L (ThroughNodes (k + 5) (settled word flags 64)) (polynomials (k + 5) rows) (leadAt leads)
       → SearchOf k (columnOf 16 costs) word (drop (doubt - doubt) (take doubt doubtful)) rows leads doubt f
-      → NearestCall k costs doubtful doubt f
+      → Sound k (columnOf 16 costs) f → NearestCall k costs doubtful doubt f
   unfolding testWords mOf
-  root word flags rows leads L A w-is flagged L-is B S =
+  root word flags rows leads L A w-is flagged L-is B S sound =
       let z : doubt - doubt ≡ 0 = omega arith in
       let S′ : SearchOf k (columnOf 16 costs) word (take doubt doubtful) rows leads doubt f =
       subst (λ n. SearchOf k (columnOf 16 costs) word (drop n (take doubt doubtful)) rows leads doubt f) z S in
@@ -156,4 +157,4 @@ module _ (k : ℕ) (costs doubtful : List ℕ) (doubt : ℕ) (f : Found) where
         basis = subst (λ l. Basis K16 8 l (ThroughNodes (k + 5) (settled word flags 64)) (polynomials (k + 5) rows) (leadAt leads)) L-is B;
       })
       (A .places)) in
-      record { asked = λ _. N; refused = λ n. absurd (n A) }
+      record { asked = λ _. N; refused = λ n. absurd (n A); encoded = sound .encoded }

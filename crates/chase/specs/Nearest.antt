@@ -5,8 +5,8 @@
 --   askedOf rate costs doubtful doubt  the test of Asked
 --   Nearest k columns tests f         what is found: how many test words have a codeword within T, and document 01's answer among the near
 --                                     codewords with its total, or that there is none
---   NearestCall rate costs doubtful doubt f   the nearest codeword by the costs and the doubtful places, where it may be asked for; and nothing
---                                     where not
+--   NearestCall rate costs doubtful doubt f   the nearest codeword by the costs and the doubtful places, where it may be asked for, and nothing
+--                                     where not; with the message its codeword
 use mathlib.Core.Bool.{Bool, true, _&&_}
 use mathlib.Core.Path.{_≡_}
 use mathlib.Core.List.{List}
@@ -15,7 +15,7 @@ use Prim.Native.Nat.{ℕ, _≤_}
 use lib.Dec.{eqb, leb}
 use lib.ListN.{length, take}
 use Rattle.lists.specs.Distinct.{below, distinct}
-use Rattle.code.specs.Encoding.{knownRate}
+use Rattle.code.specs.Encoding.{encodeOf, knownRate}
 use Rattle.soft.specs.Column.{columnOf}
 use Rattle.soft.specs.TestWord.{testWords}
 use Rattle.near.specs.Near.{testsNear, messageCost, answerOf}
@@ -46,3 +46,4 @@ pub record NearestCall (rate : ℕ) (costs doubtful : List ℕ) (doubt : ℕ) (f
   pub asked : Asked rate costs doubtful doubt
       → Nearest rate (columnOf 16 costs) (testWords 64 (columnOf 16 costs) (take doubt doubtful)) f
   pub refused : ¬ Asked rate costs doubtful doubt → (f .answer ≡ NoneNear) × (f .tests ≡ 0)
+  pub encoded : (t : ℕ) → f .answer ≡ Near t → f .codeword ≡ encodeOf rate (take rate (f .message))

@@ -10,7 +10,6 @@ use Prim.Native.Nat.{ℕ, _^_, _≤_}
 use native.Mathlib.Omega.{arith}
 use lib.ListN.{length, take}
 use lib.Pow.{pow-mono}
-use lib.Seq.{length-take-le}
 use Rattle.refusals.specs.Refusal.{accepted, noneNear}
 use Rattle.lists.specs.Count.{bit-le}
 use Rattle.lists.specs.Over.{over, over-short}
@@ -18,7 +17,6 @@ use Rattle.soft.specs.TestWord.{testWords}
 use Rattle.soft.specs.TestWordLaws.{testWords-count}
 use Rattle.soft.specs.Total.{totalOf, pinnedOf, changedOf, reportOf}
 use Rattle.code.specs.Encoding.{encodeOf}
-use Rattle.code.specs.Evaluation.{encode-beyond}
 use Rattle.near.specs.Near.{isSome, codewordNear, testsNear, messageCost}
 use Rattle.near.specs.Laws.{tests-nil, tests-cons}
 use Rattle.book.specs.Closing.{refusedClosing, reportFor, decodeOf}
@@ -58,13 +56,11 @@ module _ (rate : ℕ) (columns : ℕ → List ℕ) (doubtful : List ℕ) (f : Fo
 
     -- the same, step by step as the code goes
     pub decoded-near : {t pinned changed : ℕ} {message′ word report′ : List ℕ} → f .answer ≡ Near t → length message ≡ rate
-        → length (f .message) ≡ 49 → rate ≤ 49 → message′ ≡ over (f .message) message → word ≡ encodeOf 58 message′
+        → length (f .message) ≡ 49 → rate ≤ 49 → message′ ≡ over (f .message) message → word ≡ encodeOf rate (take rate (f .message))
         → pinned ≡ pinnedOf 64 columns word → changed ≡ changedOf 64 columns word → report′ ≡ reportOf t (f .tests) pinned changed
         → closed accepted message′ report′ ≡ decodeOf rate columns doubtful message report
     decoded-near {t} {pinned} {changed} {message′} {word} {report′} e long size small m w p q r =
         let a : message′ ≡ take rate (f .message) = m ∙ over-short (f .message) message (omega arith) ∙ ap (λ n. take n (f .message)) long in
-        let b : length message′ ≡ rate = ap length a ∙ length-take-le rate (f .message) (omega arith) in
-        let v : word ≡ encodeOf rate (take rate (f .message)) = w ∙ encode-beyond 58 rate message′ (omega arith) (omega arith) ∙ ap (encodeOf rate) a in
         ap₂ (λ (x y : List ℕ). closed accepted x y) a
-        (r ∙ ap₂ (λ (x y : ℕ). reportOf t (f .tests) x y) (p ∙ ap (pinnedOf 64 columns) v) (q ∙ ap (changedOf 64 columns) v))
+        (r ∙ ap₂ (λ (x y : ℕ). reportOf t (f .tests) x y) (p ∙ ap (pinnedOf 64 columns) w) (q ∙ ap (changedOf 64 columns) w))
         ∙ answered-near t e

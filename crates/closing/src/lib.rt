@@ -43,7 +43,7 @@ fn decode(
     };
     let best = found.message;
     copy(&best, message);
-    let word = code::encoding::codeword_of(message);
+    let word = found.codeword;
     let pinned = soft::total::pinned(costs, &word);
     let changed = soft::total::changed(costs, &word);
     soft::report::report(report, total, found.tests as u16, pinned, changed);

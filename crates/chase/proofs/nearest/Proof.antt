@@ -84,7 +84,7 @@ returns-5 : tie.Need-returns-5
 returns-5 c =
     let a = may-ask (c .before .before .before .before .before .before) in
     root _ _ _ _ _ _ _ _ _ _ a (c .before .before .before .before .before .best-word .ensures) (c .before .before .before .before .settled-places .ensures)
-    (limit-is (known-range _ (a .known))) (c .before .before .settle .ensures) (c .search .ensures .0)
+    (limit-is (known-range _ (a .known))) (c .before .before .settle .ensures) (c .search .ensures .0) (c .search .ensures .1)
 
 pub nearest-spec : {M : Type 1} → statement M
 nearest-spec =

@@ -31,9 +31,6 @@ slice-aggregate-copy c = search needs
 copy-requires : tie.Need-copy-requires
 copy-requires c κs = search needs
 
-codeword-of-requires : tie.Need-codeword-of-requires
-codeword-of-requires c κs = search needs
-
 slice-aggregate-pinned : tie.Need-slice-aggregate-pinned
 slice-aggregate-pinned c = search needs
 
@@ -48,8 +45,8 @@ changed-requires c κs = search needs
 
 cast-report : tie.Need-cast-report
 cast-report c =
-    let asked = c .before .before .before .before .before .before .before .before .before .before .before .before .before .before .before .before .before .before .before .before .before .pre .asked in
-    omega (arith, tests-few _ _ _ _ (c .before .before .before .before .before .before .before .before .before .before .before .before .before .before .before .before .before .nearest .ensures .asked asked) (list-few asked))
+    let asked = c .before .before .before .before .before .before .before .before .before .before .before .before .before .before .before .before .before .before .before .before .pre .asked in
+    omega (arith, tests-few _ _ _ _ (c .before .before .before .before .before .before .before .before .before .before .before .before .before .before .before .before .nearest .ensures .asked asked) (list-few asked))
 
 report-requires : tie.Need-report-requires
 report-requires c κs = search needs
@@ -62,9 +59,11 @@ same-length-2 c = search needs
 
 returns-2 : tie.Need-returns-2
 returns-2 c =
-    let asked = c .before .before .before .before .before .before .before .before .before .before .before .before .before .before .before .before .before .before .before .before .before .before .before .before .pre .asked in
-    decoded-near _ _ _ _ (c .before .before .before .before .before .before .before .before .before .before .before .before .before .before .before .before .before .before .before .before .nearest .ensures .asked asked) _ _ (c .before .before .before .before .before .before .before .before .before .before .before .before .before .before .before .before .before .before .answer .given .1) (c .before .before .before .before .before .before .before .before .before .before .before .before .before .before .before .before .before .before .before .before .before .before .before .before .pre .message-long) (found-room (c .before .before .before .before .before .before .before .before .before .before .before .before .before .before .before .before .before .before .before .before))
-    (rate-small _ (asked .known)) (c .before .before .before .before .before .before .before .before .before .before .before .before .before .copy .ensures) (c .before .before .before .before .before .before .before .before .before .codeword-of .ensures)
+    let asked = c .before .before .before .before .before .before .before .before .before .before .before .before .before .before .before .before .before .before .before .before .before .before .before .pre .asked in
+    let near = c .before .before .before .before .before .before .before .before .before .before .before .before .before .before .before .before .before .before .before .nearest .ensures in
+    let answer = c .before .before .before .before .before .before .before .before .before .before .before .before .before .before .before .before .before .answer .given .1 in
+    decoded-near _ _ _ _ (near .asked asked) _ _ answer (c .before .before .before .before .before .before .before .before .before .before .before .before .before .before .before .before .before .before .before .before .before .before .before .pre .message-long) (found-room (c .before .before .before .before .before .before .before .before .before .before .before .before .before .before .before .before .before .before .before))
+    (rate-small _ (asked .known)) (c .before .before .before .before .before .before .before .before .before .before .before .before .copy .ensures) (near .encoded _ answer)
     (c .before .before .before .before .before .before .before .pinned .ensures) (c .before .before .before .before .before .changed .ensures) (c .before .before .report .ensures)
 
 pub decode-spec : {M : Type 1} → statement M
@@ -77,7 +76,6 @@ decode-spec =
     returns
     slice-aggregate-copy
     copy-requires
-    codeword-of-requires
     slice-aggregate-pinned
     pinned-requires
     slice-aggregate-changed
