@@ -266,26 +266,7 @@ pub +branch+search-spec : {M : Type 1} → statement M
     (branch-extend-requires t)
     (branch-search-requires t)
     (branch-returns-2 t))
-    λ t. search-lts.spec (
-      least-reads.Asked,
-      least-reads.Learnt,
-      none-near-reads.Asked,
-      none-near-reads.Learnt,
-      leaf-reads.Asked,
-      leaf-reads.Learnt,
-      column-of-reads.Asked,
-      column-of-reads.Learnt,
-      best-reads.Asked,
-      best-reads.Learnt,
-      second-reads.Asked,
-      second-reads.Learnt,
-      branch-below t,
-      branch.Post,
-      later-reads.Asked,
-      later-reads.Learnt,
-      better-reads.Asked,
-      better-reads.Learnt,
-    )
+    λ t. search-lts.spec (search-claims t)
     (search-at t)
     search′.Post
     (search-sub-limit t)
