@@ -11,11 +11,12 @@ ghost use Rattle.book.specs.LookUp.{recordWith, lookUpOf};
 ghost use Rattle.session.specs.View.{bookOf, Good};
 ghost use Rattle.session.specs.Calls.{Opening};
 ghost use Rattle.capture.specs.Calls.{recordBytes, headBytes, rowOf, Writing};
-use session::MOST_DOUBT;
+use lists::copy;
 use session::Opened;
 use session::Session;
 use soft::costs::PLACES;
 use soft::costs::SYMBOLS;
+use soft::doubt::MOST_DOUBT;
 
 // The version of captures that are written and read.
 const VERSION: u8 = 1;
@@ -85,18 +86,6 @@ fn write_records(arrival: &[u8], costs: &[u16], out: &mut [u8])
     }
 }
 
-// The doubtful places.
-fn write_list(list: [u8; MOST_DOUBT], count: usize, out: &mut [u8])
-    requires { ⌜ (count ≤ 8) × (length (now out) ≡ count) ⌝ }
-    ensures { λ _. ⌜ now (out .exit) ≡ take count list ⌝ }
-{
-    let mut i = 0;
-    while i < count {
-        out[i] = list[i];
-        i += 1;
-    }
-}
-
 // Version, length, rate, d and the d doubtful places.
 fn write_head(rate: u8, list: [u8; MOST_DOUBT], count: usize, out: &mut [u8])
     requires { ⌜ (count ≤ 8) × (length (now out) ≡ 5 + count) ⌝ }
@@ -108,7 +97,7 @@ fn write_head(rate: u8, list: [u8; MOST_DOUBT], count: usize, out: &mut [u8])
     out[2] = (length % 256) as u8;
     out[3] = rate;
     out[4] = count as u8;
-    write_list(list, count, &mut out[HEAD_BYTES..]);
+    copy(&list[..count], &mut out[HEAD_BYTES..]);
 }
 
 // The first test keeps a session record that was built by hand from running past the list.

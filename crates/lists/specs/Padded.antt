@@ -6,6 +6,8 @@
 --   padded-snoc, padded-full   one entry more is one store, while there is room; without room nothing changes
 --   padded-if        one entry more or none, by a test
 --   padded-take      a list with room is read back from the front
+--   padded-rest      behind the list stand zeros
+--   padded-over      it is the list written over zeros
 use mathlib.Core.Bool.{Bool, true, false, cond}
 use mathlib.Core.Path.{_≡_, refl, sym, ap, _∙_}
 use mathlib.Core.List.{List, [], _∷_, _++_, append-nil}
@@ -13,8 +15,9 @@ use Prim.Native.Nat.{ℕ, zero, suc, _<_, _≤_}
 use native.Mathlib.Nat.{le-of-suc-le-suc}
 use native.Mathlib.Decide.{decLe}
 use native.Mathlib.Omega.{arith}
-use lib.ListN.{length, set, take, replicate}
+use lib.ListN.{length, set, take, drop, replicate}
 use lib.Seq.{set-out}
+use Rattle.lists.specs.Over.{over}
 
 unfoldable pub padded : ℕ → List ℕ → List ℕ
 padded zero [] = []
@@ -48,6 +51,20 @@ padded-take zero [] h = refl
 padded-take zero (x ∷ l) h = absurd (omega arith)
 padded-take (suc w) [] h = refl
 padded-take (suc w) (x ∷ l) h = ap (λ (r : List ℕ). x ∷ r) (padded-take w l (le-of-suc-le-suc h))
+
+pub padded-rest : (w : ℕ) (l : List ℕ) → drop (length l) (padded w l) ≡ drop (length l) (replicate w 0)
+unfolding padded
+padded-rest zero [] = refl
+padded-rest zero (x ∷ l) = refl
+padded-rest (suc w) [] = padded-nil (suc w)
+padded-rest (suc w) (x ∷ l) = padded-rest w l
+
+pub padded-over : (w : ℕ) (l : List ℕ) → over l (replicate w 0) ≡ padded w l
+unfolding over padded
+padded-over zero [] = refl
+padded-over zero (x ∷ l) = refl
+padded-over (suc w) [] = sym (padded-nil (suc w))
+padded-over (suc w) (x ∷ l) = ap (λ (r : List ℕ). x ∷ r) (padded-over w l)
 
 pub padded-snoc : (w : ℕ) (l : List ℕ) (x : ℕ) → length l < w → set (padded w l) (length l) x ≡ padded w (l ++ (x ∷ []))
 unfolding padded

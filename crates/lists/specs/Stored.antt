@@ -1,15 +1,12 @@
 -- A loop that fills an array from the front: what is done stands before what is left of the old array.
 --
 --   stored-one       the next entry is stored
---   stored-copy      the next entry of another list is
 --   stored-part      the next part is lent to a call, which leaves `part` in its place
 use mathlib.Core.Path.{_≡_, sym, ap, _∙_}
 use mathlib.Core.List.{List, [], _∷_, _++_, append-assoc}
 use Prim.Native.Nat.{ℕ, suc, _+_, _<_}
-use native.Mathlib.Nat.{le-of-lt}
-use native.Mathlib.Numerals.{add-one}
 use lib.ListN.{length, set, getD, take, drop}
-use lib.Seq.{drop-cons, set-at, take-at, drop-at, drop-drop, take-suc, length-take-le}
+use lib.Seq.{drop-cons, set-at, take-at, drop-at, drop-drop}
 
 module _ {A : Type 0} where
   pub stored-one : (d : A) (out l done : List A) (x : A) (at : ℕ) → length done ≡ at → at < length l → out ≡ done ++ drop at l
@@ -17,13 +14,6 @@ module _ {A : Type 0} where
   stored-one d out l done x at n h e =
       ap (λ (r : List A). set r at x) (e ∙ ap (λ (r : List A). done ++ r) (drop-cons l at d h))
       ∙ set-at done (getD l at d) (drop (suc at) l) x at n ∙ sym (append-assoc done (x ∷ []) (drop (suc at) l))
-
-  pub stored-copy : (d : A) (out l s : List A) (at : ℕ) → at < length s → at < length l → out ≡ take at s ++ drop at l
-      → set out at (getD s at d) ≡ take (at + 1) s ++ drop (at + 1) l
-  stored-copy d out l s at k h e =
-      stored-one d out l (take at s) (getD s at d) at (length-take-le at s (le-of-lt k)) h e
-      ∙ ap (λ (r : List A). r ++ drop (suc at) l) (sym (take-suc s at d k))
-      ∙ ap (λ n. take n s ++ drop n l) (sym (add-one at))
 
   pub stored-part : (out l done part : List A) (at k : ℕ) → length done ≡ at → out ≡ done ++ drop at l
       → take at out ++ (part ++ drop k (drop at out)) ≡ (done ++ part) ++ drop (at + k) l

@@ -2,7 +2,7 @@
 --
 --   row-places           the places of a session's row are those that arrived
 --   good-proper          the book of a good session is proper
---   new-book, new-good   a newly opened session stands for a new book, and is good
+--   new-book, new-good   a newly opened session stands for a new book, if its list has at most eight places, and is good, if it is fit
 --   opened-number, opened-book, opened-good   opening answers as the book does, and gives a good session
 --   withColumn s p column    the session with a place and its column
 --   with-column-book, with-column-good   it stands for the longer row, and is good
@@ -18,13 +18,14 @@ use native.Mathlib.Nat.{le-step, lt-suc-self}
 use native.Mathlib.Numerals.{add-one}
 use native.Mathlib.Omega.{arith}
 use lib.Dec.{eqb}
-use lib.ListN.{length, getD, set, take, drop, replicate, length-append, length-drop, length-replicate, length-set, take-append-drop}
-use lib.Seq.{take-suc, take-suc-set, drop-set-lt, drop-drop, getD-set-same, getD-set-other, getD-take, length-take-le, take-append-seam, drop-append-seam}
+use lib.ListN.{length, getD, set, take, drop, replicate, length-replicate, length-set, take-append-drop}
+use lib.Seq.{take-suc, take-suc-set, drop-set-lt, drop-drop, getD-set-same, getD-set-other, getD-take, length-take-le}
 use borrow.Author.Tests.{eq-eqb}
 use Rattle.refusals.specs.Refusal.{accepted, unknownRate, wrongDoubt, noPlace, placeTaken}
 use Rattle.lists.specs.Listed.{listed, listed-nil, listed-suc, listed-ext, listed-length}
 use Rattle.lists.specs.Distinct.{among, below, distinct, among-nil, among-one, among-at, below-at, among-append, below-append, below-one, below-nil, distinct-nil, distinct-snoc, distinct-all, among-snoc, or-none, and-both}
 use Rattle.lists.specs.Block.{block, putBlock, block-length, put-length, put-same, put-other, block-replicate, block-ext}
+use Rattle.lists.specs.Padded.{padded-length, padded-take, padded-rest}
 use Rattle.code.specs.Encoding.{knownRate}
 use Rattle.book.specs.Book.{places, width, Entry, Book, newBook, columnOf, taken, Outcome}
 use Rattle.book.specs.Opening.{risingFrom, rising, fitPlaces, fitDoubt, refusedOpening, openOf}
@@ -32,7 +33,7 @@ use Rattle.book.specs.Delivery.{withEntry}
 use Rattle.book.specs.RowLaws.{placesOf, wide, Proper, places-append, wide-append, column-append, column-one, taken-among, deliver-above, deliver-taken, deliver-accepted, open-refused-rate, open-refused-list, open-accepted}
 use Rattle.book.specs.RoundTrip.{list-short}
 use Rattle.session.specs.declared.Session.{Session}
-use Rattle.session.specs.View.{padded, newSession, entryAt, bookOf, Good}
+use Rattle.session.specs.View.{newSession, entryAt, bookOf, Good}
 use Rattle.session.specs.Calls.{refusedWith, openedOf, declinedWith, Opening, Delivery}
 
 -- ---- rows
@@ -244,29 +245,25 @@ module _ (s : Session) (p : ℕ) (column : List ℕ) where
 
 -- ---- opening
 
-padded-list : (list : List ℕ) → take (length list) (padded list) ≡ list
-unfolding padded
-padded-list list = take-append-seam list (drop (length list) (replicate 8 0))
-
-pub new-book : (rate : ℕ) (list : List ℕ) → bookOf (newSession rate list) ≡ newBook rate list
+pub new-book : (rate : ℕ) (list : List ℕ) → length list ≤ 8 → bookOf (newSession rate list) ≡ newBook rate list
 unfolding bookOf newSession newBook
-new-book rate list =
+new-book rate list n =
     λ i. record {
       rate = rate;
-      doubtful = padded-list list i;
+      doubtful = padded-take 8 list n i;
       row = listed-nil (entryAt (replicate 64 0) (replicate 1024 0)) i;
     }
 
 pub new-good : (rate : ℕ) (list : List ℕ) → knownRate rate ≡ true → fitDoubt list ≡ true → Good (newSession rate list)
-unfolding newSession padded
+unfolding newSession
 new-good rate list r f =
     let n : length list ≤ 8 = list-short list f in
     record {
       rate-known = r;
-      list-room = length-append list (drop (length list) (replicate 8 0)) ∙ omega (arith, length-drop {A = ℕ} (length list) (replicate 8 0));
+      list-room = padded-length 8 list;
       doubt-fits = n;
-      list-fit = ap fitDoubt (padded-list list) ∙ f;
-      list-rest = drop-append-seam list (drop (length list) (replicate 8 0));
+      list-fit = ap fitDoubt (padded-take 8 list n) ∙ f;
+      list-rest = padded-rest 8 list;
       row-room = refl;
       taken-fits = omega arith;
       in-range = below-nil places;
@@ -281,7 +278,7 @@ unfolding refusedWith refusedOpening
 refused-opens n =
     record {
       number = refl;
-      book = new-book 39 [];
+      book = new-book 39 [] (omega arith);
       good = new-good 39 [] (unfold knownRate in refl) (unfold fitDoubt fitPlaces rising risingFrom below in refl);
     }
 
@@ -307,7 +304,7 @@ module _ (rate : ℕ) (list : List ℕ) where
       go true r false f = rw (open-refused-list rate list r f, opened-list r f) (refused-opens wrongDoubt)
       go true r true f =
           rw (open-accepted rate list r f, opened-new r f)
-          (record { number = refl; book = new-book rate list; good = new-good rate list r f })
+          (record { number = refl; book = new-book rate list (list-short list f); good = new-good rate list r f })
 
 -- ---- the table
 

@@ -1,33 +1,30 @@
 -- What a session stands for: the book that its fields hold, and which sessions hold one.
 --
---   padded list          a doubtful list in eight numbers, with zeros behind it
---   newSession rate list a newly opened session: 1,024 costs of zero and no place taken
+--   newSession rate list a newly opened session: the doubtful list in eight numbers, 1,024 costs of zero and no place taken
 --   entryAt arrival costs i   the place that arrived as number i, and its column in the table
 --   bookOf s             the session's rate, its doubtful list, and its places with their columns in the order of arrival
 --   Good s               what holds of every session from opening: counts within their arrays, a known rate, a fit list, distinct places below 64,
 --                        and zeros wherever nothing was put
 use mathlib.Core.Bool.{true, false}
 use mathlib.Core.Path.{_≡_}
-use mathlib.Core.List.{List, _++_}
+use mathlib.Core.List.{List}
 use Prim.Native.Nat.{ℕ, _≤_, _<_}
 use lib.ListN.{length, getD, take, drop, replicate}
 use Rattle.lists.specs.Listed.{listed}
 use Rattle.lists.specs.Distinct.{among, below, distinct}
 use Rattle.lists.specs.Block.{block}
+use Rattle.lists.specs.Padded.{padded}
 use Rattle.code.specs.Encoding.{knownRate}
 use Rattle.book.specs.Book.{places, width, Entry, Book}
 use Rattle.book.specs.Opening.{fitDoubt}
 use Rattle.session.specs.declared.Session.{Session}
-
-unfoldable pub padded : List ℕ → List ℕ
-padded list = list ++ drop (length list) (replicate 8 0)
 
 unfoldable pub newSession : ℕ → List ℕ → Session
 newSession rate list =
     record {
       rate = rate;
       doubt = length list;
-      doubtful = padded list;
+      doubtful = padded 8 list;
       taken = 0;
       arrival = replicate 64 0;
       costs = replicate 1024 0;

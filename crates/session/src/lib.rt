@@ -2,20 +2,19 @@
 // It keeps what was delivered, in the order of arrival, and nothing that could be recomputed from it.
 // It knows of no codeword and no interpolant; what a session stands for is its book (specs/View.antt).
 ghost use mathlib.Core.Path.{_≡_};
-ghost use Prim.Native.Nat.{_<_, _≤_};
-ghost use lib.ListN.{length};
-ghost use Rattle.lists.specs.Distinct.{among, below};
+ghost use Prim.Native.Nat.{_<_};
+ghost use Rattle.lists.specs.Distinct.{among};
 ghost use Rattle.lists.specs.Block.{putBlock};
+ghost use Rattle.lists.specs.Padded.{padded};
 ghost use Rattle.book.specs.Book.{places, width};
 ghost use Rattle.book.specs.Opening.{fitPlaces};
-ghost use Rattle.session.specs.View.{padded, newSession};
+ghost use Rattle.session.specs.View.{newSession};
 ghost use Rattle.session.specs.Calls.{refusedWith, openedOf, declinedWith, Delivery};
+use lists::copy;
 use soft::costs::COSTS;
 use soft::costs::PLACES;
 use soft::costs::SYMBOLS;
-
-// The most places that a doubtful list may name.
-pub const MOST_DOUBT: usize = 8;
+use soft::doubt::MOST_DOUBT;
 
 pub struct Session {
     pub rate: u8,
@@ -58,23 +57,17 @@ fn fit_places(list: &[u8]) -> bool
     true
 }
 
-// A list of at most eight places, with zeros behind them.
+// The first eight places of a list, with zeros behind them.
 fn padded_list(list: &[u8]) -> [u8; MOST_DOUBT]
-    requires { ⌜ length (now list) ≤ 8 ⌝ }
-    ensures { λ r. ⌜ r ≡ padded (now (list .entry)) ⌝ }
+    ensures { λ r. ⌜ r ≡ padded 8 (now (list .entry)) ⌝ }
 {
     let mut out = [0u8; MOST_DOUBT];
-    let mut i = 0;
-    while i < list.len() {
-        out[i] = list[i];
-        i += 1;
-    }
+    copy(list, &mut out);
     out
 }
 
 // A new session holds 1,024 costs of zero and no place taken.
 fn new_session(rate: u8, list: &[u8]) -> Session
-    requires { ⌜ length (now list) ≤ 8 ⌝ }
     ensures { λ r. ⌜ r ≡ newSession rate (now (list .entry)) ⌝ }
 {
     let doubtful = padded_list(list);
