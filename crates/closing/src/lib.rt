@@ -8,6 +8,9 @@ use refusals::UNKNOWN_RATE;
 use refusals::WRONG_DOUBT;
 use refusals::WRONG_SIZE;
 use session::Session;
+use soft::costs::PLACES;
+use soft::doubt::MOST_DOUBT;
+use soft::report::REPORT_BYTES;
 ghost use mathlib.Core.Path.{_≡_};
 ghost use lib.ListN.{take};
 ghost use Rattle.soft.specs.Column.{symbols, columnOf};
@@ -18,17 +21,11 @@ ghost use Rattle.closing.specs.Decoding.{Decodable};
 
 const TABLE_BYTES: usize = 2048;
 
-const REPORT_BYTES: usize = 8;
-
-const PLACES: usize = 64;
-
-const MOST_DOUBT: usize = 8;
-
 // 'None near', the buffers as they were; or the answer's message and its report.
 fn decode(
     rate: usize,
     costs: &[u16],
-    doubtful: [u8; 8],
+    doubtful: [u8; MOST_DOUBT],
     doubt: usize,
     message: &mut [u8],
     report: &mut [u8],
