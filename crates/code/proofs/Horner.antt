@@ -4,8 +4,8 @@ use mathlib.Core.List.{List}
 use Prim.Native.Nat.{ℕ, suc, _+_, _-_, _*_, _%_, _<_, _≤_}
 use native.Mathlib.Omega.{arith}
 use lib.Bits.{bitXor, xor-comm, xor-zero-l, xor-zero-r}
-use lib.ListN.{length, getD}
-use Rattle.lists.specs.Listed.{listed, listed-length, listed-at, listed-ext, listed-getD}
+use lib.ListN.{length, getD, replicate, getD-replicate}
+use Rattle.lists.specs.Listed.{listed, listed-length, listed-ext, listed-getD}
 use Rattle.lists.specs.Xor.{xor-assoc}
 use Rattle.lists.specs.XorSum.{xorSum, xorSum-nil, xorSum-suc}
 use Rattle.galois.specs.Gf16.{times}
@@ -13,16 +13,13 @@ use Rattle.galois.specs.Field16.{times-lt, times-mod, times-comm, times-assoc, 
 use Rattle.code.specs.Curve.{power, power-nil, power-suc, xOf, yOf}
 use Rattle.code.specs.Evaluation.{valueOf}
 use Rattle.code.specs.Points.{element}
-use Rattle.code.specs.Horner.{xTerm, inX, nextSum, spreadAt, timesPlus, horner}
-use Rattle.code.proofs.Moments.{blank16}
+use Rattle.code.specs.Lanes.{timesPlus, timesPlus-at}
+use Rattle.code.specs.Horner.{xTerm, inX, spreadAt, horner}
+use Rattle.code.proofs.Moments.{blank16, entry}
 
-pub next-entry : (xs s : List ℕ) (c x : ℕ) {v : ℕ} → v ≡ times (getD s x 0) (getD xs x 0) → bitXor v (c % 16) ≡ nextSum xs s c x
-unfolding nextSum
-next-entry xs s c x e = ap (λ a. bitXor a (c % 16)) e
-
-pub times-entry : (y v m : List ℕ) (p : ℕ) {a : ℕ} → a ≡ times (getD v p 0) (getD y p 0) → bitXor a (getD m p 0) ≡ timesPlus y v m p
+pub times-entry : (f v m : List ℕ) (i : ℕ) {a : ℕ} → a ≡ times (getD v i 0) (getD f i 0) → bitXor a (getD m i 0) ≡ timesPlus f v m i
 unfolding timesPlus
-times-entry y v m p e = ap (λ a. bitXor a (getD m p 0)) e
+times-entry f v m i e = ap (λ a. bitXor a (getD m i 0)) e
 
 -- ---- in x: the sum of the terms below power i, and x^i times what the rule has
 pub record Rule (f : List ℕ) (j i : ℕ) (s : List ℕ) : Type 0 where
@@ -31,18 +28,11 @@ pub record Rule (f : List ℕ) (j i : ℕ) (s : List ℕ) : Type 0 where
   pub below : (x : ℕ) → x < 16 → getD s x 0 < 16
   pub rest : (x : ℕ) → x < 16 → inX f j x ≡ bitXor (xorSum i (xTerm f j x)) (times (getD s x 0) (power x i))
 
-none : ℕ → ℕ
-none x = 0
-
-blank-listed : blank16 ≡ listed 16 none
-unfolding listed none
-blank-listed = refl
-
-blank-at : (x : ℕ) → x < 16 → getD blank16 x 0 ≡ none x
-blank-at x h = ap (λ l. getD l x 0) blank-listed ∙ listed-at 16 x none 0 h
+blank-at : (x : ℕ) → x < 16 → getD blank16 x 0 ≡ 0
+blank-at x h = getD-replicate 16 x 0 0 h
 
 pub rule-start : (f : List ℕ) (j : ℕ) → Rule f j (16 - j) blank16
-unfolding inX none
+unfolding inX
 rule-start f j =
     record {
       within = omega arith;
@@ -65,13 +55,13 @@ step a c s p x =
     ∙ ap₂ bitXor (times-comm s (times p x) ∙ times-assoc p x s ∙ ap (times p) (times-comm x s)) (times-comm c p ∙ sym (low-times p c))
     ∙ sym (times-add p (times s x) (c % 16)) ∙ times-comm p _)
 
-next-at : (xs s : List ℕ) (c x : ℕ) → xs ≡ listed 16 element → x < 16 → nextSum xs s c x ≡ bitXor (times (getD s x 0) x) (c % 16)
-unfolding nextSum element
-next-at xs s c x e h = ap (λ a. bitXor (times (getD s x 0) a) (c % 16)) (ap (λ l. getD l x 0) e ∙ listed-at 16 x element 0 h)
+next-at : (xs s : List ℕ) (c x : ℕ) → xs ≡ listed 16 element → x < 16 → timesPlus xs s (replicate 16 c) x ≡ bitXor (times (getD s x 0) x) c
+unfolding element
+next-at xs s c x e h = timesPlus-at xs s _ x (entry 16 x element e h) refl (getD-replicate 16 x c 0 h)
 
 -- one power further down
-down : {xs f s next : List ℕ} {j i : ℕ} → xs ≡ listed 16 element → Rule f j (suc i) s → next ≡ listed 16 (nextSum xs s (getD f (4 * i + 5 * j) 0))
-    → Rule f j i next
+down : {xs f s next : List ℕ} {j i : ℕ} → xs ≡ listed 16 element → Rule f j (suc i) s
+    → next ≡ listed 16 (timesPlus xs s (replicate 16 (getD f (4 * i + 5 * j) 0 % 16))) → Rule f j i next
 unfolding xTerm
 down {xs} {f} {s} {next} {j} {i} el r e =
     record {
@@ -89,13 +79,13 @@ down {xs} {f} {s} {next} {j} {i} el r e =
     c = getD f (4 * i + 5 * j) 0
 
     at : (x : ℕ) → x < 16 → getD next x 0 ≡ bitXor (times (getD s x 0) x) (c % 16)
-    at x h = ap (λ l. getD l x 0) e ∙ listed-at 16 x (nextSum xs s c) 0 h ∙ next-at xs s c x el h
+    at x h = entry 16 x _ e h ∙ next-at xs s (c % 16) x el h
 
     low : c % 16 < 16
     low = omega arith
 
 pub rule-turn : {xs f s next : List ℕ} {j i : ℕ} → xs ≡ listed 16 element → Rule f j i s → 0 < i
-    → next ≡ listed 16 (nextSum xs s (getD f (4 * (i - 1) + 5 * j) 0)) → Rule f j (i - 1) next
+    → next ≡ listed 16 (timesPlus xs s (replicate 16 (getD f (4 * (i - 1) + 5 * j) 0 % 16))) → Rule f j (i - 1) next
 rule-turn {xs} {f} {s} {next} {j} {i} el r h e =
     let q : i ≡ suc (i - 1) = omega arith in
     down el (subst (λ n. Rule f j n s) q r) e
@@ -123,15 +113,12 @@ plus v m p = bitXor (times (v p) (yOf p)) (m p)
 spread-is : (f : List ℕ) (j : ℕ) {s v : List ℕ} → s ≡ listed 16 (inX f j) → v ≡ listed 64 (spreadAt s) → v ≡ listed 64 (inXAt f j)
 unfolding spreadAt inXAt
 spread-is f j e q =
-    q ∙ listed-ext 64 _ _ (λ p h. ap (λ l. getD l (xOf p) 0) e ∙ listed-at 16 (xOf p) (inX f j) 0 (omega arith))
+    q ∙ listed-ext 64 _ _ (λ p h. entry 16 (xOf p) (inX f j) e (omega arith))
 
 plus-is : (f g : ℕ → ℕ) {ys v m r : List ℕ} → ys ≡ listed 64 yOf → v ≡ listed 64 f → m ≡ listed 64 g → r ≡ listed 64 (timesPlus ys v m)
     → r ≡ listed 64 (plus f g)
-unfolding timesPlus plus
-plus-is f g a b c q =
-    q ∙ listed-ext 64 _ _ (λ p h.
-    ap₂ bitXor (ap₂ times (ap (λ l. getD l p 0) b ∙ listed-at 64 p f 0 h) (ap (λ l. getD l p 0) a ∙ listed-at 64 p yOf 0 h))
-    (ap (λ l. getD l p 0) c ∙ listed-at 64 p g 0 h))
+unfolding plus
+plus-is f g a b c q = q ∙ listed-ext 64 _ _ (λ p h. timesPlus-at _ _ _ p (entry 64 p yOf a h) (entry 64 p f b h) (entry 64 p g c h))
 
 pub codeword-is : (f : List ℕ) {ys x3 v3 x2 s2 v2 x1 s1 v1 x0 s0 r : List ℕ} → ys ≡ listed 64 yOf
     → x3 ≡ listed 16 (inX f 3) → v3 ≡ listed 64 (spreadAt x3)

@@ -5,8 +5,8 @@ use Prim.Native.Nat.{ℕ, zero, suc, _+_, _-_, _*_, _/_, _%_, _<_, _≤_}
 use native.Mathlib.Numerals.{add-one}
 use native.Mathlib.Omega.{arith}
 use lib.Dec.{lit≤}
-use lib.Bits.{bitXor}
-use lib.ListN.{length, getD, set, replicate}
+use lib.Bits.{bitXor, xor-comm}
+use lib.ListN.{length, getD, set, replicate, getD-replicate}
 use Rattle.lists.specs.Listed.{listed, listed-at, listed-ext}
 use Rattle.lists.specs.Filled.{Filled, filled-start, filled-turn, filled-read}
 use Rattle.lists.specs.XorSum.{xorSum, xorSum-suc}
@@ -14,7 +14,12 @@ use Rattle.galois.specs.Gf16.{times}
 use Rattle.hermitian.specs.Present.{Present, genus}
 use Rattle.hermitian.specs.Orders.{orderOf, orderOf-large, orderOf-present, orderOf-up-to}
 use Rattle.code.specs.Curve.{yOf, power, power-nil, power-suc}
-use Rattle.code.specs.Extraction.{atZero, symbolIn, symbol-in, symbolAt, messageAt, momentsOf, addedAt, fibreTerm, fibreSum, momentTerm, momentUpTo, momentRow}
+use Rattle.code.specs.Lanes.{timesPlus, timesPlus-at}
+use Rattle.code.specs.Extraction.{atZero, symbolIn, symbol-in, symbolAt, messageAt, momentsOf, fibreTerm, fibreSum, momentTerm, momentUpTo, momentRow}
+
+-- an entry of a list by a rule
+pub entry : (n i : ℕ) (f : ℕ → ℕ) {l : List ℕ} → l ≡ listed n f → i < n → getD l i 0 ≡ f i
+entry n i f e h = ap (λ k. getD k i 0) e ∙ listed-at n i f 0 h
 
 -- ---- orders
 pub order-large : (t : ℕ) → 6 ≤ t → t + 6 ≡ orderOf 4 t
@@ -50,16 +55,16 @@ pub row-start : (v : List ℕ) (b : ℕ) → length v ≡ 64 → Row v b 0 blank
 unfolding listed momentUpTo xorSum
 row-start v b h = record { within = omega arith; sized = h; sums = refl }
 
-pub row-turn : {v row other next : List ℕ} {b x by : ℕ} → Row v b x row → x < 16 → by ≡ fibreSum v b x → other ≡ listed 16 (power x)
-    → next ≡ listed 16 (addedAt row by other) → Row v b (x + 1) next
-unfolding momentUpTo momentTerm addedAt
-row-turn {v} {row} {other} {next} {b} {x} {by} r h e f q =
+pub row-turn : {v row powers next : List ℕ} {b x sum : ℕ} → Row v b x row → x < 16 → sum ≡ fibreSum v b x → powers ≡ listed 16 (power x)
+    → next ≡ listed 16 (timesPlus powers (replicate 16 sum) row) → Row v b (x + 1) next
+unfolding momentUpTo momentTerm
+row-turn {v} {row} {powers} {next} {b} {x} {sum} r h e f q =
     record {
       within = omega arith;
       sized = r .sized;
       sums = q ∙ listed-ext 16 _ _ (λ a l.
-          ap₂ bitXor (ap (λ y. getD y a 0) (r .sums) ∙ listed-at 16 a (momentUpTo v b x) 0 l)
-          (ap₂ times e (ap (λ y. getD y a 0) f ∙ listed-at 16 a (power x) 0 l))
+          timesPlus-at powers _ row a (entry 16 a _ f l) (getD-replicate 16 a sum 0 l ∙ e) (entry 16 a _ (r .sums) l)
+          ∙ xor-comm (momentTerm v a b x) (momentUpTo v b x a)
           ∙ sym (xorSum-suc x (momentTerm v a b)) ∙ ap (λ k. xorSum k (momentTerm v a b)) (sym (add-one x)));
     }
 
@@ -68,10 +73,6 @@ unfolding momentRow
 row-end {v} {row} {b} {x} r h =
     let e : x ≡ 16 = omega (arith, r .within) in
     r .sums ∙ ap (λ k. listed 16 (momentUpTo v b k)) e
-
-pub added-entry : (row other : List ℕ) (by a : ℕ) {v : ℕ} → v ≡ times by (getD other a 0) → bitXor (getD row a 0) v ≡ addedAt row by other a
-unfolding addedAt
-added-entry row other by a e = ap (bitXor (getD row a 0)) e
 
 -- ---- a symbol from four moments
 pub zero-kept : (i a : ℕ) → i ≡ 0 → a ≡ atZero i a

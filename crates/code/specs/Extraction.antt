@@ -6,7 +6,6 @@
 --   symbolAt v o       the coefficient of order o
 --   messageAt v t      message symbol t so read, and extractOf k v the first k of them
 --   momentRow v b      the moments with y^b by the power of x; momentsOf v for b from 0 to 3
---   addedAt row by other   a row and a multiple of another
 --   symbolIn ms i j    the same coefficient from a table of moments; symbol-in: it is so from the word's own
 --   extract-word       they are symbols: a word of k numbers below 16
 --   extract-encode     what was encoded is read again (k up to 58, where no power of x is above 15)
@@ -80,10 +79,6 @@ momentUpTo v b n a = xorSum n (momentTerm v a b)
 
 unfoldable pub momentRow : List ℕ → ℕ → List ℕ
 momentRow v b = listed 16 (momentUpTo v b 16)
-
--- a row and a multiple of another, as a rule
-unfoldable pub addedAt : List ℕ → ℕ → List ℕ → ℕ → ℕ
-addedAt row by other a = bitXor (getD row a 0) (times by (getD other a 0))
 
 unfoldable pub momentsOf : List ℕ → List (List ℕ)
 momentsOf v = listed 4 (momentRow v)

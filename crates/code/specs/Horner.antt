@@ -1,9 +1,7 @@
 -- The values of a function at all places by Horner's rule: in x for each power of y, then in y.
 --
 --   inX f j x        what multiplies y^j: the sum of the coefficient of x^i y^j, whose order is 4i + 5j, times x^i
---   nextSum xs s c x    a step of the rule in x: the sum at x times x, and the next coefficient
 --   spreadAt s p     the sum at the place's x
---   timesPlus ys v m p   a step of the rule in y: the value times y, and more
 --   horner           the rule in y, from y^3 down, gives the value
 use mathlib.Core.Bool.{Bool, true, false}
 use mathlib.Core.Path.{_≡_, refl, sym, ap, ap₂, _∙_}
@@ -41,14 +39,8 @@ xTerm f j x i = times (getD f (4 * i + 5 * j) 0) (power x i)
 unfoldable pub inX : List ℕ → ℕ → ℕ → ℕ
 inX f j x = xorSum (16 - j) (xTerm f j x)
 
-unfoldable pub nextSum : List ℕ → List ℕ → ℕ → ℕ → ℕ
-nextSum xs s c x = bitXor (times (getD s x 0) (getD xs x 0)) (c % 16)
-
 unfoldable pub spreadAt : List ℕ → ℕ → ℕ
 spreadAt s p = getD s (xOf p) 0
-
-unfoldable pub timesPlus : List ℕ → List ℕ → List ℕ → ℕ → ℕ
-timesPlus ys v m p = bitXor (times (getD v p 0) (getD ys p 0)) (getD m p 0)
 
 -- ---- what multiplies each power of y, and the value from it
 module _ (f : List ℕ) (x : ℕ) where

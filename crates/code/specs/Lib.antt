@@ -5,6 +5,7 @@ pub mod Rates
 pub mod Calls
 pub mod Evaluation
 pub mod Bridge
+pub mod Lanes
 pub mod Horner
 pub mod Extraction
 pub mod Laws

@@ -4,7 +4,8 @@ ghost use mathlib.Core.Path.{_≡_};
 ghost use Prim.Native.Nat.{_%_, _<_, _≤_};
 ghost use Rattle.lists.specs.Listed.{listed};
 ghost use Rattle.code.specs.Evaluation.{monomialAt, nextOf, valueOf, Starts, Continues};
-ghost use Rattle.code.specs.Horner.{nextSum, inX, spreadAt, timesPlus};
+ghost use Rattle.code.specs.Lanes.{timesPlus};
+ghost use Rattle.code.specs.Horner.{inX, spreadAt};
 use galois::product;
 
 // The monomial of this order, from the one four orders below.
@@ -69,20 +70,21 @@ pub fn monomials(place: usize) -> [u8; 64]
     below_64(below_32(below_4(y), x), x)
 }
 
-// One step of Horner's rule in x, at all sixteen x: each lane is one x.
-fn next_sums(xs: [u8; 16], sums: [u8; 16], coefficient: u8) -> [u8; 16]
-    ensures { λ r. ⌜ r ≡ listed 16 (nextSum xs sums coefficient) ⌝ }
+// Products and sums in sixteen lanes.
+pub fn times_plus_16(factors: [u8; 16], values: [u8; 16], more: [u8; 16]) -> [u8; 16]
+    ensures { λ r. ⌜ r ≡ listed 16 (timesPlus factors values more) ⌝ }
 {
     let mut out = [0u8; 16];
-    let mut x = 0;
-    while x < 16 {
-        out[x] = product(sums[x], xs[x]) ^ coefficient % 16;
-        x += 1;
+    let mut lane = 0;
+    while lane < 16 {
+        out[lane] = product(values[lane], factors[lane]) ^ more[lane];
+        lane += 1;
     }
     out
 }
 
-// What multiplies y^j, at all sixteen x: from the highest power of x down. The order of x^i y^j is 4i + 5j.
+// What multiplies y^j, at all sixteen x, by Horner's rule from the highest power of x down: each lane is one x. The order of x^i y^j is
+// 4i + 5j.
 fn in_x(function: [u8; 64], j: usize) -> [u8; 16]
     requires { ⌜ j < 4 ⌝ }
     ensures { λ r. ⌜ r ≡ listed 16 (inX function j) ⌝ }
@@ -92,7 +94,8 @@ fn in_x(function: [u8; 64], j: usize) -> [u8; 16]
     let mut i = 16 - j;
     while 0 < i {
         i -= 1;
-        let next = next_sums(xs, sums, function[4 * i + 5 * j]);
+        let coefficient = function[4 * i + 5 * j] % 16;
+        let next = times_plus_16(xs, sums, [coefficient; 16]);
         sums = next;
     }
     sums

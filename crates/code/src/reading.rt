@@ -7,7 +7,7 @@ ghost use Rattle.lists.specs.Listed.{listed};
 ghost use Rattle.hermitian.specs.Present.{Present};
 ghost use Rattle.hermitian.specs.Orders.{orderOf};
 ghost use Rattle.code.specs.Curve.{power};
-ghost use Rattle.code.specs.Extraction.{addedAt, atZero, extractOf, fibreSum, momentRow, momentsOf, symbolIn};
+ghost use Rattle.code.specs.Extraction.{atZero, extractOf, fibreSum, momentRow, momentsOf, symbolIn};
 ghost use Rattle.code.specs.Calls.{outcome, readBackCall};
 use galois::product;
 use lists::copy;
@@ -72,20 +72,7 @@ fn fibre_sum(word: &[u8], b: usize, x: usize) -> u8
     sum
 }
 
-// A row and a multiple of another.
-fn added(row: [u8; 16], by: u8, other: [u8; 16]) -> [u8; 16]
-    ensures { λ r. ⌜ r ≡ listed 16 (addedAt row by other) ⌝ }
-{
-    let mut out = [0u8; 16];
-    let mut i = 0;
-    while i < 16 {
-        out[i] = row[i] ^ product(by, other[i]);
-        i += 1;
-    }
-    out
-}
-
-// The moments with y^b, by the power of x.
+// The moments with y^b, by the power of x: each lane is one power.
 fn moment_row(word: &[u8], b: usize) -> [u8; 16]
     requires { ⌜ length (now word) ≡ 64 ⌝ }
     ensures { λ r. ⌜ r ≡ momentRow (now (word .entry)) b ⌝ }
@@ -93,7 +80,8 @@ fn moment_row(word: &[u8], b: usize) -> [u8; 16]
     let mut row = [0u8; 16];
     let mut x = 0;
     while x < 16 {
-        let next = added(row, fibre_sum(word, b, x), powers(x as u8));
+        let sum = fibre_sum(word, b, x);
+        let next = crate::evaluation::times_plus_16(powers(x as u8), [sum; 16], row);
         row = next;
         x += 1;
     }

@@ -27,20 +27,20 @@ loop-holds c = (search needs, (c .xs .ensures, rule-start _ _))
 sub-i-2 : tie.Need-sub-i-2 Inv-loop μ-loop
 sub-i-2 c = search needs
 
-mul-next-sums : tie.Need-mul-next-sums Inv-loop μ-loop
-mul-next-sums c = record { fits = omega (arith, c .before .loop .inv .1 .1 .within) }
+mul-coefficient : tie.Need-mul-coefficient Inv-loop μ-loop
+mul-coefficient c = record { fits = omega (arith, c .before .loop .inv .1 .1 .within) }
 
-mul-next-sums-2 : tie.Need-mul-next-sums-2 Inv-loop μ-loop
-mul-next-sums-2 c = search needs
+mul-coefficient-2 : tie.Need-mul-coefficient-2 Inv-loop μ-loop
+mul-coefficient-2 c = search needs
 
-add-next-sums : tie.Need-add-next-sums Inv-loop μ-loop
-add-next-sums c = record { fits = omega (arith, c .before .loop .inv .1 .1 .within) }
+add-coefficient : tie.Need-add-coefficient Inv-loop μ-loop
+add-coefficient c = record { fits = omega (arith, c .before .loop .inv .1 .1 .within) }
 
-array-read-next-sums : tie.Need-array-read-next-sums Inv-loop μ-loop
-array-read-next-sums c = omega (arith, c .before .loop .inv .0, c .before .loop .inv .1 .1 .within)
+array-read-coefficient : tie.Need-array-read-coefficient Inv-loop μ-loop
+array-read-coefficient c = omega (arith, c .before .loop .inv .0, c .before .loop .inv .1 .1 .within)
 
-next-sums-requires : tie.Need-next-sums-requires Inv-loop μ-loop
-next-sums-requires c κs = search needs
+times-plus-16-requires : tie.Need-times-plus-16-requires Inv-loop μ-loop
+times-plus-16-requires c κs = search needs
 
 loop-less : tie.Need-loop-less Inv-loop μ-loop
 loop-less c = search needs
@@ -50,7 +50,7 @@ loop-again c = (
   c .before .before .loop .inv .0,
   (
     c .before .before .loop .inv .1 .0,
-    rule-turn (c .before .before .loop .inv .1 .0) (c .before .before .loop .inv .1 .1) (c .before .loop-test .taken) (c .next-sums .ensures),
+    rule-turn (c .before .before .loop .inv .1 .0) (c .before .before .loop .inv .1 .1) (c .before .loop-test .taken) (c .times-plus-16 .ensures),
   ),
 )
 
@@ -67,11 +67,11 @@ in-x-spec =
     sub-i
     loop-holds
     sub-i-2
-    mul-next-sums
-    mul-next-sums-2
-    add-next-sums
-    array-read-next-sums
-    next-sums-requires
+    mul-coefficient
+    mul-coefficient-2
+    add-coefficient
+    array-read-coefficient
+    times-plus-16-requires
     loop-less
     loop-again
     returns)

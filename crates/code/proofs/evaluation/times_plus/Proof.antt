@@ -1,7 +1,7 @@
 -- `times_plus` meets its contract: the loop stores the step at each place.
 use Prim.Native.Nat.{_-_}
 use Rattle.lists.specs.Filled.{Filled, filled-start, filled-turn, filled-end}
-use Rattle.code.specs.Horner.{timesPlus}
+use Rattle.code.specs.Lanes.{timesPlus}
 use Rattle.code.proofs.Monomials.{blank, blank-length}
 use Rattle.code.proofs.Horner.{times-entry}
 use borrow.Author.Needs.{needs}

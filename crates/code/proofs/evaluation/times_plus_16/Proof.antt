@@ -1,19 +1,19 @@
--- `next_sums` meets its contract: the loop stores the next sum at each x.
+-- `times_plus_16` meets its contract: the loop stores the product and sum of each lane.
 use mathlib.Core.Path.{refl}
 use Prim.Native.Nat.{_-_}
 use Rattle.lists.specs.Filled.{Filled, filled-start, filled-turn, filled-end}
-use Rattle.code.specs.Horner.{nextSum}
+use Rattle.code.specs.Lanes.{timesPlus}
 use Rattle.code.proofs.Moments.{blank16}
-use Rattle.code.proofs.Horner.{next-entry}
+use Rattle.code.proofs.Horner.{times-entry}
 use borrow.Author.Needs.{needs}
-use Rattle.code.proofs.evaluation.next_sums.Statement.{statement}
-use Rattle.code.proofs.evaluation.next_sums.Tie as tie
+use Rattle.code.proofs.evaluation.times_plus_16.Statement.{statement}
+use Rattle.code.proofs.evaluation.times_plus_16.Tie as tie
 
 abbrev Inv-loop : tie.InvT-loop
-Inv-loop coefficient xs sums out₀ x₀ out x = Filled blank16 (nextSum xs sums coefficient) x out
+Inv-loop factors values more out₀ lane₀ out lane = Filled blank16 (timesPlus factors values more) lane out
 
 abbrev μ-loop : tie.MeasureT-loop
-μ-loop coefficient xs sums out₀ x₀ out x = 16 - x
+μ-loop factors values more out₀ lane₀ out lane = 16 - lane
 
 loop-holds : tie.Need-loop-holds Inv-loop μ-loop
 loop-holds c = filled-start _ _
@@ -27,23 +27,26 @@ array-read-product-2 c = search needs
 product-requires : tie.Need-product-requires Inv-loop μ-loop
 product-requires c κs = search needs
 
+array-read-out : tie.Need-array-read-out Inv-loop μ-loop
+array-read-out c = search needs
+
 array-write-out : tie.Need-array-write-out Inv-loop μ-loop
 array-write-out c = search needs
 
-add-x : tie.Need-add-x Inv-loop μ-loop
-add-x c = search needs
+add-lane : tie.Need-add-lane Inv-loop μ-loop
+add-lane c = search needs
 
 loop-less : tie.Need-loop-less Inv-loop μ-loop
 loop-less c = search needs
 
 loop-again : tie.Need-loop-again Inv-loop μ-loop
-loop-again c = filled-turn 0 (c .before .before .loop .inv) _ (search needs) (next-entry _ _ _ _ (c .product .ensures))
+loop-again c = filled-turn 0 (c .before .before .loop .inv) _ (search needs) (times-entry _ _ _ _ (c .product .ensures))
 
 returns : tie.Need-returns Inv-loop μ-loop
 returns c = filled-end 0 (c .before .loop .inv) 16 refl (c .loop-test .left)
 
-pub next-sums-spec : {M : Type 1} → statement M
-next-sums-spec =
+pub times-plus-16-spec : {M : Type 1} → statement M
+times-plus-16-spec =
     tie.close
     (tie.spec
     Inv-loop
@@ -52,8 +55,9 @@ next-sums-spec =
     array-read-product
     array-read-product-2
     product-requires
+    array-read-out
     array-write-out
-    add-x
+    add-lane
     loop-less
     loop-again
     returns)
