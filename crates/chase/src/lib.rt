@@ -8,7 +8,6 @@ ghost use lib.Dec.{leb};
 ghost use Rattle.lists.specs.Count.{bit};
 ghost use Rattle.lists.specs.Words.{isBefore};
 ghost use Rattle.lists.specs.Listed.{listed};
-ghost use Rattle.hermitian.specs.Orders.{orderOf};
 ghost use Rattle.basis.specs.Choice.{leadAt};
 ghost use Rattle.code.specs.Encoding.{encodeOf};
 ghost use Rattle.soft.specs.Column.{columnOf};
@@ -22,6 +21,7 @@ use basis::Leads;
 use basis::Rows;
 use code::encoding::codeword_of;
 use code::encoding::known_rate;
+use code::encoding::order;
 use division::dividing::divide;
 use division::parts::with_z;
 use division::parts::without_z;
@@ -59,23 +59,6 @@ fn none_near() -> Found
     }
 }
 
-// The order that message symbol t multiplies: 1, 2, 3, 6, 7 and 11 are missing.
-fn order_of(t: usize) -> usize
-    requires { ⌜ t < 49 ⌝ }
-    ensures { λ r. ⌜ (r ≡ orderOf 4 t) × (r < 64) ⌝ }
-{
-    if 6 <= t {
-        return t + 6;
-    }
-    if 3 <= t {
-        return t + 5;
-    }
-    if 1 <= t {
-        return t + 3;
-    }
-    0
-}
-
 // The message of a function by order.
 fn message_of(function: [u8; 64], k: usize) -> [u8; 49]
     requires { ⌜ k ≤ 49 ⌝ }
@@ -84,7 +67,7 @@ fn message_of(function: [u8; 64], k: usize) -> [u8; 49]
     let mut out = [0u8; 49];
     let mut t = 0;
     while t < k {
-        out[t] = function[order_of(t)];
+        out[t] = function[order(t)];
         t += 1;
     }
     out

@@ -2,6 +2,7 @@
 use mathlib.Core.Path.{_≡_, refl, sym, ap, ap₂, _∙_, subst}
 use mathlib.Core.List.{List, []}
 use Prim.Native.Nat.{ℕ, zero, suc, _+_, _-_, _*_, _/_, _%_, _<_, _≤_}
+use native.Mathlib.Nat.{mod-eq-of-lt}
 use native.Mathlib.Numerals.{add-one}
 use native.Mathlib.Omega.{arith}
 use lib.Dec.{lit≤}
@@ -11,20 +12,16 @@ use Rattle.lists.specs.Listed.{listed, listed-at, listed-ext}
 use Rattle.lists.specs.Filled.{Filled, filled-start, filled-turn, filled-read}
 use Rattle.lists.specs.XorSum.{xorSum, xorSum-suc}
 use Rattle.galois.specs.Gf16.{times}
-use Rattle.hermitian.specs.Present.{Present, genus}
-use Rattle.hermitian.specs.Orders.{orderOf, orderOf-large, orderOf-present, orderOf-up-to}
+use Rattle.hermitian.specs.Present.{Present}
+use Rattle.hermitian.specs.Orders.{orderOf, orderOf-present}
 use Rattle.code.specs.Curve.{yOf, power, power-nil, power-suc}
+use Rattle.code.specs.Evaluation.{order-below}
 use Rattle.code.specs.Lanes.{timesPlus, timesPlus-at}
 use Rattle.code.specs.Extraction.{atZero, symbolIn, symbol-in, symbolAt, messageAt, momentsOf, fibreTerm, fibreSum, momentTerm, momentUpTo, momentRow}
 
 -- an entry of a list by a rule
 pub entry : (n i : ℕ) (f : ℕ → ℕ) {l : List ℕ} → l ≡ listed n f → i < n → getD l i 0 ≡ f i
 entry n i f e h = ap (λ k. getD k i 0) e ∙ listed-at n i f 0 h
-
--- ---- orders
-pub order-large : (t : ℕ) → 6 ≤ t → t + 6 ≡ orderOf 4 t
-unfolding genus
-order-large t h = sym (orderOf-large 4 (lit≤ tt) t h)
 
 -- ---- powers
 pub power-start : (a : ℕ) → 1 ≡ power a 0
@@ -97,15 +94,13 @@ unfolding fibreTerm
 fibre-entry v b x r e f g = g ∙ ap (times (getD v (x * 4 + r) 0)) (f ∙ ap (λ a. power a b) e)
 
 -- ---- the message read off the moments
-pub order-fits : (t : ℕ) {o : ℕ} → t < 58 → o ≡ orderOf 4 t → Present 4 o × (o < 64)
-unfolding genus
-order-fits t {o} h e =
-    let p : Present 4 o = subst (Present 4) (sym e) (orderOf-present 4 (lit≤ tt) t) in
-    let q : orderOf 4 t ≤ 63 = orderOf-up-to 4 (lit≤ tt) 63 t (lit≤ tt) .1 h in
-    (p, omega arith)
+pub order-fits : (t : ℕ) {o : ℕ} → o ≡ orderOf 4 (t % 58) → Present 4 o × (o < 64)
+order-fits t {o} e =
+    let p : Present 4 o = subst (Present 4) (sym e) (orderOf-present 4 (lit≤ tt) (t % 58)) in
+    (p, omega (arith, order-below (t % 58) (omega arith)))
 
-pub message-entry : (v : List ℕ) (t : ℕ) {ms : List (List ℕ)} {o s : ℕ} → ms ≡ momentsOf v → o ≡ orderOf 4 t
+pub message-entry : (v : List ℕ) (t : ℕ) {ms : List (List ℕ)} {o s : ℕ} → t < 58 → ms ≡ momentsOf v → o ≡ orderOf 4 (t % 58)
     → s ≡ symbolIn ms (o / 4 - o % 4) (o % 4) → s ≡ messageAt v t
 unfolding messageAt symbolAt
-message-entry v t {ms} {o} e f g =
-    g ∙ ap₂ (λ x k. symbolIn x (k / 4 - k % 4) (k % 4)) e f ∙ symbol-in v _ _
+message-entry v t {ms} {o} h e f g =
+    g ∙ ap₂ (λ x k. symbolIn x (k / 4 - k % 4) (k % 4)) e (f ∙ ap (orderOf 4) (mod-eq-of-lt h)) ∙ symbol-in v _ _

@@ -1,13 +1,13 @@
--- The ranks of the first present orders, computed, and of all from 12 on.
+-- The ranks of the first present orders, computed, and of all from 12 on; and the orders from rank 6 on.
 use mathlib.Core.Bool.{Bool, true, false}
-use mathlib.Core.Path.{_≡_, subst}
+use mathlib.Core.Path.{_≡_, sym, subst}
 use Prim.Native.Nat.{ℕ, _+_, _-_, _/_, _%_, _<_, _≤_}
 use native.Mathlib.Omega.{arith}
 use lib.Dec.{T, eqb, eqb→eq, lit≤}
 use borrow.Author.Tests.{le-leb}
 use Rattle.lists.specs.Every.{every, every-at}
 use Rattle.hermitian.specs.Present.{Present, genus}
-use Rattle.hermitian.specs.Orders.{isPresent, rank, rank-large}
+use Rattle.hermitian.specs.Orders.{isPresent, rank, rank-large, orderOf, orderOf-large}
 
 abbrev unless : Bool → Bool → Bool
 unless true b = b
@@ -40,3 +40,7 @@ rank-third o h a b = gap-rank 8 5 tt o a b h
 pub rank-rest : (o : ℕ) → 12 ≤ o → o - 6 ≡ rank 4 o
 unfolding genus
 rank-rest o h = omega (arith, rank-large 4 (lit≤ tt) o h)
+
+pub order-large : (t : ℕ) → 6 ≤ t → t + 6 ≡ orderOf 4 t
+unfolding genus
+order-large t h = sym (orderOf-large 4 (lit≤ tt) t h)

@@ -3,6 +3,7 @@
 --
 --   monomialAt p o       the monomial of order o at place p, as a rule for the list of all orders
 --   ifPresent b a        a where the order is present, 0 where it is missing; present-yes, present-no
+--   order-below          the orders of 58 message symbols are below 64
 --   valueOf f p          the value at place p of the function with coefficients f at the present orders
 --   coefficientOf m o    the coefficient of order o in the function of message m: symbol t at the t-th present order
 --   functionOf m         all 64 of them
@@ -27,7 +28,7 @@ use Rattle.lists.specs.XorSum.{xorSum, xorSum-nil, xorSum-suc, xorSum-ext, xorS
 use Rattle.galois.specs.Gf16.{times}
 use Rattle.galois.specs.Field16.{times-comm, times-assoc, times-zero, times-one}
 use Rattle.hermitian.specs.Present.{Present, decPresent, genus}
-use Rattle.hermitian.specs.Orders.{isPresent, rank, rank-nil, rank-yes, rank-no, rank-large, orderOf, orderOf-rank}
+use Rattle.hermitian.specs.Orders.{isPresent, rank, rank-nil, rank-yes, rank-no, rank-large, orderOf, orderOf-rank, orderOf-up-to}
 use Rattle.code.specs.Curve.{power, power-suc, xOf, yOf}
 use Rattle.code.specs.Encoding.{monomial, term, valueAt, encodeOf}
 
@@ -37,6 +38,10 @@ monomialAt p o = monomial o p
 abbrev pub ifPresent : Bool → ℕ → ℕ
 ifPresent true a = a
 ifPresent false a = 0
+
+pub order-below : (t : ℕ) → t < 58 → orderOf 4 t < 64
+unfolding genus
+order-below t h = omega (arith, orderOf-up-to 4 (lit≤ tt) 63 t (lit≤ tt) .1 h)
 
 unfoldable pub valueTerm : List ℕ → ℕ → ℕ → ℕ
 valueTerm f p o = ifPresent (isPresent 4 o) (times (getD f o 0) (monomial o p))

@@ -32,12 +32,12 @@ use Rattle.algebra.specs.Dual.{PowerSums, dual, dual-sum, dual-split}
 use Rattle.galois.specs.Gf16.{times}
 use Rattle.galois.specs.Binary as Binary
 use Rattle.galois.specs.Field16.{GF, K16, toF, toF-add, toF-times, toF-zero, toF-one, toF-injective, times-lt, xor-below}
-use Rattle.hermitian.specs.Present.{genus}
-use Rattle.hermitian.specs.Orders.{order, xPower, yPower, order-of, orderOf, orderOf-present, orderOf-up-to, rank, rank-orderOf}
+use Rattle.hermitian.specs.Orders.{order, xPower, yPower, order-of, orderOf, orderOf-present, rank, rank-orderOf}
 use Rattle.hermitian.specs.Value as Value
 use Rattle.code.specs.Curve.{power, yOf}
 use Rattle.code.specs.Points.{yTable, yTable-rule}
 use Rattle.code.specs.Encoding.{monomial, valueAt, encodeOf}
+use Rattle.code.specs.Evaluation.{order-below}
 use Rattle.code.specs.Bridge.{toF-power, toF-xorSum, px, py, toF-value}
 open Field K16 using (_⊕_, _⊗_, 𝟘, 𝟙)
 
@@ -237,8 +237,7 @@ toF-symbolOf v i j =
 -- ---- so the symbols of a codeword are those of its message
 -- below order 64 no power of x is above 15
 small : (t : ℕ) → t < 58 → xPower 4 (orderOf 4 t) ≤ 15
-unfolding genus
-small t h = omega (arith, orderOf-up-to 4 (lit≤ tt) 63 t (lit≤ tt) .1 h)
+small t h = omega (arith, order-below t h)
 
 orderOf-injective : (s t : ℕ) → orderOf 4 s ≡ orderOf 4 t → s ≡ t
 orderOf-injective s t e = sym (rank-orderOf 4 (lit≤ tt) s) ∙ ap (rank 4) e ∙ rank-orderOf 4 (lit≤ tt) t

@@ -1,8 +1,9 @@
 // A message as a function, symbol t at the t-th present order, and its values at all places.
 ghost use mathlib.Core.Path.{_≡_};
+ghost use Prim.Native.Nat.{_%_};
 ghost use Rattle.lists.specs.Words.{allBelow};
 ghost use Rattle.hermitian.specs.Present.{Present};
-ghost use Rattle.hermitian.specs.Orders.{rank};
+ghost use Rattle.hermitian.specs.Orders.{orderOf, rank};
 ghost use Rattle.code.specs.Encoding.{encodeOf, knownRate};
 ghost use Rattle.code.specs.Evaluation.{coefficientOf, functionOf};
 ghost use Rattle.code.specs.Calls.{outcome, encodeCall};
@@ -27,6 +28,20 @@ fn rank(order: usize) -> usize
         return order - 5;
     }
     order - 6
+}
+
+// The first present orders; from message symbol 6 on none is missing.
+const ORDERS: [usize; 6] = [0, 4, 5, 8, 9, 10];
+
+// The order of a message symbol. Its number counts modulo 58.
+pub fn order(symbol: usize) -> usize
+    ensures { λ r. ⌜ r ≡ orderOf 4 (symbol % 58) ⌝ }
+{
+    let t = symbol % 58;
+    if 6 <= t {
+        return t + 6;
+    }
+    ORDERS[t]
 }
 
 // The message's coefficient of an order.

@@ -1,11 +1,10 @@
 // Reading back: the message is read off the word's moments, encoded again and compared.
 ghost use mathlib.Core.Bool.{true};
 ghost use mathlib.Core.Path.{_≡_};
-ghost use Prim.Native.Nat.{_/_, _%_, _-_, _<_, _≤_};
+ghost use Prim.Native.Nat.{_/_, _%_, _-_, _<_};
 ghost use lib.ListN.{length};
 ghost use Rattle.lists.specs.Listed.{listed};
 ghost use Rattle.hermitian.specs.Present.{Present};
-ghost use Rattle.hermitian.specs.Orders.{orderOf};
 ghost use Rattle.code.specs.Curve.{power};
 ghost use Rattle.code.specs.Extraction.{atZero, extractOf, fibreSum, momentRow, momentsOf, symbolIn};
 ghost use Rattle.code.specs.Calls.{outcome, readBackCall};
@@ -16,20 +15,6 @@ use refusals::NO_CODEWORD;
 use refusals::NO_SYMBOL;
 use refusals::UNKNOWN_RATE;
 use refusals::WRONG_SIZE;
-
-// The first present orders; from message symbol 6 on none is missing.
-const ORDERS: [usize; 6] = [0, 4, 5, 8, 9, 10];
-
-// The order of a message symbol.
-fn order(symbol: usize) -> usize
-    requires { ⌜ symbol < 58 ⌝ }
-    ensures { λ r. ⌜ r ≡ orderOf 4 symbol ⌝ }
-{
-    if 6 <= symbol {
-        return symbol + 6;
-    }
-    ORDERS[symbol]
-}
 
 fn power(a: u8, n: usize) -> u8
     ensures { λ r. ⌜ r ≡ power a n ⌝ }
@@ -133,7 +118,7 @@ fn extracted(word: &[u8]) -> [u8; 58]
     let mut out = [0u8; 58];
     let mut t = 0;
     while t < 58 {
-        out[t] = symbol(moments, order(t));
+        out[t] = symbol(moments, crate::encoding::order(t));
         t += 1;
     }
     out

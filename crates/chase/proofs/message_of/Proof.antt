@@ -1,11 +1,11 @@
 -- Each symbol passed is that of its order.
-use mathlib.Core.Path.{_≡_, ap}
+use mathlib.Core.Path.{_≡_}
 use Prim.Native.Nat.{_≤_, _-_}
 use native.Mathlib.Omega.{arith}
-use lib.ListN.{replicate, getD}
+use lib.ListN.{replicate}
 use Rattle.lists.specs.Filled.{Filled, filled-start, filled-turn}
 use Rattle.chase.specs.Searching.{symbolIn}
-use Rattle.chase.proofs.Message.{message-end}
+use Rattle.chase.proofs.Message.{order-fits, symbol-at, message-end}
 use borrow.Author.Needs.{needs}
 use Rattle.chase.proofs.message_of.Statement.{statement}
 use Rattle.chase.proofs.message_of.Tie as tie
@@ -19,11 +19,11 @@ abbrev μ-loop : tie.MeasureT-loop
 loop-holds : tie.Need-loop-holds Inv-loop μ-loop
 loop-holds c = (search needs, filled-start _ _)
 
-order-of-requires : tie.Need-order-of-requires Inv-loop μ-loop
-order-of-requires c κs = search needs
+order-requires : tie.Need-order-requires Inv-loop μ-loop
+order-requires c κs = search needs
 
 array-read-out : tie.Need-array-read-out Inv-loop μ-loop
-array-read-out c = search needs
+array-read-out c = order-fits _ (c .order .ensures)
 
 array-write-out : tie.Need-array-write-out Inv-loop μ-loop
 array-write-out c = search needs
@@ -35,8 +35,7 @@ loop-less : tie.Need-loop-less Inv-loop μ-loop
 loop-less c = search needs
 
 loop-again : tie.Need-loop-again Inv-loop μ-loop
-unfolding symbolIn
-loop-again c = (search needs, filled-turn 0 (c .before .before .loop .inv .1) _ (search needs) (ap (λ o. getD (c .before .before .before .args .t1) o 0) (c .order-of .ensures .0)))
+loop-again c = (search needs, filled-turn 0 (c .before .before .loop .inv .1) _ (search needs) (symbol-at _ _ (search needs) (c .order .ensures)))
 
 returns : tie.Need-returns Inv-loop μ-loop
 returns c =
@@ -50,7 +49,7 @@ message-of-spec =
     Inv-loop
     μ-loop
     loop-holds
-    order-of-requires
+    order-requires
     array-read-out
     array-write-out
     add-t

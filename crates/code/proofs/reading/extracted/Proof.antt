@@ -25,7 +25,7 @@ order-requires : tie.Need-order-requires Inv-loop μ-loop
 order-requires c κs = search needs
 
 symbol-requires : tie.Need-symbol-requires Inv-loop μ-loop
-symbol-requires c κs = order-fits _ (c .before .loop-test .taken) (c .order .ensures)
+symbol-requires c κs = order-fits _ (c .order .ensures)
 
 array-write-out : tie.Need-array-write-out Inv-loop μ-loop
 array-write-out c = search needs
@@ -37,7 +37,9 @@ loop-less : tie.Need-loop-less Inv-loop μ-loop
 loop-less c = search needs
 
 loop-again : tie.Need-loop-again Inv-loop μ-loop
-loop-again c = (c .before .before .before .loop .inv .0, filled-turn 0 (c .before .before .before .loop .inv .1) _ (search needs) (message-entry _ _ (c .before .before .before .loop .inv .0) (c .before .order .ensures) (c .symbol .ensures)))
+loop-again c =
+    let inv = c .before .before .before .loop .inv in
+    (inv .0, filled-turn 0 (inv .1) _ (search needs) (message-entry _ _ (c .before .before .loop-test .taken) (inv .0) (c .before .order .ensures) (c .symbol .ensures)))
 
 returns : tie.Need-returns Inv-loop μ-loop
 unfolding extractOf

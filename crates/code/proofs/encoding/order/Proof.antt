@@ -2,10 +2,10 @@
 use Rattle.lists.specs.Listed.{listed, listed-at}
 use Rattle.hermitian.specs.Present.{genus}
 use Rattle.hermitian.specs.Orders.{orderOf, presents, isPresent}
-use Rattle.code.proofs.Moments.{order-large}
+use Rattle.code.proofs.Ranks.{order-large}
 use borrow.Author.Needs.{needs}
-use Rattle.code.proofs.reading.order.Statement.{statement}
-use Rattle.code.proofs.reading.order.Tie as tie
+use Rattle.code.proofs.encoding.order.Statement.{statement}
+use Rattle.code.proofs.encoding.order.Tie as tie
 
 add-result : tie.Need-add-result
 add-result c = search needs
