@@ -1,0 +1,16 @@
+-- `hermitian_encode` hands on what `encode` of `code` returns and leaves in the frame.
+use borrow.Author.Needs.{needs}
+use Rattle.modem.proofs.hermitian_encode.Statement.{statement}
+use Rattle.modem.proofs.hermitian_encode.Tie as tie
+
+encode-requires : tie.Need-encode-requires
+encode-requires c κs = search needs
+
+same-length : tie.Need-same-length
+same-length c = search needs
+
+returns : tie.Need-returns
+returns c = c .before .before .encode .ensures
+
+pub hermitian-encode-spec : {M : Type 1} → statement M
+hermitian-encode-spec = tie.close (tie.spec encode-requires same-length returns)
