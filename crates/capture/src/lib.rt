@@ -76,11 +76,11 @@ fn write_records(arrival: &[u8], costs: &[u16], out: &mut [u8])
     while i < PLACES {
         let place = arrived(arrival, i);
         let from = SYMBOLS * (place as usize);
-        let at = RECORD_BYTES * i;
+        let to = RECORD_BYTES * i;
         write_record(
             place,
             &costs[from..from + SYMBOLS],
-            &mut out[at..at + RECORD_BYTES],
+            &mut out[to..to + RECORD_BYTES],
         );
         i += 1;
     }

@@ -33,8 +33,8 @@ cast-from c = search needs
 mul-from : tie.Need-mul-from Inv-loop μ-loop
 mul-from c = search needs
 
-mul-at : tie.Need-mul-at Inv-loop μ-loop
-mul-at c = search needs
+mul-to : tie.Need-mul-to Inv-loop μ-loop
+mul-to c = search needs
 
 add-write-record : tie.Need-add-write-record Inv-loop μ-loop
 add-write-record c = search needs
@@ -109,7 +109,7 @@ write-records-spec =
     arrived-requires
     cast-from
     mul-from
-    mul-at
+    mul-to
     add-write-record
     mul-write-record
     sub-write-record
