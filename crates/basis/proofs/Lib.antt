@@ -1,4 +1,2 @@
-pub mod Moved
 pub mod Choosing
-pub mod Stored
 pub mod Rowwise

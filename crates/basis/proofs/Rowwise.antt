@@ -10,7 +10,7 @@ use Rattle.algebra.specs.Field.{Field, zero-mul, add-zero}
 use Rattle.algebra.specs.Coefficients.{plus, scale}
 use Rattle.galois.specs.Gf16.{times, inverse}
 use Rattle.galois.specs.Field16.{GF, K16, toF, toF-times, toF-zero}
-use Rattle.basis.specs.Rows.{coef, raise}
+use Rattle.rows.specs.Rows.{coef, raise}
 use Rattle.basis.specs.Step.{rowAt, clearedRow, NextRows}
 open Field K16 using (_⊕_, _⊗_)
 

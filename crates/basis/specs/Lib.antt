@@ -1,4 +1,2 @@
-pub mod Rows
 pub mod Choice
 pub mod Step
-pub mod Planes

@@ -21,8 +21,8 @@ use Rattle.algebra.specs.Field.{Field}
 use Rattle.algebra.specs.Coefficients.{choose, choose-yes, choose-no, plus, scale}
 use Rattle.galois.specs.Gf16.{times, inverse}
 use Rattle.galois.specs.Field16.{GF, K16, toF, value, value-zero}
-use Rattle.basis.specs.Rows.{coef, dot, raise}
-use Rattle.basis.specs.Planes.{planesOf, dotOf, dotOf-planes}
+use Rattle.rows.specs.Rows.{coef, dot, raise}
+use Rattle.rows.specs.Planes.{planesOf, dotOf, dotOf-planes}
 use Rattle.basis.specs.Choice.{leadAt}
 open Field K16 using (𝟘)
 

@@ -5,16 +5,16 @@ ghost use Rattle.algebra.specs.Coefficients.{plus, scale};
 ghost use Rattle.lists.specs.Listed.{listed};
 ghost use Rattle.galois.specs.Gf16.{times};
 ghost use Rattle.galois.specs.Field16.{K16, toF};
-ghost use Rattle.basis.specs.Rows.{coef};
+ghost use Rattle.rows.specs.Rows.{coef};
 ghost use Rattle.basis.specs.Choice.{Chosen, betterOf};
 ghost use Rattle.basis.specs.Step.{discrepancyOf, discrepancyAt, NextRows};
 use crate::CLASSES;
 use crate::Leads;
-use crate::Row;
 use crate::Rows;
-use crate::row::Planes;
 use galois::inverse;
 use galois::product;
+use rows::Planes;
+use rows::Row;
 
 // The value of a row at the point of the weights; a spent class counts as zero.
 fn discrepancy(row: Row, lead: usize, limit: usize, weights: Planes) -> u8
@@ -23,13 +23,13 @@ fn discrepancy(row: Row, lead: usize, limit: usize, weights: Planes) -> u8
     if limit < lead {
         return 0;
     }
-    crate::row::dot(row, weights)
+    rows::dot(row, weights)
 }
 
 pub fn discrepancies(rows: Rows, leads: Leads, limit: usize, weights: Row) -> [u8; CLASSES]
     ensures { λ r. ⌜ r ≡ listed 8 (discrepancyAt limit leads rows weights) ⌝ }
 {
-    let bits = crate::row::planes(weights);
+    let bits = rows::planes(weights);
     let mut out = [0u8; CLASSES];
     let mut r = 0;
     while r < CLASSES {
@@ -76,7 +76,7 @@ fn next_row(row: Row, d: u8, by: u8, pivot: Row) -> Row
     if d == 0 {
         return row;
     }
-    crate::row::added(row, product(d, by), pivot)
+    rows::added(row, product(d, by), pivot)
 }
 
 // The rows after a step at class `at`, where the point's x is a; with no such class they stay.
@@ -94,6 +94,6 @@ pub fn next_rows(rows: Rows, ds: [u8; CLASSES], at: usize, a: u8) -> Rows
         out[r] = next_row(rows[r], ds[r], by, pivot);
         r += 1;
     }
-    out[at] = crate::row::raised(pivot, a);
+    out[at] = rows::raised(pivot, a);
     out
 }

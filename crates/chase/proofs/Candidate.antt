@@ -20,7 +20,7 @@ use Rattle.hermitian.specs.Present.{genus}
 use Rattle.hermitian.specs.Interpolant.{withoutZ, withZ}
 use Rattle.hermitian.specs.Division.{quotient}
 use Rattle.hermitian.specs.Orders.{orderOf}
-use Rattle.basis.specs.Rows.{coef, coef-at}
+use Rattle.rows.specs.Rows.{coef, coef-at}
 use Rattle.division.specs.Parts.{plainAt, zAt, cut, zPart, coef-plain, coef-z}
 use Rattle.division.specs.Dividing.{Divided, Roomy}
 use Rattle.interpolation.specs.Polynomial.{part, polynomial, polynomial-plain, polynomial-z}

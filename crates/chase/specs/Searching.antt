@@ -16,7 +16,7 @@ use lib.ListN.{length, getD}
 use Rattle.algebra.specs.Coefficients.{Lead}
 use Rattle.algebra.specs.Koetter.{Basis}
 use Rattle.galois.specs.Field16.{K16}
-use Rattle.basis.specs.Rows.{coef}
+use Rattle.rows.specs.Rows.{coef}
 use Rattle.basis.specs.Choice.{leadAt}
 use Rattle.interpolation.specs.Polynomial.{polynomial, polynomials}
 use Rattle.hermitian.specs.Orders.{orderOf}

@@ -16,7 +16,7 @@ use Rattle.algebra.specs.Field.{Field, mul-zero, add-zero}
 use Rattle.algebra.specs.Coefficients.{plus, scale, shift, shift-high, shift-low}
 use Rattle.galois.specs.Gf16.{times}
 use Rattle.galois.specs.Field16.{GF, K16, toF, toF-add, toF-times, times-comm}
-use Rattle.basis.specs.Rows.{coef, coef-at, coef-beyond}
+use Rattle.rows.specs.Rows.{coef, coef-at, coef-beyond}
 use Rattle.division.specs.Parts.{cut, cut-low, cut-high}
 open Field K16 using (_⊕_, _⊗_, 𝟘)
 

@@ -23,7 +23,7 @@ use Rattle.galois.specs.Field16.{GF, K16, toF, toF-times, toF-inverse, toF-zero
 use Rattle.hermitian.specs.Present.{Present, decPresent}
 use Rattle.hermitian.specs.Ring.{timesY, powY, powY-nil, powY-suc, below-powY, timesMonomial}
 use Rattle.hermitian.specs.Division.{quotientAt, divideStep, quotient}
-use Rattle.basis.specs.Rows.{coef, coef-at, coef-beyond}
+use Rattle.rows.specs.Rows.{coef, coef-at, coef-beyond}
 use Rattle.division.specs.Parts.{cut, cut-below, yAt, coef-y}
 open Field K16 using (_⊕_, _⊗_, 𝟘, inv)
 

@@ -22,7 +22,7 @@ use Rattle.algebra.specs.Field.{Field}
 use Rattle.algebra.specs.Coefficients.{choose, choose-yes, choose-no, Below, Lead, shift, shift-high, shift-low}
 use Rattle.galois.specs.Field16.{GF, K16, toF, toF-add, toF-zero}
 use Rattle.hermitian.specs.Ring.{timesY, top, descent, top-at, top-off}
-use Rattle.basis.specs.Rows.{coef, coef-at, coef-beyond}
+use Rattle.rows.specs.Rows.{coef, coef-at, coef-beyond}
 open Field K16 using (_⊕_, _⊗_, 𝟘)
 
 abbrev pub plainAt : List ℕ → ℕ → ℕ

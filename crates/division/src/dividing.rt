@@ -3,7 +3,7 @@ ghost use mathlib.Core.Path.{_≡_};
 ghost use Prim.Native.Nat.{_<_, _-_, _*_, _/_, _%_};
 ghost use Rattle.algebra.specs.Coefficients.{plus, scale, shift};
 ghost use Rattle.galois.specs.Field16.{K16, toF};
-ghost use Rattle.basis.specs.Rows.{coef};
+ghost use Rattle.rows.specs.Rows.{coef};
 ghost use Rattle.division.specs.Parts.{cut};
 ghost use Rattle.division.specs.Dividing.{nextAt, yPowers, Divided};
 use galois::inverse;

@@ -8,7 +8,7 @@ use Rattle.algebra.specs.Field.{Field, add-zero, mul-zero}
 use Rattle.algebra.specs.Coefficients.{plus, scale, shift, shift-high, shift-low, Below, unit, unit-at, unit-off}
 use Rattle.galois.specs.Field16.{GF, K16}
 use Rattle.hermitian.specs.Interpolant.{withoutZ, withZ, joined, without-joined, with-joined, parts-ext, joined-plus, joined-scale, joined-shift, below-withoutZ, below-withZ}
-use Rattle.basis.specs.Rows.{raise, raise-first, raise-plain, raise-seam, raise-z}
+use Rattle.rows.specs.Rows.{raise, raise-first, raise-plain, raise-seam, raise-z}
 use Rattle.interpolation.specs.Polynomial.{part, polynomial, part-in, part-out, polynomial-plain, polynomial-z, gap-polynomial}
 open Field K16 using (_⊕_, _⊗_, 𝟘, 𝟙)
 

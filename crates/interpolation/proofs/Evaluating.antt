@@ -17,7 +17,7 @@ use Rattle.hermitian.specs.Interpolation.{Sample, Value}
 use Rattle.code.specs.Evaluation.{monomialAt}
 use Rattle.code.specs.Bridge.{toF-monomial}
 use Rattle.code.specs.Nodes.{node, sampleAt}
-use Rattle.basis.specs.Rows.{dot, weighed, weighed-plain, weighed-z, coef, coef-at}
+use Rattle.rows.specs.Rows.{dot, weighed, weighed-plain, weighed-z, coef, coef-at}
 use Rattle.interpolation.specs.Polynomial.{part, polynomial, part-in, part-below, polynomial-plain, polynomial-z}
 open Field K16 using (_⊕_, _⊗_, 𝟘)
 

@@ -14,7 +14,7 @@ use Rattle.code.specs.Evaluation.{monomialAt}
 use Rattle.code.specs.Bridge.{px}
 use Rattle.code.specs.Nodes.{node, sampleAt}
 use Rattle.code.specs.Curve.{xOf}
-use Rattle.basis.specs.Rows.{coef, weighed}
+use Rattle.rows.specs.Rows.{coef, weighed}
 use Rattle.basis.specs.Choice.{leadAt, Chosen, none, one}
 use Rattle.basis.specs.Step.{discrepancyAt, NextRows}
 use Rattle.interpolation.specs.Extending.{Extends}

@@ -13,7 +13,7 @@ use Rattle.algebra.specs.Coefficients.{scale, unit, unit-at, unit-off}
 use Rattle.galois.specs.Gf16.{times}
 use Rattle.galois.specs.Field16.{K16, toF, value, value-toF, toF-zero, toF-one, value-zero}
 use Rattle.hermitian.specs.Frobenius.{frobenius}
-use Rattle.basis.specs.Rows.{coef, coef-at, value-times-toF}
+use Rattle.rows.specs.Rows.{coef, coef-at, value-times-toF}
 use Rattle.basis.specs.Choice.{Chosen, none, one}
 use Rattle.interpolant.specs.LeastQ.{byteKey}
 use Rattle.interpolant.specs.Reading.{byteKey-plain, byteKey-z, byteOf}

@@ -17,7 +17,7 @@ use Rattle.hermitian.specs.Keys.{plain, timesZ, key, zPower, firstTerm, first, 
 use Rattle.hermitian.specs.Interpolant.{Interpolant, interpolant-start}
 use Rattle.basis.specs.Choice.{leadAt}
 use Rattle.basis.specs.Step.{rowAt}
-use Rattle.basis.specs.Rows.{coef, coef-at, coef-beyond}
+use Rattle.rows.specs.Rows.{coef, coef-at, coef-beyond}
 use Rattle.interpolation.specs.Start.{positionOf, startRow, Started}
 use Rattle.interpolation.specs.Polynomial.{polynomial, polynomials}
 use Rattle.interpolation.proofs.Combining.{polynomial-unit-plain, polynomial-unit-z}

@@ -18,7 +18,7 @@ use Rattle.galois.specs.Gf16.{inverse}
 use Rattle.galois.specs.Field16.{GF, K16, toF, value, toF-value, toF-times, toF-inverse, toF-zero, value-zero}
 use Rattle.hermitian.specs.Interpolant.{Interpolant}
 use Rattle.hermitian.specs.Interpolation.{Sample, Value, evaluation}
-use Rattle.basis.specs.Rows.{coef, dot, raise, weighed}
+use Rattle.rows.specs.Rows.{coef, dot, raise, weighed}
 use Rattle.basis.specs.Choice.{leadAt, Nonzero}
 use Rattle.basis.specs.Step.{rowAt, discrepancy, discrepancy-live, discrepancy-spent, discrepancyAt, NextRows}
 use Rattle.interpolation.specs.Polynomial.{polynomial, polynomials}

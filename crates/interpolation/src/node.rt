@@ -6,12 +6,12 @@ ghost use Rattle.interpolation.specs.Extending.{Extends};
 use basis::CLASSES;
 use basis::Leads;
 use basis::Rows;
-use basis::row::weights;
 use basis::step::choice;
 use basis::step::discrepancies;
 use basis::step::next_rows;
 use code::evaluation::monomials;
 use code::points::x_at;
+use rows::weights;
 
 // The basis of the polynomials that vanish at this place too; the leads are changed where they stand.
 pub fn extend(rows: Rows, leads: &mut Leads, limit: usize, place: usize, symbol: u8) -> Rows

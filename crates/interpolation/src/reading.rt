@@ -5,7 +5,7 @@ ghost use Rattle.lists.specs.Listed.{listed};
 ghost use Rattle.algebra.specs.Coefficients.{scale};
 ghost use Rattle.galois.specs.Field16.{K16, toF};
 ghost use Rattle.hermitian.specs.Frobenius.{frobenius};
-ghost use Rattle.basis.specs.Rows.{coef};
+ghost use Rattle.rows.specs.Rows.{coef};
 ghost use Rattle.interpolation.specs.Polynomial.{polynomial};
 ghost use Rattle.interpolant.specs.LeastQ.{byteKey, readingOf};
 ghost use Rattle.interpolant.specs.Reading.{byteOf};
@@ -16,11 +16,11 @@ use crate::PLACES;
 use crate::READING;
 use basis::CLASSES;
 use basis::Leads;
-use basis::PLAIN;
-use basis::Row;
 use basis::Rows;
 use galois::inverse;
 use galois::product;
+use rows::PLAIN;
+use rows::Row;
 
 // The coefficient of a row at a key within the limit.
 fn coefficient(row: Row, key: usize, m: usize) -> u8

@@ -3,14 +3,14 @@ ghost use mathlib.Core.Path.{_≡_};
 ghost use Prim.Native.Nat.{_<_, _≤_};
 ghost use Rattle.lists.specs.Listed.{listed};
 ghost use Rattle.hermitian.specs.Keys.{first};
-ghost use Rattle.basis.specs.Rows.{coef};
+ghost use Rattle.rows.specs.Rows.{coef};
 ghost use Rattle.interpolation.specs.Start.{startRow, Started};
 use basis::CLASSES;
 use basis::Leads;
-use basis::PLAIN;
-use basis::ROW;
-use basis::Row;
 use basis::Rows;
+use rows::PLAIN;
+use rows::ROW;
+use rows::Row;
 
 fn start_row(r: usize, m: usize) -> Row
     requires { ⌜ r < 8 ⌝ }

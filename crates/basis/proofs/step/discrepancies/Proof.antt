@@ -7,7 +7,7 @@ use lib.ListN.{getD, drop, replicate}
 use borrow.Author.Needs.{needs}
 use Rattle.lists.specs.Listed.{listed, listed-start, listed-store, listed-end, listed-ext}
 use Rattle.basis.specs.Choice.{leadAt}
-use Rattle.basis.specs.Planes.{planesOf}
+use Rattle.rows.specs.Planes.{planesOf}
 use Rattle.basis.specs.Step.{rowAt, discrepancyAt, discrepancyOf, discrepancyOf-planes}
 use Rattle.basis.proofs.step.discrepancies.Statement.{statement}
 use Rattle.basis.proofs.step.discrepancies.Tie as tie

@@ -3,7 +3,7 @@ use mathlib.Core.Path.{ap, _∙_}
 use borrow.Author.Needs.{needs}
 use Rattle.algebra.specs.Coefficients.{plus, scale}
 use Rattle.galois.specs.Field16.{K16, toF}
-use Rattle.basis.specs.Rows.{coef}
+use Rattle.rows.specs.Rows.{coef}
 use Rattle.basis.proofs.Rowwise.{added-nothing}
 use Rattle.basis.proofs.step.next_row.Statement.{statement}
 use Rattle.basis.proofs.step.next_row.Tie as tie

@@ -8,7 +8,7 @@ use borrow.Author.Needs.{needs}
 use Rattle.lists.specs.Listed.{listed, listed-start, listed-store, listed-end}
 use Rattle.algebra.specs.Coefficients.{scale}
 use Rattle.galois.specs.Field16.{K16, toF}
-use Rattle.basis.specs.Rows.{coef}
+use Rattle.rows.specs.Rows.{coef}
 use Rattle.interpolant.specs.Reading.{byteOf}
 use Rattle.interpolation.specs.Polynomial.{polynomial}
 use Rattle.interpolation.proofs.Shown.{scaled-byte}

@@ -1,0 +1,137 @@
+// Rows of coefficients: 64 without z by order, then 32 with z by order. Loops run over whole rows, so that no fact on where a row
+// ends is needed and the compiler can take sixteen positions at a time.
+ghost use mathlib.Core.Path.{_≡_};
+ghost use Prim.Native.Nat.{_<_};
+ghost use Rattle.algebra.specs.Coefficients.{plus, scale};
+ghost use Rattle.galois.specs.Field16.{K16, toF};
+ghost use Rattle.lists.specs.Listed.{listed};
+ghost use Rattle.rows.specs.Rows.{coef, raise, weighed};
+ghost use Rattle.rows.specs.Planes.{planeAt, planesOf, pickedOf, summedOf, dotOf};
+use galois::product;
+use galois::reduced;
+
+// A row holds PLAIN coefficients without z by order, then those with z by order.
+pub const PLAIN: usize = 64;
+
+pub const ROW: usize = 96;
+
+pub type Row = [u8; ROW];
+
+// The values of the terms at a point with z: the monomials there by order, then z times them.
+pub fn weights(monomials: [u8; PLAIN], z: u8) -> Row
+    ensures { λ r. ⌜ coef r ≡ weighed (coef monomials) (toF z) ⌝ }
+{
+    let mut out = [0u8; ROW];
+    let mut i = 0;
+    while i < PLAIN {
+        out[i] = monomials[i];
+        i += 1;
+    }
+    let mut k = PLAIN;
+    while k < ROW {
+        out[k] = product(z, monomials[k - PLAIN]);
+        k += 1;
+    }
+    out
+}
+
+// The entries of a row by their bits, lowest first: 127 where the bit is set and 0 where it is not.
+pub type Planes = [Row; 4];
+
+// The bit that counts `of`.
+fn plane(row: Row, of: u8) -> Row
+    requires { ⌜ 0 < of ⌝ }
+    ensures { λ r. ⌜ r ≡ listed 96 (planeAt of row) ⌝ }
+{
+    let mut out = [0u8; ROW];
+    let mut i = 0;
+    while i < ROW {
+        out[i] = row[i] / of % 2 * 127;
+        i += 1;
+    }
+    out
+}
+
+pub fn planes(row: Row) -> Planes
+    ensures { λ r. ⌜ r ≡ planesOf row ⌝ }
+{
+    let one = plane(row, 1);
+    let two = plane(row, 2);
+    let four = plane(row, 4);
+    let eight = plane(row, 8);
+    [one, two, four, eight]
+}
+
+// A product before its reduction, one factor by its bits.
+fn picked(a: u8, one: u8, two: u8, four: u8, eight: u8) -> u8
+    ensures { λ r. ⌜ r ≡ pickedOf a one two four eight ⌝ }
+{
+    let a1 = a % 16;
+    (a1 & one) ^ (a1 * 2 & two) ^ (a1 * 4 & four) ^ (a1 * 8 & eight)
+}
+
+fn summed(row: Row, one: Row, two: Row, four: Row, eight: Row) -> u8
+    ensures { λ r. ⌜ r ≡ summedOf row one two four eight ⌝ }
+{
+    let mut sum = 0u8;
+    let mut i = 0;
+    while i < ROW {
+        sum = sum ^ picked(row[i], one[i], two[i], four[i], eight[i]);
+        i += 1;
+    }
+    sum
+}
+
+// The value of a row at a point given by its weights, which are taken by their bits; the sum is reduced once.
+pub fn dot(row: Row, weights: Planes) -> u8
+    ensures { λ r. ⌜ r ≡ dotOf row weights ⌝ }
+{
+    let one = weights[0];
+    let two = weights[1];
+    let four = weights[2];
+    let eight = weights[3];
+    reduced(summed(row, one, two, four, eight))
+}
+
+// The row and a multiple of another.
+pub fn added(row: Row, by: u8, other: Row) -> Row
+    ensures { λ r. ⌜ coef r ≡ plus K16 (coef row) (scale K16 (toF by) (coef other)) ⌝ }
+{
+    let mut out = [0u8; ROW];
+    let mut i = 0;
+    while i < ROW {
+        out[i] = row[i] ^ product(other[i], by);
+        i += 1;
+    }
+    out
+}
+
+// The order of x, and where the terms with z begin that it moves to.
+const X: usize = 4;
+
+const X_TIMES_Z: usize = PLAIN + X;
+
+// x times a row; what leaves its part is lost.
+fn moved(row: Row) -> Row
+    ensures { λ r. ⌜ coef r ≡ raise (coef row) ⌝ }
+{
+    let mut out = [0u8; ROW];
+    let mut i = X;
+    while i < PLAIN {
+        out[i] = row[i - X];
+        i += 1;
+    }
+    let mut k = X_TIMES_Z;
+    while k < ROW {
+        out[k] = row[k - X];
+        k += 1;
+    }
+    out
+}
+
+// x + a times a row: it vanishes where x is a.
+pub fn raised(row: Row, a: u8) -> Row
+    ensures { λ r. ⌜ coef r ≡ plus K16 (raise (coef row)) (scale K16 (toF a) (coef row)) ⌝ }
+{
+    added(moved(row), a, row)
+}
