@@ -1,7 +1,6 @@
-pub mod Monomials
+pub mod Evaluating
 pub mod Ranks
 pub mod Symbols
 pub mod Codeword
 pub mod Answers
 pub mod Moments
-pub mod Horner

@@ -42,6 +42,11 @@ powers-turn x i {out} {v} t l h e =
     let s : (i - 1) + 1 ≡ i = omega arith in
     filled-turn 0 t v h (power-turn x (i - 1) (filled-read 0 t (i - 1) (omega arith)) e ∙ ap (power x) s)
 
+-- a lane's product and sum
+pub times-entry : (f v m : List ℕ) (i : ℕ) {a : ℕ} → a ≡ times (getD v i 0) (getD f i 0) → bitXor a (getD m i 0) ≡ timesPlus f v m i
+unfolding timesPlus
+times-entry f v m i e = ap (λ a. bitXor a (getD m i 0)) e
+
 -- ---- the row of moments with y^b, after the first x values
 pub record Row (v : List ℕ) (b x : ℕ) (row : List ℕ) : Type 0 where
   pub within : x ≤ 16

@@ -6,7 +6,7 @@ pub mod Calls
 pub mod Evaluation
 pub mod Bridge
 pub mod Lanes
-pub mod Horner
+pub mod Table
 pub mod Extraction
 pub mod Laws
 pub mod Nodes

@@ -1,6 +1,5 @@
 -- The constant points by place: their rule, computed once over the whole table.
 --
---   element      the elements of the field, by number; elements-listed: all sixteen
 --   yTable       the y of each place; its x is the place divided by 4
 --   yTable-rule  at each of the 64 places it is the y of the definition; yTable-listed: so it is the list of them
 --   yOf-below    every y is below 16
@@ -20,14 +19,6 @@ use Rattle.lists.specs.Same.{same, same-yes}
 use Rattle.galois.specs.Gf16.{times}
 use Rattle.galois.specs.Binary as Binary
 use Rattle.code.specs.Curve.{power, isOnCurve, fibreBelow, fibre, xOf, yOf}
-
-unfoldable pub element : ℕ → ℕ
-element x = x
-
-pub elements-listed :
-    0 ∷ 1 ∷ 2 ∷ 3 ∷ 4 ∷ 5 ∷ 6 ∷ 7 ∷ 8 ∷ 9 ∷ 10 ∷ 11 ∷ 12 ∷ 13 ∷ 14 ∷ 15 ∷ [] ≡ listed 16 element
-unfolding listed element
-elements-listed = refl
 
 unfoldable pub yTable : List ℕ
 yTable =

@@ -3,3 +3,4 @@ pub mod encoding;
 pub mod evaluation;
 pub mod points;
 pub mod reading;
+pub mod table;

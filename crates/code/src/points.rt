@@ -3,10 +3,6 @@ ghost use mathlib.Core.Path.{_≡_};
 ghost use Prim.Native.Nat.{_%_};
 ghost use Rattle.lists.specs.Listed.{listed};
 ghost use Rattle.code.specs.Curve.{xOf, yOf};
-ghost use Rattle.code.specs.Points.{element};
-
-// The elements of the field, each at its number: the x of the fibres. `xs` names the table.
-const XS: [u8; 16] = [0, 1, 2, 3, 4, 5, 6, 7, 8, 9, 10, 11, 12, 13, 14, 15];
 
 // The y of each place. `ys` names the table and proves its rule.
 const YS: [u8; 64] = [
@@ -97,13 +93,6 @@ pub fn x_at(place: usize) -> u8
     ensures { λ r. ⌜ r ≡ xOf (place % 64) ⌝ }
 {
     (place % 64 / 4) as u8
-}
-
-// All sixteen x.
-pub fn xs() -> [u8; 16]
-    ensures { λ r. ⌜ r ≡ listed 16 element ⌝ }
-{
-    XS
 }
 
 // The y of all places.

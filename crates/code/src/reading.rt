@@ -7,6 +7,7 @@ ghost use Rattle.lists.specs.Listed.{listed};
 ghost use Rattle.hermitian.specs.Present.{Present};
 ghost use Rattle.code.specs.Curve.{power};
 ghost use Rattle.code.specs.Extraction.{atZero, extractOf, fibreSum, momentRow, momentsOf, symbolIn};
+ghost use Rattle.code.specs.Lanes.{timesPlus};
 ghost use Rattle.code.specs.Calls.{outcome, readBackCall};
 use galois::product;
 use lists::copy;
@@ -24,6 +25,19 @@ fn power(a: u8, n: usize) -> u8
     while i < n {
         out = product(out, a);
         i += 1;
+    }
+    out
+}
+
+// Products and sums in sixteen lanes.
+fn times_plus(factors: [u8; 16], values: [u8; 16], more: [u8; 16]) -> [u8; 16]
+    ensures { λ r. ⌜ r ≡ listed 16 (timesPlus factors values more) ⌝ }
+{
+    let mut out = [0u8; 16];
+    let mut lane = 0;
+    while lane < 16 {
+        out[lane] = product(values[lane], factors[lane]) ^ more[lane];
+        lane += 1;
     }
     out
 }
@@ -66,7 +80,7 @@ fn moment_row(word: &[u8], b: usize) -> [u8; 16]
     let mut x = 0;
     while x < 16 {
         let sum = fibre_sum(word, b, x);
-        let next = crate::evaluation::times_plus_16(powers(x as u8), [sum; 16], row);
+        let next = times_plus(powers(x as u8), [sum; 16], row);
         row = next;
         x += 1;
     }

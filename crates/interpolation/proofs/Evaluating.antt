@@ -14,7 +14,7 @@ use Rattle.hermitian.specs.Ring.{Fn}
 use Rattle.hermitian.specs.Value.{monomial, Val}
 use Rattle.hermitian.specs.Interpolant.{Interpolant, fn-withoutZ, fn-withZ}
 use Rattle.hermitian.specs.Interpolation.{Sample, Value}
-use Rattle.code.specs.Evaluation.{monomialAt}
+use Rattle.code.specs.Evaluation.{monomialAt, present-yes}
 use Rattle.code.specs.Bridge.{toF-monomial}
 use Rattle.code.specs.Nodes.{node, sampleAt}
 use Rattle.rows.specs.Rows.{dot, weighed, weighed-plain, weighed-z, coef, coef-at}
@@ -69,5 +69,5 @@ pub monomials-of-place : (p z : ℕ) (r : List ℕ) → r ≡ listed 64 (monomia
 unfolding monomialAt
 monomials-of-place p z r e =
     record {
-      at = λ o l q. coef-at r o ∙ ap (λ k. toF (getD k o 0)) e ∙ ap toF (listed-at 64 o (monomialAt p) 0 l) ∙ toF-monomial o p;
+      at = λ o l q. coef-at r o ∙ ap (λ k. toF (getD k o 0)) e ∙ ap toF (listed-at 64 o (monomialAt p) 0 l ∙ present-yes o _ q) ∙ toF-monomial o p;
     }

@@ -17,7 +17,7 @@ use Rattle.code.specs.Curve.{xOf}
 use Rattle.rows.specs.Rows.{coef, weighed}
 use Rattle.basis.specs.Choice.{leadAt, Chosen, none, one}
 use Rattle.basis.specs.Step.{discrepancyAt, NextRows}
-use Rattle.interpolation.specs.Extending.{Extends}
+use Rattle.interpolation.specs.Extending.{Extends, ExtendsBy}
 use Rattle.interpolation.proofs.Evaluating.{monomials-of-place}
 use Rattle.interpolation.proofs.Stepping.{Stepped, same, raised, unspent, stepped-basis}
 
@@ -45,30 +45,37 @@ module _ (L : ℕ) (rows : List (List ℕ)) (leads weights ds : List ℕ) (at : 
       go (none q z) = absurd (omega arith)
       go (one s f) = unspent L rows leads weights at h (λ q. s .passes .nonzero (ap (λ l. getD l at 0) e ∙ q))
 
-  -- the place is one of the 64, so that counting modulo 64 leaves its number
-  module _ (p z : ℕ) (monomials : List ℕ) (small : L ≤ 127) (inside : p < 64) (eight : length leads ≡ 8)
-      (known : monomials ≡ listed 64 (monomialAt (p % 64))) (weighted : coef weights ≡ weighed (coef monomials) (toF z)) where
-    own : p % 64 ≡ p
-    own = mod-eq-of-lt inside
-
-    known-own : monomials ≡ listed 64 (monomialAt p)
-    known-own = known ∙ ap (λ k. listed 64 (monomialAt k)) own
-
-    pub extends-same : 8 ≤ at → Extends L p z rows leads rows leads
-    extends-same h = steps-extend L p z rows leads rows leads monomials weights small eight known-own weighted refl (go chosen)
+  module _ (z : ℕ) (monomials : List ℕ) (small : L ≤ 127) (eight : length leads ≡ 8) (weighted : coef weights ≡ weighed (coef monomials) (toF z)) where
+    pub extends-same : (x : ℕ) → 8 ≤ at → ExtendsBy L monomials x z rows leads rows leads
+    extends-same x h =
+        record {
+          as-long = refl;
+          at = λ p known q. steps-extend L p z rows leads rows leads monomials weights small eight known weighted refl (go p chosen);
+        }
       where
-        go : Chosen 8 ds leads at → Stepped (px p) (listed 8 (discrepancyAt L leads rows weights)) rows leads rows leads
-        go (none q n) = same (λ r l. ap (λ k. getD k r 0) (sym e) ∙ n r l) refl refl
-        go (one s f) = absurd (omega (arith, s .within))
+        go : (p : ℕ) → Chosen 8 ds leads at → Stepped (px p) (listed 8 (discrepancyAt L leads rows weights)) rows leads rows leads
+        go p (none q n) = same (λ r l. ap (λ k. getD k r 0) (sym e) ∙ n r l) refl refl
+        go p (one s f) = absurd (omega (arith, s .within))
 
-    pub extends-raised : (rows′ : List (List ℕ)) (x : ℕ) → at < 8 → x ≡ xOf (p % 64) → NextRows at (toF x) ds rows rows′
-        → Extends L p z rows leads rows′ (set leads at (getD leads at 0 + 8))
+    pub extends-raised : (rows′ : List (List ℕ)) (x : ℕ) → at < 8 → NextRows at (toF x) ds rows rows′
+        → ExtendsBy L monomials x z rows leads rows′ (set leads at (getD leads at 0 + 8))
     unfolding leadAt
-    extends-raised rows′ x h q next =
-        steps-extend L p z rows leads rows′ (set leads at (getD leads at 0 + 8)) monomials weights small eight known-own weighted
-        (length-set leads at (getD leads at 0 + 8))
-        (subst (λ k. Stepped (px p) k rows leads rows′ (set leads at (getD leads at 0 + 8))) e (go chosen))
+    extends-raised rows′ x h next =
+        record {
+          as-long = length-set leads at (getD leads at 0 + 8);
+          at = λ p known q.
+              steps-extend L p z rows leads rows′ (set leads at (getD leads at 0 + 8)) monomials weights small eight known weighted
+              (length-set leads at (getD leads at 0 + 8))
+              (subst (λ k. Stepped (px p) k rows leads rows′ (set leads at (getD leads at 0 + 8))) e (go p q chosen));
+        }
       where
-        go : Chosen 8 ds leads at → Stepped (px p) ds rows leads rows′ (set leads at (getD leads at 0 + 8))
-        go (none q n) = absurd (omega arith)
-        go (one s f) = raised at s (subst (λ a. NextRows at (toF a) ds rows rows′) (q ∙ ap xOf own) next) refl
+        go : (p : ℕ) → x ≡ xOf p → Chosen 8 ds leads at → Stepped (px p) ds rows leads rows′ (set leads at (getD leads at 0 + 8))
+        go p q (none r n) = absurd (omega arith)
+        go p q (one s f) = raised at s (subst (λ a. NextRows at (toF a) ds rows rows′) q next) refl
+
+-- a place by its number, which counts modulo 64
+pub extends-own : {L z : ℕ} {monomials : List ℕ} {x : ℕ} {rows : List (List ℕ)} {leads : List ℕ} {rows′ : List (List ℕ)} {leads′ : List ℕ} (p : ℕ) → p < 64
+    → monomials ≡ listed 64 (monomialAt (p % 64)) → x ≡ xOf (p % 64) → ExtendsBy L monomials x z rows leads rows′ leads′ → Extends L p z rows leads rows′ leads′
+extends-own p h known q t =
+    let own : p % 64 ≡ p = mod-eq-of-lt h in
+    t .at p (known ∙ ap (λ k. listed 64 (monomialAt k)) own) (q ∙ ap xOf own)

@@ -2,14 +2,18 @@
 --
 --   settled word flags n   the nodes of the places below n with flag 1, each with the word's symbol; settled-nil, settled-suc
 --   ExtendsIf              as `Extends`, for a place whose flag is 1; nothing changes for another
+--   ExtendsIfBy            so it is for the place whose monomials and whose x are given
 use mathlib.Core.Bool.{cond}
 use mathlib.Core.Path.{_≡_, refl}
 use mathlib.Core.List.{List, [], _∷_}
 use Prim.Native.Nat.{ℕ, zero, suc, _≤_}
 use lib.Dec.{eqb}
 use lib.ListN.{getD, length}
+use Rattle.lists.specs.Listed.{listed}
 use Rattle.algebra.specs.Koetter.{Basis}
 use Rattle.galois.specs.Field16.{K16}
+use Rattle.code.specs.Curve.{xOf}
+use Rattle.code.specs.Evaluation.{monomialAt}
 use Rattle.code.specs.Nodes.{Node, node, ThroughNodes}
 use Rattle.basis.specs.Choice.{leadAt}
 use Rattle.interpolation.specs.Polynomial.{polynomials}
@@ -22,6 +26,10 @@ pub record ExtendsIf (L p z flag : ℕ) (rows : List (List ℕ)) (leads : List �
   pub as-long : length leads′ ≡ length leads
   pub basis : (M : ℕ) → 32 ≤ M → (ns : List Node) → Basis K16 8 L (ThroughNodes M ns) (polynomials M rows) (leadAt leads)
       → Basis K16 8 L (ThroughNodes M (cond (eqb flag 1) (node p z ∷ ns) ns)) (polynomials M rows′) (leadAt leads′)
+
+pub record ExtendsIfBy (L : ℕ) (monomials : List ℕ) (x z flag : ℕ) (rows : List (List ℕ)) (leads : List ℕ) (rows′ : List (List ℕ)) (leads′ : List ℕ) : Type 0 where
+  pub as-long : length leads′ ≡ length leads
+  pub at : (p : ℕ) → monomials ≡ listed 64 (monomialAt p) → x ≡ xOf p → ExtendsIf L p z flag rows leads rows′ leads′
 
 pub settled-nil : (word flags : List ℕ) → settled word flags 0 ≡ []
 unfolding settled

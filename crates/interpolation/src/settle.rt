@@ -7,26 +7,30 @@ ghost use Rattle.galois.specs.Field16.{K16};
 ghost use Rattle.basis.specs.Choice.{leadAt};
 ghost use Rattle.interpolation.specs.Polynomial.{polynomials};
 ghost use Rattle.code.specs.Nodes.{ThroughNodes};
-ghost use Rattle.interpolation.specs.Settled.{settled, ExtendsIf};
+ghost use Rattle.interpolation.specs.Settled.{settled, ExtendsIfBy};
 use crate::PLACES;
-use crate::node::extend;
+use crate::node::extend_by;
 use basis::Leads;
 use basis::Rows;
+use code::evaluation::monomials_in;
+use code::points::x_at;
+use code::table::table;
 
 // A place whose flag is not 1 changes nothing.
 fn extend_if(
     rows: Rows,
     leads: &mut Leads,
     limit: usize,
-    place: usize,
+    monomials: [u8; 64],
+    x: u8,
     symbol: u8,
     flag: u8,
 ) -> Rows
-    requires { ⌜ (length (now leads) ≡ 8) × (limit ≤ 127) × (place < 64) ⌝ }
-    ensures { λ r. ⌜ ExtendsIf limit place symbol flag rows (now (leads .entry)) r (now (leads .exit)) ⌝ }
+    requires { ⌜ (length (now leads) ≡ 8) × (limit ≤ 127) ⌝ }
+    ensures { λ r. ⌜ ExtendsIfBy limit monomials x symbol flag rows (now (leads .entry)) r (now (leads .exit)) ⌝ }
 {
     if flag == 1 {
-        return extend(rows, leads, limit, place, symbol);
+        return extend_by(rows, leads, limit, monomials, x, symbol);
     }
     rows
 }
@@ -45,9 +49,18 @@ pub fn settle(
 {
     *leads = crate::start::start_leads(m);
     let mut rows = crate::start::start_rows(m);
+    let monomials = table();
     let mut place = 0;
     while place < PLACES {
-        let next = extend_if(rows, leads, limit, place, word[place], flags[place]);
+        let next = extend_if(
+            rows,
+            leads,
+            limit,
+            monomials_in(&monomials, place),
+            x_at(place),
+            word[place],
+            flags[place],
+        );
         rows = next;
         place += 1;
     }

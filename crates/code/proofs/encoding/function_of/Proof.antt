@@ -1,7 +1,7 @@
 -- `function_of` meets its contract: the loop stores the coefficient of each order.
 use Prim.Native.Nat.{_-_}
 use Rattle.lists.specs.Filled.{Filled, filled-start, filled-turn, filled-end}
-use Rattle.code.proofs.Monomials.{blank, blank-length}
+use Rattle.code.proofs.Evaluating.{blank, blank-length}
 use Rattle.code.specs.Evaluation.{coefficientOf, functionOf}
 use borrow.Author.Needs.{needs}
 use Rattle.code.proofs.encoding.function_of.Statement.{statement}

@@ -1,66 +1,66 @@
--- `codeword` meets its contract: three steps of the rule in y, from y^3 down.
-use Rattle.code.proofs.Horner.{codeword-is}
+-- `codeword` meets its contract: the loop stores the value at each place.
+use mathlib.Core.Path.{_≡_}
+use Prim.Native.Nat.{_-_}
+use Rattle.lists.specs.Filled.{Filled, filled-start, filled-turn, filled-end}
+use Rattle.code.specs.Evaluation.{valueOf}
+use Rattle.code.specs.Table.{monomialTable}
+use Rattle.code.proofs.Evaluating.{blank, blank-length, value-at}
 use borrow.Author.Needs.{needs}
 use Rattle.code.proofs.evaluation.codeword.Statement.{statement}
 use Rattle.code.proofs.evaluation.codeword.Tie as tie
 
-ys-requires : tie.Need-ys-requires
-ys-requires c κs = search needs
+abbrev Inv-loop : tie.InvT-loop
+Inv-loop function monomials out₀ place₀ out place =
+    (monomials ≡ monomialTable) × Filled blank (valueOf function) place out
 
-in-x-requires : tie.Need-in-x-requires
-in-x-requires c κs = search needs
+abbrev μ-loop : tie.MeasureT-loop
+μ-loop function monomials out₀ place₀ out place = 64 - place
 
-spread-requires : tie.Need-spread-requires
-spread-requires c κs = search needs
+table-requires : tie.Need-table-requires Inv-loop μ-loop
+table-requires c κs = search needs
 
-in-x-requires-2 : tie.Need-in-x-requires-2
-in-x-requires-2 c κs = search needs
+loop-holds : tie.Need-loop-holds Inv-loop μ-loop
+loop-holds c = (c .table .ensures, filled-start _ _)
 
-spread-requires-2 : tie.Need-spread-requires-2
-spread-requires-2 c κs = search needs
+slice-aggregate-monomials-in : tie.Need-slice-aggregate-monomials-in Inv-loop μ-loop
+slice-aggregate-monomials-in c = search needs
 
-times-plus-requires : tie.Need-times-plus-requires
-times-plus-requires c κs = search needs
+monomials-in-requires : tie.Need-monomials-in-requires Inv-loop μ-loop
+monomials-in-requires c κs = search needs
 
-in-x-requires-3 : tie.Need-in-x-requires-3
-in-x-requires-3 c κs = search needs
+value-requires : tie.Need-value-requires Inv-loop μ-loop
+value-requires c κs = search needs
 
-spread-requires-3 : tie.Need-spread-requires-3
-spread-requires-3 c κs = search needs
+array-write-out : tie.Need-array-write-out Inv-loop μ-loop
+array-write-out c = search needs
 
-times-plus-requires-2 : tie.Need-times-plus-requires-2
-times-plus-requires-2 c κs = search needs
+add-place : tie.Need-add-place Inv-loop μ-loop
+add-place c = search needs
 
-in-x-requires-4 : tie.Need-in-x-requires-4
-in-x-requires-4 c κs = search needs
+loop-less : tie.Need-loop-less Inv-loop μ-loop
+loop-less c = search needs
 
-spread-requires-4 : tie.Need-spread-requires-4
-spread-requires-4 c κs = search needs
+loop-again : tie.Need-loop-again Inv-loop μ-loop
+loop-again c =
+    let i = c .before .before .before .before .loop .inv in
+    (i .0, filled-turn 0 (i .1) _ (search needs) (value-at _ _ (search needs) (i .0) (c .before .monomials-in .ensures) (c .value .ensures)))
 
-times-plus-requires-3 : tie.Need-times-plus-requires-3
-times-plus-requires-3 c κs = search needs
-
-returns : tie.Need-returns
-returns c =
-    codeword-is _ (c .before .before .before .before .before .before .before .before .before .before .before .ys .ensures) (c .before .before .before .before .before .before .before .before .before .before .in-x .ensures) (c .before .before .before .before .before .before .before .before .before .spread .ensures)
-    (c .before .before .before .before .before .before .before .before .in-x2 .ensures) (c .before .before .before .before .before .before .before .spread2 .ensures) (c .before .before .before .before .before .before .times-plus .ensures)
-    (c .before .before .before .before .before .in-x3 .ensures) (c .before .before .before .before .spread3 .ensures) (c .before .before .before .times-plus2 .ensures)
-    (c .before .before .in-x4 .ensures) (c .before .spread4 .ensures) (c .times-plus3 .ensures)
+returns : tie.Need-returns Inv-loop μ-loop
+returns c = filled-end 0 (c .before .loop .inv .1) 64 blank-length (c .loop-test .left)
 
 pub codeword-spec : {M : Type 1} → statement M
 codeword-spec =
     tie.close
     (tie.spec
-    ys-requires
-    in-x-requires
-    spread-requires
-    in-x-requires-2
-    spread-requires-2
-    times-plus-requires
-    in-x-requires-3
-    spread-requires-3
-    times-plus-requires-2
-    in-x-requires-4
-    spread-requires-4
-    times-plus-requires-3
+    Inv-loop
+    μ-loop
+    table-requires
+    loop-holds
+    slice-aggregate-monomials-in
+    monomials-in-requires
+    value-requires
+    array-write-out
+    add-place
+    loop-less
+    loop-again
     returns)

@@ -1,36 +1,22 @@
--- `monomials` meets its contract: each call goes on from what the one before it left.
-use Rattle.code.proofs.Monomials.{all-held}
+-- `monomials` meets its contract, by the rule of the table.
+use native.Mathlib.Omega.{arith}
+use Rattle.code.proofs.Evaluating.{in-table}
 use borrow.Author.Needs.{needs}
 use Rattle.code.proofs.evaluation.monomials.Statement.{statement}
 use Rattle.code.proofs.evaluation.monomials.Tie as tie
 
-x-at-requires : tie.Need-x-at-requires
-x-at-requires c κs = search needs
+table-requires : tie.Need-table-requires
+table-requires c κs = search needs
 
-y-at-requires : tie.Need-y-at-requires
-y-at-requires c κs = search needs
+slice-aggregate-monomials-in : tie.Need-slice-aggregate-monomials-in
+slice-aggregate-monomials-in c = search needs
 
-below-4-requires : tie.Need-below-4-requires
-below-4-requires c κs = search needs
-
-below-32-requires : tie.Need-below-32-requires
-below-32-requires c κs = search needs
-
-below-64-requires : tie.Need-below-64-requires
-below-64-requires c κs = search needs
+monomials-in-requires : tie.Need-monomials-in-requires
+monomials-in-requires c κs = search needs
 
 returns : tie.Need-returns
-returns c =
-    all-held _ (c .before .before .before .before .x-at .ensures) (c .before .before .before .y-at .ensures)
-    (c .before .before .below-4 .ensures) (c .before .below-32 .ensures) (c .below-64 .ensures)
+returns c = in-table _ (omega arith) (c .before .before .table .ensures) (c .monomials-in .ensures)
 
 pub monomials-spec : {M : Type 1} → statement M
 monomials-spec =
-    tie.close
-    (tie.spec
-    x-at-requires
-    y-at-requires
-    below-4-requires
-    below-32-requires
-    below-64-requires
-    returns)
+    tie.close (tie.spec table-requires slice-aggregate-monomials-in monomials-in-requires returns)

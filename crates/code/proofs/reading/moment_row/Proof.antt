@@ -23,8 +23,8 @@ cast-powers c = search needs
 powers-requires : tie.Need-powers-requires Inv-loop μ-loop
 powers-requires c κs = search needs
 
-times-plus-16-requires : tie.Need-times-plus-16-requires Inv-loop μ-loop
-times-plus-16-requires c κs = search needs
+times-plus-requires : tie.Need-times-plus-requires Inv-loop μ-loop
+times-plus-requires c κs = search needs
 
 add-x : tie.Need-add-x Inv-loop μ-loop
 add-x c = search needs
@@ -35,7 +35,7 @@ loop-less c = search needs
 loop-again : tie.Need-loop-again Inv-loop μ-loop
 loop-again c =
     row-turn (c .before .before .before .before .loop .inv) (c .before .before .before .loop-test .taken) (c .before .before .fibre-sum .ensures)
-    (c .before .powers .ensures) (c .times-plus-16 .ensures)
+    (c .before .powers .ensures) (c .times-plus .ensures)
 
 returns : tie.Need-returns Inv-loop μ-loop
 returns c = row-end (c .before .loop .inv) (c .loop-test .left)
@@ -50,7 +50,7 @@ moment-row-spec =
     fibre-sum-requires
     cast-powers
     powers-requires
-    times-plus-16-requires
+    times-plus-requires
     add-x
     loop-less
     loop-again

@@ -1,18 +1,19 @@
--- `times_plus` meets its contract: the loop stores the step at each place.
+-- `times_plus` meets its contract: the loop stores the product and sum of each lane.
+use mathlib.Core.Path.{refl}
 use Prim.Native.Nat.{_-_}
 use Rattle.lists.specs.Filled.{Filled, filled-start, filled-turn, filled-end}
 use Rattle.code.specs.Lanes.{timesPlus}
-use Rattle.code.proofs.Monomials.{blank, blank-length}
-use Rattle.code.proofs.Horner.{times-entry}
+use Rattle.code.proofs.Moments.{blank16}
+use Rattle.code.proofs.Moments.{times-entry}
 use borrow.Author.Needs.{needs}
-use Rattle.code.proofs.evaluation.times_plus.Statement.{statement}
-use Rattle.code.proofs.evaluation.times_plus.Tie as tie
+use Rattle.code.proofs.reading.times_plus.Statement.{statement}
+use Rattle.code.proofs.reading.times_plus.Tie as tie
 
 abbrev Inv-loop : tie.InvT-loop
-Inv-loop ys values more out₀ place₀ out place = Filled blank (timesPlus ys values more) place out
+Inv-loop factors values more out₀ lane₀ out lane = Filled blank16 (timesPlus factors values more) lane out
 
 abbrev μ-loop : tie.MeasureT-loop
-μ-loop ys values more out₀ place₀ out place = 64 - place
+μ-loop factors values more out₀ lane₀ out lane = 16 - lane
 
 loop-holds : tie.Need-loop-holds Inv-loop μ-loop
 loop-holds c = filled-start _ _
@@ -32,8 +33,8 @@ array-read-out c = search needs
 array-write-out : tie.Need-array-write-out Inv-loop μ-loop
 array-write-out c = search needs
 
-add-place : tie.Need-add-place Inv-loop μ-loop
-add-place c = search needs
+add-lane : tie.Need-add-lane Inv-loop μ-loop
+add-lane c = search needs
 
 loop-less : tie.Need-loop-less Inv-loop μ-loop
 loop-less c = search needs
@@ -42,7 +43,7 @@ loop-again : tie.Need-loop-again Inv-loop μ-loop
 loop-again c = filled-turn 0 (c .before .before .loop .inv) _ (search needs) (times-entry _ _ _ _ (c .product .ensures))
 
 returns : tie.Need-returns Inv-loop μ-loop
-returns c = filled-end 0 (c .before .loop .inv) 64 blank-length (c .loop-test .left)
+returns c = filled-end 0 (c .before .loop .inv) 16 refl (c .loop-test .left)
 
 pub times-plus-spec : {M : Type 1} → statement M
 times-plus-spec =
@@ -56,7 +57,7 @@ times-plus-spec =
     product-requires
     array-read-out
     array-write-out
-    add-place
+    add-lane
     loop-less
     loop-again
     returns)

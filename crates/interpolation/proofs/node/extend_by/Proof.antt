@@ -1,0 +1,61 @@
+-- Where no class is chosen nothing changes; else the step at the chosen class. Its lead is within the limit, so that it can grow by 8.
+use native.Mathlib.Omega.{arith}
+use borrow.Author.Needs.{needs}
+use Rattle.interpolation.proofs.Extended.{chosen-live, extends-same, extends-raised}
+use Rattle.interpolation.proofs.node.extend_by.Statement.{statement}
+use Rattle.interpolation.proofs.node.extend_by.Tie as tie
+
+weights-requires : tie.Need-weights-requires
+weights-requires c κs = search needs
+
+discrepancies-requires : tie.Need-discrepancies-requires
+discrepancies-requires c κs = search needs
+
+choice-requires : tie.Need-choice-requires
+choice-requires c κs = search needs
+
+returns : tie.Need-returns
+returns c =
+    extends-same _ _ _ _ _ _ (c .before .before .discrepancies .ensures) (c .before .choice .ensures) _ _ (search needs) (search needs)
+    (c .before .before .before .weights .ensures) _ (c .if1 .taken)
+
+mul-leads : tie.Need-mul-leads
+mul-leads c = search needs
+
+array-read-leads : tie.Need-array-read-leads
+array-read-leads c = search needs
+
+add-leads : tie.Need-add-leads
+add-leads c =
+    let l = chosen-live _ _ _ _ _ _ (c .before .before .discrepancies .ensures) (c .before .choice .ensures) (search needs) in
+    omega arith
+
+mul-leads-2 : tie.Need-mul-leads-2
+mul-leads-2 c = search needs
+
+element-write-leads : tie.Need-element-write-leads
+element-write-leads c = search needs
+
+next-rows-requires : tie.Need-next-rows-requires
+next-rows-requires c κs = search needs
+
+returns-2 : tie.Need-returns-2
+returns-2 c =
+    extends-raised _ _ _ _ _ _ (c .before .before .before .discrepancies .ensures) (c .before .before .choice .ensures) _ _ (search needs) (search needs)
+    (c .before .before .before .before .weights .ensures) _ _ (search needs) (c .next-rows .ensures .0 (search needs))
+
+pub extend-by-spec : {M : Type 1} → statement M
+extend-by-spec =
+    tie.close
+    (tie.spec
+    weights-requires
+    discrepancies-requires
+    choice-requires
+    returns
+    mul-leads
+    array-read-leads
+    add-leads
+    mul-leads-2
+    element-write-leads
+    next-rows-requires
+    returns-2)
