@@ -1,23 +1,50 @@
 // The answer to each call: the refusal's number or 0, then all bytes of the lent buffers; to a look-up, the part's length and the part.
 // Each call takes the session and hands back the one that it leaves.
 use crate::stream;
+use libc::STDOUT_FILENO;
 use session::Session;
+ghost use mathlib.Core.Path.{_≡_};
+ghost use lib.ListN.{length};
+
+// What lent buffers hold before a call.
+const LENT: u8 = 0xEE;
+
+// Space for a lent buffer. The `ensures` gives its length, which lending a part of it needs.
+fn lent() -> [u8; 4096]
+    ensures { λ r. ⌜ 4096 ≡ length r ⌝ }
+{
+    [LENT; 4096]
+}
+
+// Nothing is known of what a write does to standard output, so the writers ensure nothing.
+fn write(bytes: &[u8]) {
+    io::write_all(STDOUT_FILENO, bytes);
+}
+
+fn write_byte(byte: u8) {
+    write(&[byte]);
+}
+
+fn write_number(number: usize) {
+    write_byte((number / 256 % 256) as u8);
+    write_byte((number % 256) as u8);
+}
 
 fn open(rate: usize, doubtful: &[u8]) -> Session {
     let opened = session::open(rate, doubtful);
-    stream::write_byte(opened.refusal);
+    write_byte(opened.refusal);
     opened.session
 }
 
 fn open_capture(bytes: &[u8]) -> Session {
     let opened = capture::open_capture(bytes);
-    stream::write_byte(opened.refusal);
+    write_byte(opened.refusal);
     opened.session
 }
 
 fn deliver(current: Session, place: usize, column: &[u8]) -> Session {
     let delivered = session::deliver(current, place, soft::costs::column_from(column));
-    stream::write_byte(delivered.refusal);
+    write_byte(delivered.refusal);
     delivered.session
 }
 
@@ -31,24 +58,24 @@ fn call_with(current: Session, letter: u8, out: &mut [u8]) -> u8 {
 
 fn answer_with(current: Session, letter: u8, out: &mut [u8]) {
     let refusal = call_with(current, letter, out);
-    stream::write_byte(refusal);
-    stream::write(out);
+    write_byte(refusal);
+    write(out);
 }
 
 fn lend(current: Session, letter: u8, size: usize) -> Session {
     if stream::MOST_BYTES < size {
         return current;
     }
-    let mut space = stream::lent();
+    let mut space = lent();
     answer_with(current, letter, &mut space[..size]);
     current
 }
 
 fn close_with(current: Session, message: &mut [u8], report: &mut [u8]) {
     let refusal = closing::close(current, message, report);
-    stream::write_byte(refusal);
-    stream::write(message);
-    stream::write(report);
+    write_byte(refusal);
+    write(message);
+    write(report);
 }
 
 fn lend_two(current: Session, size: usize, report_size: usize) -> Session {
@@ -58,8 +85,8 @@ fn lend_two(current: Session, size: usize, report_size: usize) -> Session {
     if stream::MOST_BYTES < report_size {
         return current;
     }
-    let mut message = stream::lent();
-    let mut report = stream::lent();
+    let mut message = lent();
+    let mut report = lent();
     close_with(current, &mut message[..size], &mut report[..report_size]);
     current
 }
@@ -73,8 +100,8 @@ fn close(current: Session, size: usize, rest: &[u8]) -> Session {
 
 fn look_up(current: Session, place: usize, bytes: &[u8]) -> Session {
     let part = capture::look_up(bytes, place);
-    stream::write_number(part.len());
-    stream::write(part);
+    write_number(part.len());
+    write(part);
     current
 }
 
