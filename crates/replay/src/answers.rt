@@ -5,6 +5,10 @@ use libc::STDOUT_FILENO;
 use session::Session;
 ghost use mathlib.Core.Path.{_≡_};
 ghost use lib.ListN.{length};
+ghost use Rattle.soft.specs.Column.{symbols, costsFrom};
+ghost use Rattle.book.specs.CaptureOpening.{openCaptureOf};
+ghost use Rattle.session.specs.Calls.{openedOf};
+ghost use Rattle.replay.specs.Changes.{delivered, numberedChange, changeOf, StandsFor, Leaves};
 
 // What lent buffers hold before a call.
 const LENT: u8 = 0xEE;
@@ -30,19 +34,25 @@ fn write_number(number: usize) {
     write_byte((number % 256) as u8);
 }
 
-fn open(rate: usize, doubtful: &[u8]) -> Session {
+fn open(rate: usize, doubtful: &[u8]) -> Session
+    ensures { λ r. ⌜ r ≡ openedOf rate (now (doubtful .entry)) .session ⌝ }
+{
     let opened = session::open(rate, doubtful);
     write_byte(opened.refusal);
     opened.session
 }
 
-fn open_capture(bytes: &[u8]) -> Session {
+fn open_capture(bytes: &[u8]) -> Session
+    ensures { λ r. ⌜ StandsFor (openCaptureOf (now (bytes .entry)) .book) r ⌝ }
+{
     let opened = capture::open_capture(bytes);
     write_byte(opened.refusal);
     opened.session
 }
 
-fn deliver(current: Session, place: usize, column: &[u8]) -> Session {
+fn deliver(current: Session, place: usize, column: &[u8]) -> Session
+    ensures { λ r. ⌜ Leaves current (delivered place (costsFrom symbols (now (column .entry)))) r ⌝ }
+{
     let delivered = session::deliver(current, place, soft::costs::column_from(column));
     write_byte(delivered.refusal);
     delivered.session
@@ -62,7 +72,9 @@ fn answer_with(current: Session, letter: u8, out: &mut [u8]) {
     write(out);
 }
 
-fn lend(current: Session, letter: u8, size: usize) -> Session {
+fn lend(current: Session, letter: u8, size: usize) -> Session
+    ensures { λ r. ⌜ r ≡ current ⌝ }
+{
     if stream::MOST_BYTES < size {
         return current;
     }
@@ -78,7 +90,9 @@ fn close_with(current: Session, message: &mut [u8], report: &mut [u8]) {
     write(report);
 }
 
-fn lend_two(current: Session, size: usize, report_size: usize) -> Session {
+fn lend_two(current: Session, size: usize, report_size: usize) -> Session
+    ensures { λ r. ⌜ r ≡ current ⌝ }
+{
     if stream::MOST_BYTES < size {
         return current;
     }
@@ -91,14 +105,18 @@ fn lend_two(current: Session, size: usize, report_size: usize) -> Session {
     current
 }
 
-fn close(current: Session, size: usize, rest: &[u8]) -> Session {
+fn close(current: Session, size: usize, rest: &[u8]) -> Session
+    ensures { λ r. ⌜ r ≡ current ⌝ }
+{
     if rest.len() < 2 {
         return current;
     }
     lend_two(current, size, stream::number(rest[0], rest[1]))
 }
 
-fn look_up(current: Session, place: usize, bytes: &[u8]) -> Session {
+fn look_up(current: Session, place: usize, bytes: &[u8]) -> Session
+    ensures { λ r. ⌜ r ≡ current ⌝ }
+{
     let part = capture::look_up(bytes, place);
     write_number(part.len());
     write(part);
@@ -106,7 +124,9 @@ fn look_up(current: Session, place: usize, bytes: &[u8]) -> Session {
 }
 
 // By the letter of a call whose arguments start with a number.
-fn answer_numbered(current: Session, letter: u8, number: usize, rest: &[u8]) -> Session {
+fn answer_numbered(current: Session, letter: u8, number: usize, rest: &[u8]) -> Session
+    ensures { λ r. ⌜ Leaves current (numberedChange letter number (now (rest .entry))) r ⌝ }
+{
     match letter {
         b'O' => open(number, rest),
         b'D' => deliver(current, number, rest),
@@ -117,8 +137,10 @@ fn answer_numbered(current: Session, letter: u8, number: usize, rest: &[u8]) -> 
     }
 }
 
-// A call that is none of these gets no answer.
-pub fn answer(current: Session, letter: u8, arguments: &[u8]) -> Session {
+// A call that is none of these gets no answer and leaves the session as it was.
+pub fn answer(current: Session, letter: u8, arguments: &[u8]) -> Session
+    ensures { λ r. ⌜ Leaves current (changeOf letter (now (arguments .entry))) r ⌝ }
+{
     if letter == b'C' {
         return open_capture(arguments);
     }
