@@ -14,7 +14,7 @@ write-byte-requires : tie.Need-write-byte-requires
 write-byte-requires c κs = search needs
 
 returns : tie.Need-returns
-returns c = leaves-delivery (c .before .before .deliver .ensures) (c .before .before .before .column-from .ensures)
+returns c = search (needs, leaves-delivery)
 
 pub deliver-spec : {M : Type 1} → statement M
 deliver-spec = tie.close (tie.spec column-from-requires deliver-requires write-byte-requires returns)
