@@ -8,9 +8,8 @@ use lib.ListN.{length, getD, replicate, List·getD-eq-default}
 use Rattle.lists.specs.Listed.{listed, listed-ext}
 use Rattle.lists.specs.XorSum.{xorSum-ext, xorSum-below}
 use Rattle.algebra.specs.Field.{Field, zero-mul, add-zero}
-use Rattle.algebra.specs.Sum.{sum, sum-ext, sum-zero, sum-append}
-use Rattle.galois.specs.Gf16.{times}
-use Rattle.galois.specs.Field16.{GF, K16, toF, value, value-toF, toF-times, toF-zero, times-lt, times-comm}
+use Rattle.algebra.specs.Sum.{sum-ext, sum-zero, sum-append}
+use Rattle.galois.specs.Field16.{K16, toF, value, value-toF, toF-times, toF-zero, times-lt, times-comm}
 use Rattle.rows.specs.Rows.{coef, coef-at, dot, weighed, weighed-plain, weighed-z}
 use Rattle.rows.specs.Planes.{planesOf, dotOf, dotOf-planes}
 use Rattle.code.specs.Evaluation.{monomialAt, valueTerm, valueBy, valueOf}

@@ -11,22 +11,20 @@
 --   function-value       its value is that of the message's first 58 symbols (document 01's sum over message symbols)
 --   encode-beyond        symbols that a message does not have add nothing: the codeword is the same for every k from its length on
 use mathlib.Core.Bool.{Bool, true, false}
-use mathlib.Core.Path.{_≡_, refl, sym, ap, ap₂, _∙_}
+use mathlib.Core.Path.{_≡_, sym, ap, ap₂, _∙_}
 use mathlib.Core.List.{List}
 use Prim.Native.Nat.{ℕ, zero, suc, _-_, _/_, _%_, _<_, _≤_}
 use native.Mathlib.Omega.{arith}
-use lib.Dec.{leb, lit<, lit≤}
+use lib.Dec.{lit≤}
 use lib.Bits.{bitXor, xor-zero-r}
-use lib.ListN.{length, getD, replicate, List·getD-eq-default}
-use borrow.Author.Tests.{le-leb, lt-leb, leb-true, leb-false}
+use lib.ListN.{length, getD, List·getD-eq-default}
+use borrow.Author.Tests.{le-leb, lt-leb}
 use Rattle.lists.specs.Listed.{listed, listed-at, listed-ext}
-use Rattle.lists.specs.Filled.{Filled}
 use Rattle.lists.specs.XorSum.{xorSum, xorSum-nil, xorSum-suc, xorSum-ext, xorSum-more}
 use Rattle.galois.specs.Gf16.{times}
-use Rattle.galois.specs.Field16.{times-comm, times-assoc, times-zero, times-one}
+use Rattle.galois.specs.Field16.{times-comm, times-zero}
 use Rattle.hermitian.specs.Present.{Present, decPresent, genus}
 use Rattle.hermitian.specs.Orders.{isPresent, rank, rank-nil, rank-yes, rank-no, rank-large, orderOf, orderOf-rank, orderOf-up-to}
-use Rattle.code.specs.Curve.{power, power-suc, xOf, yOf}
 use Rattle.code.specs.Encoding.{monomial, term, valueAt, encodeOf}
 
 abbrev pub ifPresent : Bool → ℕ → ℕ

@@ -18,7 +18,7 @@ use Rattle.lists.specs.Same.{same, same-yes}
 use Rattle.galois.specs.Gf16.{times}
 use Rattle.galois.specs.Field16.{times-lt}
 use Rattle.hermitian.specs.Orders.{isPresent}
-use Rattle.code.specs.Curve.{power, xOf, yOf}
+use Rattle.code.specs.Curve.{power, xOf}
 use Rattle.code.specs.Encoding.{monomial}
 use Rattle.code.specs.Points.{yTable, yTable-rule}
 use Rattle.code.specs.Evaluation.{ifPresent, monomialAt}

@@ -6,19 +6,18 @@
 --   weighed e z   the values of the terms by position: e by order, then z times e by order
 --   coef-beyond, coef-below   beyond the end of a row; two functions are one if they are the same up to 96 and zero beyond
 --   coef-sum, coef-product    coefficients of stored sums and products
-use mathlib.Core.Path.{_≡_, refl, sym, ap, ap₂, _∙_, fun-ext}
+use mathlib.Core.Path.{_≡_, refl, sym, ap, _∙_}
 use mathlib.Core.List.{List}
-use Prim.Native.Nat.{ℕ, suc, _+_, _-_, _<_, _≤_}
+use Prim.Native.Nat.{ℕ, suc, _-_, _<_, _≤_}
 use native.Mathlib.Nat.{mod-eq-of-lt}
 use native.Mathlib.Decide.{decLt}
 use native.Mathlib.Omega.{arith}
 use lib.ListN.{length, getD, List·getD-eq-default}
-use lib.Bits.{bitXor}
 use Rattle.algebra.specs.Field.{Field}
 use Rattle.algebra.specs.Sum.{sum, sum-nil, sum-suc}
 use Rattle.algebra.specs.Coefficients.{choose, choose-yes, choose-no}
 use Rattle.galois.specs.Gf16.{times}
-use Rattle.galois.specs.Field16.{GF, K16, toF, value, value-toF, value-add, value-zero, toF-add, toF-times, toF-zero, times-lt}
+use Rattle.galois.specs.Field16.{GF, K16, toF, value, value-toF, toF-times, toF-zero, times-lt}
 open Field K16 using (_⊕_, _⊗_, 𝟘)
 
 unfoldable pub coef : List ℕ → ℕ → GF
