@@ -5,7 +5,7 @@ use Prim.Native.Nat.{ℕ, _+_, _-_, _*_, _%_, _<_, _≤_}
 use native.Mathlib.Nat.{mod-eq-of-lt}
 use native.Mathlib.Omega.{arith}
 use lib.ListN.{length, getD, replicate, List·getD-eq-default}
-use Rattle.lists.specs.Listed.{listed, listed-ext}
+use Rattle.lists.specs.Listed.{listed}
 use Rattle.lists.specs.XorSum.{xorSum-ext, xorSum-below}
 use Rattle.algebra.specs.Field.{Field, zero-mul, add-zero}
 use Rattle.algebra.specs.Sum.{sum-ext, sum-zero, sum-append}
@@ -14,7 +14,7 @@ use Rattle.rows.specs.Rows.{coef, coef-at, dot, weighed, weighed-plain, weighed
 use Rattle.rows.specs.Planes.{planesOf, dotOf, dotOf-planes}
 use Rattle.code.specs.Evaluation.{monomialAt, valueTerm, valueBy, valueOf}
 use Rattle.code.specs.Bridge.{toF-xorSum}
-use Rattle.code.specs.Table.{monomialTable, digitIn, entryIn, table-at}
+use Rattle.code.specs.Table.{monomialTable, digitIn, entryIn, in-table}
 open Field K16 using (_⊕_, _⊗_, 𝟘)
 
 -- an array of 64 bytes before it is filled
@@ -36,10 +36,6 @@ digit-there t i = refl
 pub entry-is : (t : List ℕ) (p o : ℕ) {first v : ℕ} → first ≡ p * 64 → v ≡ digitIn t (first + o) → v ≡ entryIn t p o
 unfolding entryIn
 entry-is t p o e q = q ∙ ap (λ i. digitIn t (i + o)) e
-
--- the monomials of a place, by the table of all
-pub in-table : {table : List ℕ} (p : ℕ) {l : List ℕ} → p < 64 → table ≡ monomialTable → l ≡ listed 64 (entryIn table p) → l ≡ listed 64 (monomialAt p)
-in-table p h e q = q ∙ ap (λ t. listed 64 (entryIn t p)) e ∙ listed-ext 64 _ _ (λ o l. table-at p o h l)
 
 -- ---- the value by a dot product
 valueBy-lt : (f m : List ℕ) → valueBy f m < 16

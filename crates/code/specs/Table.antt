@@ -4,7 +4,7 @@
 --   monomialTable    all 4,096 of them
 --   digitIn t i      the number that digit i of a table shows, 0 beyond its end
 --   entryIn t p o    that of place p and order o
---   table-at         in this table it is the monomial
+--   table-at         in this table it is the monomial; in-table: so it has all monomials of a place
 --   table-from       digits that pass the test, which is computed, are the table
 use mathlib.Core.Bool.{Bool, true, false}
 use mathlib.Core.Path.{_≡_, refl, sym, ap, ap₂, _∙_}
@@ -43,13 +43,16 @@ monomialAt-lt p o = go (isPresent 4 o) _ (times-lt _ _)
     go true a h = h
     go false a h = omega arith
 
-pub table-at : (p o : ℕ) → p < 64 → o < 64 → entryIn monomialTable p o ≡ monomialAt p o
+table-at : (p o : ℕ) → p < 64 → o < 64 → entryIn monomialTable p o ≡ monomialAt p o
 unfolding entryIn digitIn monomialTable digitAt
 table-at p o h l =
     let place : (p * 64 + o) / 64 ≡ p = omega arith in
     let order : (p * 64 + o) % 64 ≡ o = omega arith in
     let small : (48 + monomialAt p o) % 16 ≡ monomialAt p o = omega (arith, monomialAt-lt p o) in
     ap (λ d. d % 16) (listed-at 4096 (p * 64 + o) digitAt 0 (omega arith) ∙ ap₂ (λ q k. 48 + monomialAt q k) place order) ∙ small
+
+pub in-table : {t : List ℕ} (p : ℕ) {l : List ℕ} → p < 64 → t ≡ monomialTable → l ≡ listed 64 (entryIn t p) → l ≡ listed 64 (monomialAt p)
+in-table p h e q = q ∙ ap (λ s. listed 64 (entryIn s p)) e ∙ listed-ext 64 _ _ (λ o l. table-at p o h l)
 
 -- ---- the test, with the y of the constant points
 unfoldable pub testAt : ℕ → ℕ → ℕ → ℕ

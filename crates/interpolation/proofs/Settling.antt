@@ -1,20 +1,22 @@
 -- The places of a word one after another: a place whose flag is 1, another, and the loop over all of them from the start basis.
 use mathlib.Core.Bool.{cond}
-use mathlib.Core.Path.{_≡_, refl, sym, ap, ap₂, _∙_, subst}
+use mathlib.Core.Path.{_≡_, refl, sym, ap, _∙_, subst}
 use mathlib.Core.List.{List, [], _∷_}
 use mathlib.Core.Logic.{_≢_}
 use Prim.Native.Nat.{ℕ, _+_, _%_, _<_, _≤_}
 use native.Mathlib.Nat.{mod-eq-of-lt}
 use native.Mathlib.Numerals.{add-one}
+use native.Mathlib.Omega.{arith}
 use lib.ListN.{getD}
 use borrow.Author.Tests.{ne-eqb}
-use Rattle.lists.specs.Listed.{listed, listed-ext}
+use Rattle.lists.specs.Listed.{listed}
 use Rattle.algebra.specs.Subspace.{common-start, common-inside}
 use Rattle.algebra.specs.Koetter.{Basis, basis-same}
 use Rattle.galois.specs.Field16.{K16}
 use Rattle.hermitian.specs.Keys.{first}
 use Rattle.code.specs.Curve.{xOf}
-use Rattle.code.specs.Table.{monomialTable, entryIn, table-at}
+use Rattle.code.specs.Evaluation.{monomialAt}
+use Rattle.code.specs.Table.{monomialTable, entryIn, in-table}
 use Rattle.code.specs.Nodes.{node, ThroughNodes}
 use Rattle.basis.specs.Choice.{leadAt}
 use Rattle.interpolation.specs.Start.{Started}
@@ -59,6 +61,6 @@ pub settle-turn : (L M : ℕ) (word flags : List ℕ) (p : ℕ) (rows : List (Li
     → Basis K16 8 L (ThroughNodes M (settled word flags (p + 1))) (polynomials M rows′) (leadAt leads′)
 settle-turn L M word flags p rows leads rows′ leads′ large inside e m q t B =
     let own : p % 64 ≡ p = mod-eq-of-lt inside in
-    let h = t .at p (m ∙ ap₂ (λ l k. listed 64 (entryIn l k)) e own ∙ listed-ext 64 _ _ (λ o l. table-at p o inside l)) (q ∙ ap xOf own) in
+    let h = t .at p (in-table (p % 64) (omega arith) e m ∙ ap (λ k. listed 64 (monomialAt k)) own) (q ∙ ap xOf own) in
     subst (λ ns. Basis K16 8 L (ThroughNodes M ns) (polynomials M rows′) (leadAt leads′)) (sym (ap (settled word flags) (add-one p) ∙ settled-suc word flags p))
     (h .basis M large (settled word flags p) B)

@@ -1,6 +1,6 @@
 -- `monomials` meets its contract, by the rule of the table.
 use native.Mathlib.Omega.{arith}
-use Rattle.code.proofs.Evaluating.{in-table}
+use Rattle.code.specs.Table.{in-table}
 use borrow.Author.Needs.{needs}
 use Rattle.code.proofs.evaluation.monomials.Statement.{statement}
 use Rattle.code.proofs.evaluation.monomials.Tie as tie
