@@ -20,8 +20,8 @@ fn main() -> io::Result<()> {
         let mut first = vec![0; if *call == b'E' { 64 } else { rate }];
         let mut report = vec![0; if *call == b'T' { 8 } else { 0 }];
         let number = match call {
-            b'E' => code::encoding::encode(rate, bytes, &mut first, 0),
-            b'B' => code::reading::read_back(rate, bytes, &mut first),
+            b'E' => encoding::encode(rate, bytes, &mut first, 0),
+            b'B' => reading_back::read_back(rate, bytes, &mut first),
             _ => closing::decode_table(rate, bytes, usize::from(*doubt), &mut first, &mut report),
         };
         let digits: String = first.iter().chain(&report).map(|byte| format!("{byte:02x}")).collect();

@@ -14,9 +14,9 @@ ghost use Rattle.capture.specs.Calls.{recordBytes, headBytes, rowOf, Wri
 use lists::copy;
 use session::Opened;
 use session::Session;
-use soft::costs::PLACES;
-use soft::costs::SYMBOLS;
-use soft::doubt::MOST_DOUBT;
+use columns::costs::PLACES;
+use columns::costs::SYMBOLS;
+use doubt::MOST_DOUBT;
 
 // The version of captures that are written and read.
 const VERSION: u8 = 1;
@@ -133,7 +133,7 @@ fn deliver_records(opened: Session, records: &[u8]) -> Opened
     while i < PLACES {
         let at = RECORD_BYTES * i;
         let place = records[at] as usize;
-        let column = soft::costs::column_from(&records[at + 1..at + RECORD_BYTES]);
+        let column = columns::costs::column_from(&records[at + 1..at + RECORD_BYTES]);
         let delivered = session::deliver(current, place, column);
         let number = delivered.refusal;
         if number != refusals::ACCEPTED {

@@ -19,20 +19,20 @@ ghost use Rattle.chase.specs.Searching.{symbolIn, Lowest, Flagged, Range
 ghost use Rattle.chase.specs.Known.{Sound, OneOf, laterOf, filledOf, governsOf, WithinOf, BelowOf, BranchOf};
 use basis::Leads;
 use basis::Rows;
-use code::encoding::codeword_of;
-use code::encoding::known_rate;
-use code::encoding::order;
+use encoding::codeword_of;
+use encoding::known_rate;
+use encoding::order;
 use division::dividing::divide;
 use division::parts::with_z;
 use division::parts::without_z;
 use interpolation::node::extend;
 use interpolation::settle::settle;
-use soft::column::best;
-use soft::column::second;
-use soft::costs::column_of;
-use soft::doubt::best_word;
-use soft::total::differing;
-use soft::total::total;
+use columns::column::best;
+use columns::column::second;
+use columns::costs::column_of;
+use columns::word::best_word;
+use totals::total::differing;
+use totals::total::total;
 
 // Document 01's answer: no codeword is near, or the total of the cheapest near one, whose message stands beside it.
 pub enum Answer {

@@ -8,9 +8,9 @@ use refusals::UNKNOWN_RATE;
 use refusals::WRONG_DOUBT;
 use refusals::WRONG_SIZE;
 use session::Session;
-use soft::costs::PLACES;
-use soft::doubt::MOST_DOUBT;
-use soft::report::REPORT_BYTES;
+use columns::costs::PLACES;
+use doubt::MOST_DOUBT;
+use totals::report::REPORT_BYTES;
 ghost use mathlib.Core.Path.{_≡_};
 ghost use lib.ListN.{take};
 ghost use Rattle.soft.specs.Column.{symbols, columnOf};
@@ -41,9 +41,9 @@ fn decode(
     let best = found.message;
     copy(&best, message);
     let word = found.codeword;
-    let pinned = soft::total::pinned(costs, &word);
-    let changed = soft::total::changed(costs, &word);
-    soft::report::report(report, total, found.tests as u16, pinned, changed);
+    let pinned = totals::total::pinned(costs, &word);
+    let changed = totals::total::changed(costs, &word);
+    totals::report::report(report, total, found.tests as u16, pinned, changed);
     ACCEPTED
 }
 
@@ -83,7 +83,7 @@ pub fn decode_table(
 ) -> u8
     ensures { λ r. ⌜ closed r (now (message .exit)) (now (report .exit)) ≡ tableOf rate (now (table .entry)) doubt (now (message .entry)) (now (report .entry)) ⌝ }
 {
-    if !code::encoding::known_rate(rate) {
+    if !encoding::known_rate(rate) {
         return UNKNOWN_RATE;
     }
     if table.len() != TABLE_BYTES {
@@ -98,7 +98,7 @@ pub fn decode_table(
     if MOST_DOUBT < doubt {
         return WRONG_DOUBT;
     }
-    let costs = soft::costs::table_from(table);
-    let doubtful = soft::doubt::doubtful(&costs, doubt);
+    let costs = columns::costs::table_from(table);
+    let doubtful = doubt::doubtful(&costs, doubt);
     decode(rate, &costs, doubtful, doubt, message, report)
 }

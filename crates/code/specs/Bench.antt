@@ -20,7 +20,7 @@ use Rattle.galois.specs.Binary as Binary
 use Rattle.galois.specs.Field16.{times-comm, times-zero, times-one, times-lt}
 use Rattle.hermitian.specs.Present.{genus}
 use Rattle.hermitian.specs.Orders.{xPower, yPower, presents, isPresent, orderOf}
-use Rattle.code.specs.Curve.{power, isOnCurve, fibreBelow, fibre, xOf, yOf}
+use Rattle.curve.specs.Curve.{power, isOnCurve, fibreBelow, fibre, xOf, yOf}
 use Rattle.code.specs.Encoding.{monomial, term, valueAt, encodeOf}
 
 unfoldable pub oneAt : ℕ → ℕ → ℕ

@@ -15,7 +15,7 @@ use Rattle.algebra.specs.Power.{pow, pow-nil, pow-suc}
 use Rattle.galois.specs.Field16.{GF, K16, toF, toF-add, toF-times, toF-zero, toF-one}
 use Rattle.hermitian.specs.Orders.{orderOf}
 use Rattle.hermitian.specs.Value as Value
-use Rattle.code.specs.Curve.{power, power-nil, power-suc, xOf, yOf}
+use Rattle.curve.specs.Curve.{power, power-nil, power-suc, xOf, yOf}
 use Rattle.code.specs.Encoding.{monomial, term, valueAt}
 open Field K16 using (_⊕_, _⊗_)
 

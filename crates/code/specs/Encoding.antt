@@ -20,7 +20,7 @@ use Rattle.lists.specs.Answers.{firstThat}
 use Rattle.lists.specs.Same.{same}
 use Rattle.galois.specs.Gf16.{times}
 use Rattle.hermitian.specs.Orders.{xPower, yPower, orderOf}
-use Rattle.code.specs.Curve.{power, xOf, yOf}
+use Rattle.curve.specs.Curve.{power, xOf, yOf}
 
 unfoldable pub monomial : ℕ → ℕ → ℕ
 monomial o p = times (power (xOf p) (xPower 4 o)) (power (yOf p) (yPower 4 o))

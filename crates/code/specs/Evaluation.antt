@@ -9,6 +9,7 @@
 --   coefficientOf m o    the coefficient of order o in the function of message m: symbol t at the t-th present order
 --   functionOf m         all 64 of them
 --   function-value       its value is that of the message's first 58 symbols (document 01's sum over message symbols)
+--   encode-length        a codeword has 64 places
 --   encode-beyond        symbols that a message does not have add nothing: the codeword is the same for every k from its length on
 use mathlib.Core.Bool.{Bool, true, false}
 use mathlib.Core.Path.{_≡_, sym, ap, ap₂, _∙_}
@@ -19,7 +20,7 @@ use lib.Dec.{lit≤}
 use lib.Bits.{bitXor, xor-zero-r}
 use lib.ListN.{length, getD, List·getD-eq-default}
 use borrow.Author.Tests.{le-leb, lt-leb}
-use Rattle.lists.specs.Listed.{listed, listed-at, listed-ext}
+use Rattle.lists.specs.Listed.{listed, listed-length, listed-at, listed-ext}
 use Rattle.lists.specs.XorSum.{xorSum, xorSum-nil, xorSum-suc, xorSum-ext, xorSum-more}
 use Rattle.galois.specs.Gf16.{times}
 use Rattle.galois.specs.Field16.{times-comm, times-zero}
@@ -93,6 +94,10 @@ function-value m p =
     xorSum-ext 64 _ _ (λ o l. ap₂ times (listed-at 64 o (coefficientOf m) 0 l) (listed-at 64 o (monomialAt p) 0 l))
     ∙ by-rank m p 64
     ∙ ap (λ k. xorSum k (term m p)) (omega (arith, rank-large 4 (lit≤ tt) 64 (lit≤ tt)))
+
+pub encode-length : (k : ℕ) (m : List ℕ) → length (encodeOf k m) ≡ 64
+unfolding encodeOf
+encode-length k m = listed-length 64 (valueAt k m)
 
 -- ---- a message that is shorter than the code takes
 term-beyond : (m : List ℕ) (p t : ℕ) → length m ≤ t → term m p t ≡ 0

@@ -34,8 +34,8 @@ use Rattle.galois.specs.Binary as Binary
 use Rattle.galois.specs.Field16.{GF, K16, toF, toF-add, toF-times, toF-zero, toF-one, toF-injective, times-lt, xor-below}
 use Rattle.hermitian.specs.Orders.{order, xPower, yPower, order-of, orderOf, orderOf-present, rank, rank-orderOf}
 use Rattle.hermitian.specs.Value as Value
-use Rattle.code.specs.Curve.{power, yOf}
-use Rattle.code.specs.Points.{yTable, yTable-rule}
+use Rattle.curve.specs.Curve.{power, yOf}
+use Rattle.curve.specs.Points.{yTable, yTable-rule}
 use Rattle.code.specs.Encoding.{monomial, valueAt, encodeOf}
 use Rattle.code.specs.Evaluation.{order-below}
 use Rattle.code.specs.Bridge.{toF-power, toF-xorSum, px, py, toF-value}

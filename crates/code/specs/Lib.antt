@@ -1,12 +1,8 @@
-pub mod Curve
-pub mod Points
 pub mod Encoding
 pub mod Rates
 pub mod Calls
 pub mod Evaluation
 pub mod Bridge
-pub mod Lanes
-pub mod Table
 pub mod Extraction
 pub mod Laws
 pub mod Nodes

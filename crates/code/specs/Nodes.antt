@@ -21,8 +21,8 @@ use Rattle.galois.specs.Binary as Binary
 use Rattle.galois.specs.Field16.{GF, K16, toF, value, toF-add, toF-mod, toF-value, value-lt, times-mod}
 use Rattle.hermitian.specs.Value.{Curve}
 use Rattle.hermitian.specs.Interpolation.{Sample, Through}
-use Rattle.code.specs.Curve.{power, power-nil, power-suc, isOnCurve, fibreBelow, fibre, xOf, yOf}
-use Rattle.code.specs.Points.{on-curve}
+use Rattle.curve.specs.Curve.{power, power-nil, power-suc, isOnCurve, fibreBelow, fibre, xOf, yOf}
+use Rattle.curve.specs.Points.{on-curve}
 use Rattle.code.specs.Bridge.{px, py, toF-power}
 open Field K16 using (_⊕_)
 

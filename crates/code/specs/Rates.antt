@@ -2,6 +2,7 @@
 --
 --   known-rates      39 or 49
 --   known-bounds     so between 39 and 49, which is all that most who ask want of it
+--   known-small      and small enough to be read back
 use mathlib.Core.Bool.{Bool, true, false, _||_}
 use mathlib.Core.Path.{_≡_, refl}
 use mathlib.Core.Logic.{_⊎_, inl, inr, ⊎-elim}
@@ -22,3 +23,6 @@ module _ (k : ℕ) (known : knownRate k ≡ true) where
 
   pub known-bounds : (39 ≤ k) × (k ≤ 49)
   known-bounds = ⊎-elim (λ e. omega arith) (λ e. omega arith) known-rates
+
+  pub known-small : k ≤ 58
+  known-small = omega (arith, known-bounds)

@@ -1,6 +1,2 @@
-// The code: points of the curve by place, evaluation, encoding and reading back. It knows of no costs, no doubt and no session.
-pub mod encoding;
-pub mod evaluation;
-pub mod points;
-pub mod reading;
-pub mod table;
+// The code: encoding as evaluation, reading back as its inverse, rates, and what the two calls answer: definitions and laws, no code.
+// It knows of no costs, no doubt and no session.

@@ -13,7 +13,7 @@ use Rattle.hermitian.specs.Interpolation.{through-space}
 use Rattle.code.specs.Evaluation.{monomialAt}
 use Rattle.code.specs.Bridge.{px}
 use Rattle.code.specs.Nodes.{node, sampleAt}
-use Rattle.code.specs.Curve.{xOf}
+use Rattle.curve.specs.Curve.{xOf}
 use Rattle.rows.specs.Rows.{coef, weighed}
 use Rattle.basis.specs.Choice.{leadAt, Chosen, none, one}
 use Rattle.basis.specs.Step.{discrepancyAt, NextRows}

@@ -14,9 +14,9 @@ use Rattle.algebra.specs.Subspace.{common-start, common-inside}
 use Rattle.algebra.specs.Koetter.{Basis, basis-same}
 use Rattle.galois.specs.Field16.{K16}
 use Rattle.hermitian.specs.Keys.{first}
-use Rattle.code.specs.Curve.{xOf}
+use Rattle.curve.specs.Curve.{xOf}
 use Rattle.code.specs.Evaluation.{monomialAt}
-use Rattle.code.specs.Table.{monomialTable, entryIn, in-table}
+use Rattle.evaluation.specs.Table.{monomialTable, entryIn, in-table}
 use Rattle.code.specs.Nodes.{node, ThroughNodes}
 use Rattle.basis.specs.Choice.{leadAt}
 use Rattle.interpolation.specs.Start.{Started}

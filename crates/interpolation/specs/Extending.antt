@@ -10,7 +10,7 @@ use lib.ListN.{length}
 use Rattle.lists.specs.Listed.{listed}
 use Rattle.algebra.specs.Koetter.{Basis}
 use Rattle.galois.specs.Field16.{K16}
-use Rattle.code.specs.Curve.{xOf}
+use Rattle.curve.specs.Curve.{xOf}
 use Rattle.code.specs.Evaluation.{monomialAt}
 use Rattle.code.specs.Nodes.{Node, node, ThroughNodes}
 use Rattle.basis.specs.Choice.{leadAt}

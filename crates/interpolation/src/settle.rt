@@ -12,9 +12,9 @@ use crate::PLACES;
 use crate::node::extend_by;
 use basis::Leads;
 use basis::Rows;
-use code::evaluation::monomials_in;
-use code::points::x_at;
-use code::table::table;
+use evaluation::monomials::monomials_in;
+use curve::x_at;
+use evaluation::table::table;
 
 // A place whose flag is not 1 changes nothing.
 fn extend_if(

@@ -12,14 +12,14 @@ pub extern "C" fn hermitian_encode(
 ) -> u8
     ensures { λ r. ⌜ outcome r (now (frame .exit)) ≡ encodeCall rate (now (message .entry)) (now (frame .entry)) start ⌝ }
 {
-    code::encoding::encode(rate, message, frame, start)
+    encoding::encode(rate, message, frame, start)
 }
 
 #[no_mangle]
 pub extern "C" fn hermitian_read_back(rate: usize, word: &[u8], message: &mut [u8]) -> u8
     ensures { λ r. ⌜ outcome r (now (message .exit)) ≡ readBackCall rate (now (word .entry)) (now (message .entry)) ⌝ }
 {
-    code::reading::read_back(rate, word, message)
+    reading_back::read_back(rate, word, message)
 }
 
 #[no_mangle]

@@ -11,8 +11,8 @@ use lib.ListN.{getD, take, drop}
 use Rattle.lists.specs.Every.{every, every-at}
 use Rattle.galois.specs.Field16.{K16, toF-injective}
 use Rattle.hermitian.specs.Points.{Points}
-use Rattle.code.specs.Curve.{xOf, yOf}
-use Rattle.code.specs.Points.{yTable, yTable-rule, yOf-below}
+use Rattle.curve.specs.Curve.{xOf, yOf}
+use Rattle.curve.specs.Points.{yTable, yTable-rule, yOf-below}
 use Rattle.code.specs.Bridge.{px, py}
 use Rattle.code.specs.Nodes.{on-curve-at}
 

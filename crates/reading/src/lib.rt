@@ -14,7 +14,7 @@ use refusals::UNKNOWN_RATE;
 use refusals::WRONG_DOUBT;
 use refusals::WRONG_SIZE;
 use session::Session;
-use soft::doubt::MOST_DOUBT;
+use doubt::MOST_DOUBT;
 
 // M above the rate: a message of k symbols uses the orders up to k + 5.
 const M_ABOVE_RATE: usize = 5;
@@ -52,7 +52,7 @@ pub fn read_interpolant(session: Session, out: &mut [u8]) -> u8
         return WRONG_SIZE;
     }
     let rate = session.rate as usize;
-    if !code::encoding::known_rate(rate) {
+    if !encoding::known_rate(rate) {
         return UNKNOWN_RATE;
     }
     let taken = session.taken;
@@ -66,7 +66,7 @@ pub fn read_interpolant(session: Session, out: &mut [u8]) -> u8
     let arrival = session.arrival;
     let doubtful = session.doubtful;
     let costs = session.costs;
-    let word = soft::doubt::best_word(&costs);
+    let word = columns::word::best_word(&costs);
     let settled = flags(&arrival[..taken], &doubtful[..doubt]);
     let bytes = interpolation::reading::reading(word, settled, rate + M_ABOVE_RATE);
     copy(&bytes, out);

@@ -53,7 +53,7 @@ fn open_capture(bytes: &[u8]) -> Session
 fn deliver(current: Session, place: usize, column: &[u8]) -> Session
     ensures { λ r. ⌜ Leaves current (delivered place (costsFrom symbols (now (column .entry)))) r ⌝ }
 {
-    let delivered = session::deliver(current, place, soft::costs::column_from(column));
+    let delivered = session::deliver(current, place, columns::costs::column_from(column));
     write_byte(delivered.refusal);
     delivered.session
 }

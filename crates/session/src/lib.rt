@@ -11,10 +11,10 @@ ghost use Rattle.book.specs.Opening.{fitPlaces};
 ghost use Rattle.session.specs.View.{newSession};
 ghost use Rattle.session.specs.Calls.{refusedWith, openedOf, declinedWith, Delivery};
 use lists::copy;
-use soft::costs::COSTS;
-use soft::costs::PLACES;
-use soft::costs::SYMBOLS;
-use soft::doubt::MOST_DOUBT;
+use columns::costs::COSTS;
+use columns::costs::PLACES;
+use columns::costs::SYMBOLS;
+use doubt::MOST_DOUBT;
 
 pub struct Session {
     pub rate: u8,
@@ -97,7 +97,7 @@ pub fn refused(number: u8) -> Opened
 pub fn open(rate: usize, doubtful: &[u8]) -> Opened
     ensures { λ r. ⌜ r ≡ openedOf rate (now (doubtful .entry)) ⌝ }
 {
-    if !code::encoding::known_rate(rate) {
+    if !encoding::known_rate(rate) {
         return refused(refusals::UNKNOWN_RATE);
     }
     if MOST_DOUBT < doubtful.len() {

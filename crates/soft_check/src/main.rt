@@ -1,10 +1,9 @@
 // Prints what the bench sheet's columns C9 and C10 read, the three doubtful places of a small table, and what the zero word costs there.
 use io::print_decimal;
 use libc::STDOUT_FILENO;
-use soft::column;
-use soft::costs;
-use soft::doubt;
-use soft::total;
+use columns::column;
+use columns::costs;
+use totals::total;
 
 fn show(n: u64) {
     print_decimal(STDOUT_FILENO, n);

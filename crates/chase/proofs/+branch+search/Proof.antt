@@ -25,9 +25,9 @@ use Rattle.chase.proofs.least.Reads as least-reads
 use Rattle.chase.proofs.none_near.Reads as none-near-reads
 use Rattle.chase.proofs.tests_within.Reads as tests-within-reads
 use Rattle.interpolation.proofs.node.extend.Reads as extend-reads
-use Rattle.soft.proofs.column.best.Reads as best-reads
-use Rattle.soft.proofs.column.second.Reads as second-reads
-use Rattle.soft.proofs.costs.column_of.Reads as column-of-reads
+use Rattle.columns.proofs.column.best.Reads as best-reads
+use Rattle.columns.proofs.column.second.Reads as second-reads
+use Rattle.columns.proofs.costs.column_of.Reads as column-of-reads
 use Rattle.chase.proofs.+branch+search.{statement}
 use Rattle.chase.proofs.+branch+search.Tie.{close}
 

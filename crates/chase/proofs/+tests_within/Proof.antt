@@ -12,9 +12,9 @@ use Rattle.chase.proofs.tests_within.Reads as tests-within
 use Rattle.chase.proofs.tests_within.Kinds as tests-within-kinds
 use Rattle.chase.proofs.+tests_within.Lts-tests_within as tests-within-lts
 use Rattle.chase.proofs.within.Reads as within-reads
-use Rattle.soft.proofs.column.best.Reads as best-reads
-use Rattle.soft.proofs.column.second.Reads as second-reads
-use Rattle.soft.proofs.costs.column_of.Reads as column-of-reads
+use Rattle.columns.proofs.column.best.Reads as best-reads
+use Rattle.columns.proofs.column.second.Reads as second-reads
+use Rattle.columns.proofs.costs.column_of.Reads as column-of-reads
 use Rattle.chase.proofs.+tests_within.{statement}
 use Rattle.chase.proofs.+tests_within.Tie.{close}
 

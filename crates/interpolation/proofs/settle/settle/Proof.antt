@@ -9,7 +9,7 @@ use Rattle.algebra.specs.Koetter.{Basis}
 use Rattle.galois.specs.Field16.{K16}
 use Rattle.hermitian.specs.Keys.{first}
 use Rattle.code.specs.Nodes.{ThroughNodes}
-use Rattle.code.specs.Table.{monomialTable}
+use Rattle.evaluation.specs.Table.{monomialTable}
 use Rattle.basis.specs.Choice.{leadAt}
 use Rattle.interpolation.specs.Polynomial.{polynomials}
 use Rattle.interpolation.specs.Settled.{settled}

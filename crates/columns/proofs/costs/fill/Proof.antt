@@ -1,0 +1,63 @@
+-- `soft::costs::fill` meets its contract. The loop's invariant: the costs passed are stored, the rest is as it was.
+use mathlib.Core.Path.{refl}
+use Prim.Native.Nat.{_-_}
+use native.Mathlib.Omega.{arith}
+use borrow.Author.Needs.{needs}
+use Rattle.lists.specs.Filled.{Filled, filled-start, filled-turn, filled-end, filled-length}
+use Rattle.soft.specs.Column.{costFrom, costsFrom}
+use Rattle.columns.proofs.costs.fill.Statement.{statement}
+use Rattle.columns.proofs.costs.fill.Tie as tie
+
+abbrev Inv-loop : tie.InvT-loop
+Inv-loop bytes out₀ i₀ i-end out i = Filled out₀ (costFrom bytes) i out
+
+abbrev μ-loop : tie.MeasureT-loop
+μ-loop bytes out₀ i₀ i-end out i = i-end - i
+
+loop-holds : tie.Need-loop-holds Inv-loop μ-loop
+loop-holds c = filled-start _ _
+
+mul-pair-at : tie.Need-mul-pair-at Inv-loop μ-loop
+mul-pair-at c = search needs
+
+pair-at-requires : tie.Need-pair-at-requires Inv-loop μ-loop
+pair-at-requires c κs = search needs
+
+mul-out : tie.Need-mul-out Inv-loop μ-loop
+mul-out c = search needs
+
+slice-write-out : tie.Need-slice-write-out Inv-loop μ-loop
+slice-write-out c = omega (arith, filled-length 0 (c .before .before .loop .inv))
+
+add-i : tie.Need-add-i Inv-loop μ-loop
+add-i c = search needs
+
+loop-less : tie.Need-loop-less Inv-loop μ-loop
+loop-less c = search needs
+
+loop-again : tie.Need-loop-again Inv-loop μ-loop
+loop-again c = filled-turn 0 (c .before .before .loop .inv) _ (search needs) (c .pair-at .ensures)
+
+same-length : tie.Need-same-length Inv-loop μ-loop
+same-length c = filled-length 0 (c .before .loop .inv)
+
+returns : tie.Need-returns Inv-loop μ-loop
+unfolding costsFrom
+returns c = filled-end 0 (c .before .loop .inv) _ refl (search needs)
+
+pub fill-spec : {M : Type 1} → statement M
+fill-spec =
+    tie.close
+    (tie.spec
+    Inv-loop
+    μ-loop
+    loop-holds
+    mul-pair-at
+    pair-at-requires
+    mul-out
+    slice-write-out
+    add-i
+    loop-less
+    loop-again
+    same-length
+    returns)

@@ -1,0 +1,4 @@
+pub mod Ranks
+pub mod Symbols
+pub mod Answers
+pub mod Codeword

@@ -1,0 +1,27 @@
+-- `order` meets its contract: the table of the first orders is computed, and from symbol 6 on the order is 6 more.
+use Rattle.lists.specs.Listed.{listed, listed-at}
+use Rattle.hermitian.specs.Present.{genus}
+use Rattle.hermitian.specs.Orders.{orderOf, presents, isPresent}
+use Rattle.encoding.proofs.Ranks.{order-large}
+use borrow.Author.Needs.{needs}
+use Rattle.encoding.proofs.order.Statement.{statement}
+use Rattle.encoding.proofs.order.Tie as tie
+
+add-result : tie.Need-add-result
+add-result c = search needs
+
+returns : tie.Need-returns
+returns c = order-large _ (c .if1 .taken)
+
+mul-result : tie.Need-mul-result
+mul-result c = search needs
+
+array-read-result : tie.Need-array-read-result
+array-read-result c = search needs
+
+returns-2 : tie.Need-returns-2
+unfolding listed orderOf presents isPresent genus
+returns-2 c = listed-at 6 _ (orderOf 4) 0 (c .if1 .left)
+
+pub order-spec : {M : Type 1} → statement M
+order-spec = tie.close (tie.spec add-result returns mul-result array-read-result returns-2)

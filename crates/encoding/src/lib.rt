@@ -1,0 +1,128 @@
+// Encoding: a message as a function, symbol t at the t-th present order, and its values at all places; and the call.
+// It knows of no costs, no doubt and no session.
+ghost use mathlib.Core.Path.{_≡_};
+ghost use Prim.Native.Nat.{_%_};
+ghost use Rattle.lists.specs.Words.{allBelow};
+ghost use Rattle.hermitian.specs.Present.{Present};
+ghost use Rattle.hermitian.specs.Orders.{orderOf, rank};
+ghost use Rattle.code.specs.Encoding.{encodeOf, knownRate};
+ghost use Rattle.code.specs.Evaluation.{coefficientOf, functionOf};
+ghost use Rattle.code.specs.Calls.{outcome, encodeCall};
+use evaluation::value::codeword;
+use lists::copy;
+use refusals::ACCEPTED;
+use refusals::NO_SYMBOL;
+use refusals::UNKNOWN_RATE;
+use refusals::WRONG_SIZE;
+
+// The number of the message symbol that stands at a present order: 1, 2, 3, 6, 7 and 11 are missing.
+fn rank(order: usize) -> usize
+    requires { ⌜ Present 4 order ⌝ }
+    ensures { λ r. ⌜ r ≡ rank 4 order ⌝ }
+{
+    if order < 4 {
+        return order;
+    }
+    if order < 8 {
+        return order - 3;
+    }
+    if order < 12 {
+        return order - 5;
+    }
+    order - 6
+}
+
+// The first present orders; from message symbol 6 on none is missing.
+const ORDERS: [usize; 6] = [0, 4, 5, 8, 9, 10];
+
+// The order of a message symbol. Its number counts modulo 58.
+pub fn order(symbol: usize) -> usize
+    ensures { λ r. ⌜ r ≡ orderOf 4 (symbol % 58) ⌝ }
+{
+    let t = symbol % 58;
+    if 6 <= t {
+        return t + 6;
+    }
+    ORDERS[t]
+}
+
+// The message's coefficient of an order.
+fn coefficient(message: &[u8], order: usize) -> u8
+    ensures { λ r. ⌜ r ≡ coefficientOf (now (message .entry)) order ⌝ }
+{
+    if order / 4 < order % 4 {
+        return 0;
+    }
+    let symbol = rank(order);
+    if symbol < message.len() {
+        return message[symbol];
+    }
+    0
+}
+
+fn function_of(message: &[u8]) -> [u8; 64]
+    ensures { λ r. ⌜ r ≡ functionOf (now (message .entry)) ⌝ }
+{
+    let mut out = [0u8; 64];
+    let mut order = 0;
+    while order < 64 {
+        out[order] = coefficient(message, order);
+        order += 1;
+    }
+    out
+}
+
+// The codeword of a message; symbols after the 58th are not read.
+pub fn codeword_of(message: &[u8]) -> [u8; 64]
+    ensures { λ r. ⌜ r ≡ encodeOf 58 (now (message .entry)) ⌝ }
+{
+    codeword(function_of(message))
+}
+
+pub fn known_rate(rate: usize) -> bool
+    ensures { λ r. ⌜ r ≡ knownRate rate ⌝ }
+{
+    if rate == 39 {
+        return true;
+    }
+    rate == 49
+}
+
+// Whether every byte is a symbol.
+pub fn symbols_only(bytes: &[u8]) -> bool
+    ensures { λ r. ⌜ r ≡ allBelow 16 (now (bytes .entry)) ⌝ }
+{
+    let mut i = 0;
+    while i < bytes.len() {
+        if 16 <= bytes[i] {
+            return false;
+        }
+        i += 1;
+    }
+    true
+}
+
+// Encode: the codeword of the message into the 64 bytes of the frame from start on.
+pub fn encode(rate: usize, message: &[u8], frame: &mut [u8], start: usize) -> u8
+    ensures { λ r. ⌜ outcome r (now (frame .exit)) ≡ encodeCall rate (now (message .entry)) (now (frame .entry)) start ⌝ }
+{
+    if !known_rate(rate) {
+        return UNKNOWN_RATE;
+    }
+    if message.len() != rate {
+        return WRONG_SIZE;
+    }
+    if frame.len() < 64 {
+        return WRONG_SIZE;
+    }
+    if frame.len() - 64 < start {
+        return WRONG_SIZE;
+    }
+    if !symbols_only(message) {
+        return NO_SYMBOL;
+    }
+    let word = codeword_of(message);
+    let end = start + 64;
+    copy(&word, &mut frame[start..end]);
+    ACCEPTED
+}

@@ -1,0 +1,26 @@
+-- `value` meets its contract: of two rows without z the dot product is the sum over the orders.
+use Rattle.evaluation.proofs.Evaluating.{value-by-dot, value-swapped}
+use borrow.Author.Needs.{needs}
+use Rattle.evaluation.proofs.value.value.Statement.{statement}
+use Rattle.evaluation.proofs.value.value.Tie as tie
+
+weights-requires : tie.Need-weights-requires
+weights-requires c κs = search needs
+
+weights-requires-2 : tie.Need-weights-requires-2
+weights-requires-2 c κs = search needs
+
+planes-requires : tie.Need-planes-requires
+planes-requires c κs = search needs
+
+dot-requires : tie.Need-dot-requires
+dot-requires c κs = search needs
+
+returns : tie.Need-returns
+returns c =
+    value-swapped _ _
+    (value-by-dot _ _ _ _ (c .before .before .before .weights .ensures) (c .before .before .weights2 .ensures) (c .before .planes .ensures) (c .dot .ensures))
+
+pub value-spec : {M : Type 1} → statement M
+value-spec =
+    tie.close (tie.spec weights-requires weights-requires-2 planes-requires dot-requires returns)

@@ -1,0 +1,63 @@
+-- `soft::total::differing` meets its contract.
+use mathlib.Core.Path.{_≡_, sym, ap, _∙_}
+use mathlib.Core.Bool.{not}
+use Prim.Native.Nat.{_≤_, _-_}
+use native.Mathlib.Omega.{arith}
+use borrow.Author.Needs.{needs}
+use Rattle.lists.specs.Count.{bit, count, count-nil, count-turn}
+use Rattle.soft.specs.Total.{differAt, differing}
+use Rattle.totals.proofs.total.differing.Statement.{statement}
+use Rattle.totals.proofs.total.differing.Tie as tie
+
+abbrev Inv-loop : tie.InvT-loop
+Inv-loop u v n₀ place₀ n place = (place ≤ 64) × (n ≤ place) × (n ≡ count place (differAt u v))
+
+abbrev μ-loop : tie.MeasureT-loop
+μ-loop u v n₀ place₀ n place = 64 - place
+
+loop-holds : tie.Need-loop-holds Inv-loop μ-loop
+loop-holds c = (omega arith, omega arith, sym (count-nil _))
+
+agreeing-requires : tie.Need-agreeing-requires Inv-loop μ-loop
+agreeing-requires c κs = search needs
+
+bit-requires : tie.Need-bit-requires Inv-loop μ-loop
+bit-requires c κs = search needs
+
+add-n : tie.Need-add-n Inv-loop μ-loop
+add-n c = search needs
+
+add-place : tie.Need-add-place Inv-loop μ-loop
+add-place c = search needs
+
+loop-less : tie.Need-loop-less Inv-loop μ-loop
+loop-less c = search needs
+
+loop-again : tie.Need-loop-again Inv-loop μ-loop
+loop-again c = (
+  omega arith,
+  omega arith,
+  count-turn _ _ _ _ (c .before .before .before .loop .inv .2)
+      (c .bit .ensures .0 ∙ ap (λ x. bit (not x)) (c .before .agreeing .ensures)),
+)
+
+returns : tie.Need-returns Inv-loop μ-loop
+unfolding differing
+returns c =
+    let e : c .before .loop .place ≡ 64 = omega arith in
+    rw e at (c .before .loop .inv .2)
+
+pub differing-spec : {M : Type 1} → statement M
+differing-spec =
+    tie.close
+    (tie.spec
+    Inv-loop
+    μ-loop
+    loop-holds
+    agreeing-requires
+    bit-requires
+    add-n
+    add-place
+    loop-less
+    loop-again
+    returns)

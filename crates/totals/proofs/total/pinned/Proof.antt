@@ -1,0 +1,74 @@
+-- `soft::total::pinned` meets its contract.
+use mathlib.Core.Path.{_≡_, sym, ap, _∙_}
+use Prim.Native.Nat.{_≤_, _-_}
+use native.Mathlib.Omega.{arith}
+use lib.Dec.{eqb}
+use borrow.Author.Needs.{needs}
+use Rattle.lists.specs.Count.{bit, count, count-nil, count-turn}
+use Rattle.soft.specs.Column.{columnOf}
+use Rattle.soft.specs.Total.{pinnedAt, pinnedOf}
+use Rattle.totals.proofs.Turns.{cost-in}
+use Rattle.totals.proofs.total.pinned.Statement.{statement}
+use Rattle.totals.proofs.total.pinned.Tie as tie
+
+abbrev Inv-loop : tie.InvT-loop
+Inv-loop costs word n₀ place₀ n place = (place ≤ 64) × (n ≤ place) × (n ≡ count place (pinnedAt (columnOf 16 costs) word))
+
+abbrev μ-loop : tie.MeasureT-loop
+μ-loop costs word n₀ place₀ n place = 64 - place
+
+loop-holds : tie.Need-loop-holds Inv-loop μ-loop
+loop-holds c = (omega arith, omega arith, sym (count-nil _))
+
+byte-at-requires : tie.Need-byte-at-requires Inv-loop μ-loop
+byte-at-requires c κs = search needs
+
+cost-of-requires : tie.Need-cost-of-requires Inv-loop μ-loop
+cost-of-requires c κs = search needs
+
+bit-requires : tie.Need-bit-requires Inv-loop μ-loop
+bit-requires c κs = search needs
+
+add-n : tie.Need-add-n Inv-loop μ-loop
+add-n c = search needs
+
+add-place : tie.Need-add-place Inv-loop μ-loop
+add-place c = search needs
+
+loop-less : tie.Need-loop-less Inv-loop μ-loop
+loop-less c = search needs
+
+loop-again : tie.Need-loop-again Inv-loop μ-loop
+loop-again c = (
+  omega arith,
+  omega arith,
+  count-turn _ _ _ _ (c .before .before .before .before .loop .inv .2)
+      (c .bit .ensures .0 ∙ ap (λ x. bit (eqb x 65535))
+      (cost-in _ (c .before .before .before .before .before .before .before .args .word .now) _ _ _ (c .before .before .byte-at .ensures) (c .before .cost-of .ensures))),
+)
+
+cast-result : tie.Need-cast-result Inv-loop μ-loop
+cast-result c = search needs
+
+returns : tie.Need-returns Inv-loop μ-loop
+unfolding pinnedOf
+returns c =
+    let e : c .before .loop .place ≡ 64 = omega arith in
+    rw e at (c .before .loop .inv .2)
+
+pub pinned-spec : {M : Type 1} → statement M
+pinned-spec =
+    tie.close
+    (tie.spec
+    Inv-loop
+    μ-loop
+    loop-holds
+    byte-at-requires
+    cost-of-requires
+    bit-requires
+    add-n
+    add-place
+    loop-less
+    loop-again
+    cast-result
+    returns)

@@ -1,0 +1,67 @@
+// What a word costs over 64 places, and where it differs.
+use columns::bit::bit;
+use columns::column::best;
+use columns::costs::PLACES;
+use columns::costs::byte_at;
+use columns::costs::column_of;
+use columns::costs::cost_of;
+ghost use mathlib.Core.Path.{_≡_};
+ghost use Prim.Native.Nat.{_<_};
+ghost use Rattle.soft.specs.Column.{places, symbols, columnOf};
+ghost use Rattle.soft.specs.Total.{totalOf, pinnedOf, changedOf, agree, differing};
+
+pub const CEILING: u16 = 65535;
+
+// A cost at the ceiling is summed as it stands.
+pub fn total(costs: &[u16], word: &[u8]) -> u32
+    ensures { λ r. ⌜ r ≡ totalOf places (columnOf symbols (now (costs .entry))) (now (word .entry)) ⌝ }
+{
+    let mut sum: u32 = 0;
+    for place in 0..PLACES {
+        sum += cost_of(costs, place, byte_at(word, place)) as u32;
+    }
+    sum
+}
+
+pub fn pinned(costs: &[u16], word: &[u8]) -> u8
+    ensures { λ r. ⌜ r ≡ pinnedOf places (columnOf symbols (now (costs .entry))) (now (word .entry)) ⌝ }
+{
+    let mut n = 0u16;
+    for place in 0..PLACES {
+        n += bit(cost_of(costs, place, byte_at(word, place)) == CEILING);
+    }
+    n as u8
+}
+
+pub fn changed(costs: &[u16], word: &[u8]) -> u8
+    ensures { λ r. ⌜ r ≡ changedOf places (columnOf symbols (now (costs .entry))) (now (word .entry)) ⌝ }
+{
+    let mut n = 0u16;
+    for place in 0..PLACES {
+        n += bit(byte_at(word, place) != best(column_of(costs, place)));
+    }
+    n as u8
+}
+
+// Two words have an entry at a place, and it is the same.
+fn agreeing(u: &[u8], v: &[u8], place: usize) -> bool
+    ensures { λ r. ⌜ r ≡ agree (now (u .entry)) (now (v .entry)) place ⌝ }
+{
+    if u.len() <= place {
+        return false;
+    }
+    if v.len() <= place {
+        return false;
+    }
+    u[place] == v[place]
+}
+
+pub fn differing(u: &[u8], v: &[u8]) -> u16
+    ensures { λ r. ⌜ r ≡ differing places (now (u .entry)) (now (v .entry)) ⌝ }
+{
+    let mut n = 0u16;
+    for place in 0..PLACES {
+        n += bit(!agreeing(u, v, place));
+    }
+    n
+}
