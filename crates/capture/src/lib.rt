@@ -11,12 +11,12 @@ ghost use Rattle.book.specs.LookUp.{recordWith, lookUpOf};
 ghost use Rattle.session.specs.View.{bookOf, Good};
 ghost use Rattle.session.specs.Calls.{Opening};
 ghost use Rattle.capture.specs.Calls.{recordBytes, headBytes, rowOf, Writing};
-use lists::copy;
-use session::Opened;
-use session::Session;
 use columns::costs::PLACES;
 use columns::costs::SYMBOLS;
 use doubt::MOST_DOUBT;
+use lists::copy;
+use session::Opened;
+use session::Session;
 
 // The version of captures that are written and read.
 const VERSION: u8 = 1;

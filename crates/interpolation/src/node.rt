@@ -9,8 +9,8 @@ use basis::Rows;
 use basis::step::choice;
 use basis::step::discrepancies;
 use basis::step::next_rows;
-use evaluation::monomials::monomials;
 use curve::x_at;
+use evaluation::monomials::monomials;
 use rows::weights;
 
 // The basis of the polynomials that vanish at a place too, which is given by its monomials and its x; the leads are changed where they

@@ -12,8 +12,8 @@ use crate::PLACES;
 use crate::node::extend_by;
 use basis::Leads;
 use basis::Rows;
-use evaluation::monomials::monomials_in;
 use curve::x_at;
+use evaluation::monomials::monomials_in;
 use evaluation::table::table;
 
 // A place whose flag is not 1 changes nothing.

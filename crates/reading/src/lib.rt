@@ -5,6 +5,7 @@ ghost use Rattle.lists.specs.Listed.{listed};
 ghost use Rattle.book.specs.Book.{places};
 ghost use Rattle.session.specs.Answering.{Reading};
 ghost use Rattle.reading.specs.Flags.{flagOf};
+use doubt::MOST_DOUBT;
 use interpolation::PLACES;
 use interpolation::READING;
 use lists::copy;
@@ -14,7 +15,6 @@ use refusals::UNKNOWN_RATE;
 use refusals::WRONG_DOUBT;
 use refusals::WRONG_SIZE;
 use session::Session;
-use doubt::MOST_DOUBT;
 
 // M above the rate: a message of k symbols uses the orders up to k + 5.
 const M_ABOVE_RATE: usize = 5;

@@ -10,11 +10,11 @@ ghost use Rattle.book.specs.Book.{places, width};
 ghost use Rattle.book.specs.Opening.{fitPlaces};
 ghost use Rattle.session.specs.View.{newSession};
 ghost use Rattle.session.specs.Calls.{refusedWith, openedOf, declinedWith, Delivery};
-use lists::copy;
 use columns::costs::COSTS;
 use columns::costs::PLACES;
 use columns::costs::SYMBOLS;
 use doubt::MOST_DOUBT;
+use lists::copy;
 
 pub struct Session {
     pub rate: u8,

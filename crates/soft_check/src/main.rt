@@ -1,8 +1,8 @@
 // Prints what the bench sheet's columns C9 and C10 read, the three doubtful places of a small table, and what the zero word costs there.
-use io::print_decimal;
-use libc::STDOUT_FILENO;
 use columns::column;
 use columns::costs;
+use io::print_decimal;
+use libc::STDOUT_FILENO;
 use totals::total;
 
 fn show(n: u64) {
