@@ -15,12 +15,13 @@ use Rattle.lists.specs.Distinct.{among, among-member, below, below-append, belo
 use Rattle.code.specs.Encoding.{knownRate}
 use Rattle.soft.specs.Column.{columnOf}
 use Rattle.near.specs.Tree.{Places, places-nil, places-cons, places-of}
-use Rattle.chase.specs.declared.Answer.the-variants.{NoneNear}
-use Rattle.chase.specs.declared.Found.{Found}
-use Rattle.chase.specs.Nearest.{Asked, arePlaces, askedOf, NearestCall}
-use Rattle.chase.specs.Searching.{Flagged}
-use Rattle.chase.proofs.Governing.{sound-none}
-use Rattle.chase.proofs.Settling.{known-range, left-cons, flag-turn}
+use Rattle.answers.specs.declared.Answer.the-variants.{NoneNear}
+use Rattle.answers.specs.declared.Found.{Found}
+use Rattle.chase.specs.Call.{Asked, askedOf, NearestCall}
+use Rattle.chase.specs.Places.{arePlaces, Flagged}
+use Rattle.answers.specs.Answered.{sound-none}
+use Rattle.chase.proofs.Settling.{known-range, flag-turn}
+use Rattle.known.specs.Left.{left-cons}
 
 -- ---- the loop that names one place after the other
 

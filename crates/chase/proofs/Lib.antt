@@ -1,7 +1,2 @@
-pub mod Message
-pub mod Candidate
-pub mod Governing
-pub mod Joining
-pub mod Descending
 pub mod Settling
 pub mod Asking

@@ -1,6 +1,6 @@
 -- From the settled places to the root of the tree: flags, nodes, and the known rates.
 use mathlib.Core.Bool.{Bool, true, false, cond}
-use mathlib.Core.Path.{_≡_, refl, sym, ap, ap₂, _∙_, subst}
+use mathlib.Core.Path.{_≡_, refl, sym, ap, _∙_, subst}
 use mathlib.Core.List.{List, [], _∷_, _++_, List·Memᴰ, List·Memᴰ·head, List·Memᴰ·tail, List·Memᴰ·cases-cons, List·Memᴰ·append-cases, List·Memᴰ·eq-of-singleton, List·Memᴰ·not-nil, Memᴰ·append-left, Memᴰ·append-right}
 use mathlib.Core.Logic.{_⊎_, inl, inr, ⊎-elim}
 use Prim.Native.Nat.{ℕ, zero, suc, _+_, _-_, _%_, _<_, _≤_}
@@ -9,8 +9,8 @@ use native.Mathlib.Decide.{ℕ-discrete}
 use native.Mathlib.Numerals.{add-one}
 use native.Mathlib.Omega.{arith}
 use lib.Dec.{eqb}
-use lib.ListN.{length, getD, take, drop, set, replicate, length-set, length-take, getD-replicate, drop-of-length-le}
-use lib.Seq.{take-suc, drop-cons, getD-set-same, getD-set-other, getD-take}
+use lib.ListN.{length, getD, take, drop, set, replicate, length-set, length-take, getD-replicate}
+use lib.Seq.{take-suc, getD-set-same, getD-set-other, getD-take}
 use borrow.Author.Tests.{eq-eqb, eqb-true}
 use Rattle.code.specs.Nodes.{Node, node, ThroughNodes}
 use Rattle.code.specs.Encoding.{knownRate}
@@ -25,10 +25,13 @@ use Rattle.soft.specs.Column.{columnOf}
 use Rattle.soft.specs.TestWord.{bestWord, expand, testWords}
 use Rattle.near.specs.Near.{mOf}
 use Rattle.near.specs.Interpolated.{limitOf}
-use Rattle.chase.specs.declared.Found.{Found}
-use Rattle.chase.specs.Nearest.{Asked, Nearest, NearestCall}
-use Rattle.chase.specs.Searching.{Ranged, Flagged, SearchOf}
-use Rattle.chase.specs.Known.{Sound}
+use Rattle.answers.specs.declared.Found.{Found}
+use Rattle.chase.specs.Call.{Asked, NearestCall}
+use Rattle.answers.specs.Nearest.{Nearest}
+use Rattle.candidate.specs.Ranged.{Ranged}
+use Rattle.chase.specs.Places.{Flagged}
+use Rattle.tree.specs.Searching.{SearchOf}
+use Rattle.answers.specs.Answered.{Sound}
 
 -- ---- known rates
 
@@ -41,18 +44,6 @@ pub places-at : {ps : List ℕ} → Places ps → (i : ℕ) → i < length ps �
 places-at places-nil i h = absurd (omega arith)
 places-at (places-cons a f P) zero h = a
 places-at (places-cons a f P) (suc i) h = places-at P i (le-of-suc-le-suc h)
-
--- the list of doubtful places, from one of them on
-module _ (doubtful : List ℕ) (doubt i : ℕ) where
-  pub left-cons : length doubtful ≡ 8 → doubt ≤ 8 → i < doubt → drop i (take doubt doubtful) ≡ getD doubtful i 0 ∷ drop (i + 1) (take doubt doubtful)
-  left-cons eight few h =
-      drop-cons (take doubt doubtful) i 0 (omega (arith, length-take doubt doubtful))
-      ∙ ap₂ (λ a m. a ∷ drop m (take doubt doubtful)) (getD-take doubt doubtful i 0 h) (sym (add-one i))
-
-  pub left-none : doubt ≤ i → drop i (take doubt doubtful) ≡ []
-  left-none h =
-      let b : length (take doubt doubtful) ≤ i = omega (arith, length-take doubt doubtful) in
-      drop-of-length-le (take doubt doubtful) b
 
 -- ---- flags
 

@@ -1,3 +1,2 @@
-pub mod Nearest
-pub mod Searching
-pub mod Known
+pub mod Places
+pub mod Call

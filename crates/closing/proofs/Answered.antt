@@ -4,7 +4,7 @@
 --   answered-none      nobody near: refused with 9, the buffers as they were
 --   decoded-near       the same from the steps of the code
 --   answered-near      somebody near: the message, and the report with its total, the count, and the pinned and changed places of its codeword
-use mathlib.Core.Path.{_≡_, refl, sym, ap, ap₂, _∙_}
+use mathlib.Core.Path.{_≡_, sym, ap, ap₂, _∙_}
 use mathlib.Core.List.{List, [], _∷_}
 use Prim.Native.Nat.{ℕ, _^_, _≤_}
 use native.Mathlib.Omega.{arith}
@@ -15,16 +15,16 @@ use Rattle.lists.specs.Count.{bit-le}
 use Rattle.lists.specs.Over.{over, over-short}
 use Rattle.soft.specs.TestWord.{testWords}
 use Rattle.soft.specs.TestWordLaws.{testWords-count}
-use Rattle.soft.specs.Total.{totalOf, pinnedOf, changedOf, reportOf}
+use Rattle.soft.specs.Total.{pinnedOf, changedOf, reportOf}
 use Rattle.code.specs.Encoding.{encodeOf}
 use Rattle.near.specs.Near.{isSome, codewordNear, testsNear, messageCost}
 use Rattle.near.specs.Laws.{tests-nil, tests-cons}
 use Rattle.book.specs.Closing.{refusedClosing, reportFor, decodeOf}
 use Rattle.book.specs.ClosingLaws.{decode-none, decode-some}
 use Rattle.book.specs.Table.{closed}
-use Rattle.chase.specs.declared.Answer.the-variants.{NoneNear, Near}
-use Rattle.chase.specs.declared.Found.{Found}
-use Rattle.chase.specs.Nearest.{Nearest}
+use Rattle.answers.specs.declared.Answer.the-variants.{NoneNear, Near}
+use Rattle.answers.specs.declared.Found.{Found}
+use Rattle.answers.specs.Nearest.{Nearest}
 
 pub tests-le : (k : ℕ) (ts : List (List ℕ)) → testsNear k ts ≤ length ts
 tests-le k [] = omega (arith, tests-nil k)

@@ -14,7 +14,7 @@ use native.Mathlib.Omega.{arith}
 use lib.Dec.{leb}
 use lib.ListN.{length, take, length-take}
 use borrow.Author.Tests.{leb-true}
-use Rattle.refusals.specs.Refusal.{accepted, unknownRate, wrongDoubt}
+use Rattle.refusals.specs.Refusal.{accepted}
 use Rattle.lists.specs.Distinct.{below, below-cons, and-left, and-right}
 use Rattle.code.specs.Encoding.{knownRate}
 use Rattle.code.specs.Rates.{known-bounds}
@@ -23,7 +23,7 @@ use Rattle.book.specs.Opening.{risingFrom, rising, fitPlaces, fitDoubt}
 use Rattle.session.specs.declared.Opened.{Opened}
 use Rattle.session.specs.Calls.{refusedWith, openedOf}
 use Rattle.session.specs.Laws.{opened-rate, opened-list, opened-new}
-use Rattle.chase.specs.Nearest.{Asked}
+use Rattle.chase.specs.Call.{Asked}
 
 pub rate-small : (k : ℕ) → knownRate k ≡ true → k ≤ 49
 rate-small k known = known-bounds k known .1

@@ -17,7 +17,7 @@ use Rattle.code.specs.Encoding.{knownRate}
 use Rattle.book.specs.Opening.{fitDoubt}
 use Rattle.book.specs.Closing.{reportLength, Closed, decodeOf}
 use Rattle.book.specs.Table.{tableLength, tableColumns, pickedOf, tableOf, table-decoded, picked-length, picked-fit}
-use Rattle.chase.specs.Nearest.{Asked}
+use Rattle.chase.specs.Call.{Asked}
 use Rattle.closing.proofs.Asked.{asked-fit}
 
 module _ (table : List ℕ) (doubt : ℕ) (few : doubt ≤ mostDoubt) {costs doubtful : List ℕ} (c : costs ≡ costsFrom (places * symbols) table)

@@ -1,5 +1,7 @@
 // The two calls that decode: closing a session, and table decoding. Each checks its arguments in document 01's order and then decodes.
 // The search is `chase`'s; nothing here knows how it goes.
+use columns::costs::PLACES;
+use doubt::MOST_DOUBT;
 use lists::copy;
 use refusals::ACCEPTED;
 use refusals::NONE_NEAR;
@@ -8,8 +10,6 @@ use refusals::UNKNOWN_RATE;
 use refusals::WRONG_DOUBT;
 use refusals::WRONG_SIZE;
 use session::Session;
-use columns::costs::PLACES;
-use doubt::MOST_DOUBT;
 use totals::report::REPORT_BYTES;
 ghost use mathlib.Core.Path.{_≡_};
 ghost use lib.ListN.{take};
@@ -35,7 +35,7 @@ fn decode(
 {
     let found = chase::nearest(rate, costs, doubtful, doubt);
     let answer = found.answer;
-    let chase::Answer::Near { total } = answer else {
+    let answers::Answer::Near { total } = answer else {
         return NONE_NEAR;
     };
     let best = found.message;

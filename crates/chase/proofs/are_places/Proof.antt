@@ -5,8 +5,7 @@ use Prim.Native.Nat.{_-_, _<_, _≤_}
 use native.Mathlib.Omega.{arith}
 use lib.ListN.{length, take}
 use Rattle.lists.specs.Distinct.{below, distinct}
-use Rattle.chase.specs.Nearest.{arePlaces}
-use Rattle.chase.specs.Searching.{Flagged}
+use Rattle.chase.specs.Places.{arePlaces, Flagged}
 use Rattle.chase.proofs.Settling.{flag-start}
 use Rattle.chase.proofs.Asking.{places-turn, places-above, places-again}
 use borrow.Author.Needs.{needs}

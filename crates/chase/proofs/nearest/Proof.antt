@@ -2,9 +2,9 @@
 use mathlib.Core.Path.{sym, _∙_}
 use mathlib.Core.Logic.{inl, inr}
 use borrow.Author.Tests.{not-true, not-false}
-use Rattle.chase.specs.Nearest.{Asked}
-use Rattle.chase.proofs.Governing.{sound-none}
-use Rattle.chase.proofs.Descending.{limit-is}
+use Rattle.chase.specs.Call.{Asked}
+use Rattle.answers.specs.Answered.{sound-none}
+use Rattle.candidate.specs.Ranged.{limit-is}
 use Rattle.chase.proofs.Settling.{known-range, root}
 use Rattle.chase.proofs.Asking.{asked-yes, unasked, unasked-rate, unasked-doubt, unasked-test}
 use borrow.Author.Needs.{needs}

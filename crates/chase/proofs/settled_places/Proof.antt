@@ -4,7 +4,7 @@ use Prim.Native.Nat.{_≤_, _-_, _<_}
 use native.Mathlib.Omega.{arith}
 use lib.ListN.{length, take}
 use Rattle.near.specs.Tree.{Places}
-use Rattle.chase.specs.Searching.{Flagged}
+use Rattle.chase.specs.Places.{Flagged}
 use Rattle.chase.proofs.Settling.{flag-start, flag-turn, place-small}
 use borrow.Author.Needs.{needs}
 use Rattle.chase.proofs.settled_places.Statement.{statement}

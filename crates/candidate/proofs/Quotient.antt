@@ -1,0 +1,87 @@
+-- The message by division is the only one whose codeword can be within T of a word that the row holds.
+use mathlib.Core.Path.{_≡_, sym, ap, ap₂, _∙_, subst, subst₂, fun-ext}
+use mathlib.Core.List.{List}
+use Prim.Native.Nat.{ℕ, suc, _+_, _<_, _≤_}
+use native.Mathlib.Nat.{mod-eq-of-lt, zero-add}
+use native.Mathlib.Decide.{decLt}
+use native.Mathlib.Omega.{arith}
+use lib.ListN.{length, getD, take, List·getD-eq-default}
+use Rattle.lists.specs.Listed.{listed, listed-ext}
+use Rattle.lists.specs.Words.{Word, allBelow-at}
+use Rattle.lists.specs.Answers.{Found}
+use Rattle.algebra.specs.Field.{Field}
+use Rattle.algebra.specs.Coefficients.{choose, Lead, lead-below}
+use Rattle.galois.specs.Field16.{K16, value, value-toF}
+use Rattle.hermitian.specs.Present.{genus}
+use Rattle.hermitian.specs.Interpolant.{withoutZ, withZ}
+use Rattle.hermitian.specs.Division.{quotient}
+use Rattle.hermitian.specs.Orders.{orderOf}
+use Rattle.rows.specs.Rows.{coef, coef-at}
+use Rattle.division.specs.Parts.{plainAt, zAt, cut, zPart, coef-plain, coef-z}
+use Rattle.division.specs.Dividing.{Divided}
+use Rattle.interpolation.specs.Polynomial.{part, polynomial, polynomial-plain, polynomial-z}
+use Rattle.code.specs.Encoding.{encodeOf}
+use Rattle.near.specs.Near.{mOf, reachOf, nearTo}
+use Rattle.near.specs.Reach.{Workable, radius, genus-4}
+use Rattle.near.specs.Codeword.{symbolFrom, messageFrom, messageFrom-word}
+use Rattle.near.specs.Interpolated.{held-small, near-lead, near-divides}
+use Rattle.candidate.specs.declared.Candidate.{Candidate}
+use Rattle.candidate.specs.Candidate.{symbolIn, Held, CandidateOf}
+use Rattle.candidate.specs.Ranged.{Ranged, workable}
+open Field K16 using (𝟘)
+
+-- what the arrays hold, in the interpolation's terms
+plain-is : (row : List ℕ) (M : ℕ) → coef (listed 64 (plainAt row)) ≡ withoutZ K16 (polynomial M (coef row))
+unfolding cut part
+plain-is row M =
+    coef-plain row ∙ sym (polynomial-plain M (coef row) ∙ fun-ext (λ o. ap (λ i. choose (decLt o 64) (coef row i) 𝟘) (zero-add o)))
+
+z-is : (row : List ℕ) (M : ℕ) → coef (listed 64 (zAt row)) ≡ withZ K16 M (polynomial M (coef row))
+unfolding zPart part
+z-is row M = coef-z row ∙ sym (polynomial-z M (coef row))
+
+module _ {k : ℕ} (rate : Ranged k) (row function : List ℕ) (divided : Divided (listed 64 (plainAt row)) (listed 64 (zAt row)) (k + 5) function) where
+  candidate-is : listed k (symbolIn function) ≡ messageFrom k (coef function)
+  unfolding messageFrom symbolFrom symbolIn
+  candidate-is =
+      listed-ext k (symbolIn function) (symbolFrom (coef function))
+      (λ t h. sym (ap value (coef-at function (orderOf 4 t)) ∙ value-toF (getD function (orderOf 4 t) 0) ∙ mod-eq-of-lt (below (orderOf 4 t))))
+    where
+      below : (o : ℕ) → getD function o 0 < 16
+      below o = go (decLt o (length function))
+        where
+          go : Dec (o < length function) → getD function o 0 < 16
+          go (yes h) = allBelow-at 16 function (divided .symbols) o h
+          go (no h) = let b : length function ≤ o = omega arith in omega (arith, List·getD-eq-default function 0 b)
+
+  candidate-word : Word 16 k (listed k (symbolIn function))
+  candidate-word = subst (Word 16 k) (sym candidate-is) (messageFrom-word k (coef function))
+
+  only : (word : List ℕ) → Held k word row → (m : List ℕ) → Found 16 k (nearTo k word) m → listed k (symbolIn function) ≡ m
+  unfolding mOf
+  only word h m f =
+      let w : Workable k = workable rate in
+      let j = near-lead word w (h .through) (h .leads) (h .unspent) m (f .passed) in
+      let b : j .0 < suc (reachOf k + genus 4) = lead-below K16 (j .1) (held-small k (h .through .member) (h .leads) (h .unspent) .order-withZ) in
+      candidate-is
+      ∙ ap (messageFrom k)
+      (divided .exact (j .0)
+      (record {
+        leads = subst (λ g. Lead K16 g (j .0)) (sym (z-is row (mOf k))) (j .1);
+        powers-fit = omega (arith, b, radius w, genus-4, rate .least);
+        terms-fit = omega (arith, b, radius w, genus-4);
+      })
+      ∙ ap₂ (λ r q. quotient K16 4 (j .0) r (k + 5) q) (z-is row (mOf k)) (plain-is row (mOf k)))
+      ∙ near-divides word w (h .through) (h .leads) (h .unspent) m (j .1) f
+
+-- from the steps of the code
+pub candidate-made : {k : ℕ} → Ranged k → (row function q0 q1 : List ℕ) (r : Candidate) → q0 ≡ listed 64 (plainAt row) → q1 ≡ listed 64 (zAt row)
+    → Divided q0 q1 (k + 5) function → take k (r .message) ≡ listed k (symbolIn function) → r .codeword ≡ encodeOf k (take k (r .message))
+    → CandidateOf k row r
+candidate-made {k} rate row function q0 q1 r q0-is q1-is quotient-is m-is encoded =
+    let divided = subst₂ (λ p q. Divided p q (k + 5) function) q0-is q1-is quotient-is in
+    record {
+      word = subst (Word 16 k) (sym m-is) (candidate-word rate row function divided);
+      encoded = encoded;
+      only = λ word h m f. sym (only rate row function divided word h m f) ∙ sym m-is;
+    }

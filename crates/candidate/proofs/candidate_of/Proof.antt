@@ -1,0 +1,40 @@
+-- The message by division, and its codeword.
+use Rattle.candidate.proofs.Quotient.{candidate-made}
+use borrow.Author.Needs.{needs}
+use Rattle.candidate.proofs.candidate_of.Statement.{statement}
+use Rattle.candidate.proofs.candidate_of.Tie as tie
+
+without-z-requires : tie.Need-without-z-requires
+without-z-requires c κs = search needs
+
+with-z-requires : tie.Need-with-z-requires
+with-z-requires c κs = search needs
+
+add-divide : tie.Need-add-divide
+add-divide c = search needs
+
+divide-requires : tie.Need-divide-requires
+divide-requires c κs = search needs
+
+message-of-requires : tie.Need-message-of-requires
+message-of-requires c κs = search needs
+
+encoded-requires : tie.Need-encoded-requires
+encoded-requires c κs = search needs
+
+returns : tie.Need-returns
+returns c =
+    candidate-made (c .before .before .before .before .before .pre) _ _ _ _ _ (c .before .before .before .before .without-z .ensures)
+    (c .before .before .before .with-z .ensures) (c .before .before .divide .ensures) (c .before .message-of .ensures) (c .encoded .ensures)
+
+pub candidate-of-spec : {M : Type 1} → statement M
+candidate-of-spec =
+    tie.close
+    (tie.spec
+    without-z-requires
+    with-z-requires
+    add-divide
+    divide-requires
+    message-of-requires
+    encoded-requires
+    returns)

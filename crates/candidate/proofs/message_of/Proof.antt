@@ -1,0 +1,58 @@
+-- Each symbol passed is that of its order.
+use mathlib.Core.Path.{_≡_}
+use Prim.Native.Nat.{_≤_, _-_}
+use native.Mathlib.Omega.{arith}
+use lib.ListN.{replicate}
+use Rattle.lists.specs.Filled.{Filled, filled-start, filled-turn}
+use Rattle.candidate.specs.Candidate.{symbolIn}
+use Rattle.candidate.proofs.Message.{order-fits, symbol-at, message-end}
+use borrow.Author.Needs.{needs}
+use Rattle.candidate.proofs.message_of.Statement.{statement}
+use Rattle.candidate.proofs.message_of.Tie as tie
+
+abbrev Inv-loop : tie.InvT-loop
+Inv-loop k function out₀ t₀ out t = (t ≤ k) × Filled (replicate 49 0) (symbolIn function) t out
+
+abbrev μ-loop : tie.MeasureT-loop
+μ-loop k function out₀ t₀ out t = k - t
+
+loop-holds : tie.Need-loop-holds Inv-loop μ-loop
+loop-holds c = (search needs, filled-start _ _)
+
+order-requires : tie.Need-order-requires Inv-loop μ-loop
+order-requires c κs = search needs
+
+array-read-out : tie.Need-array-read-out Inv-loop μ-loop
+array-read-out c = order-fits _ (c .order .ensures)
+
+array-write-out : tie.Need-array-write-out Inv-loop μ-loop
+array-write-out c = search needs
+
+add-t : tie.Need-add-t Inv-loop μ-loop
+add-t c = search needs
+
+loop-less : tie.Need-loop-less Inv-loop μ-loop
+loop-less c = search needs
+
+loop-again : tie.Need-loop-again Inv-loop μ-loop
+loop-again c = (search needs, filled-turn 0 (c .before .before .loop .inv .1) _ (search needs) (symbol-at _ _ (search needs) (c .order .ensures)))
+
+returns : tie.Need-returns Inv-loop μ-loop
+returns c =
+    let e : c .before .loop .t ≡ c .before .before .args .k = omega arith in
+    message-end _ _ _ _ _ e (c .before .loop .inv .1)
+
+pub message-of-spec : {M : Type 1} → statement M
+message-of-spec =
+    tie.close
+    (tie.spec
+    Inv-loop
+    μ-loop
+    loop-holds
+    order-requires
+    array-read-out
+    array-write-out
+    add-t
+    loop-less
+    loop-again
+    returns)

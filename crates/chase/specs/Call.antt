@@ -1,0 +1,36 @@
+-- What the search for the nearest codeword answers.
+--
+--   Asked rate costs doubtful doubt    a known rate, 1,024 costs, and at most 8 doubtful places, different and below 64
+--   askedOf rate costs doubtful doubt  the test of Asked
+--   NearestCall rate costs doubtful doubt f   the nearest codeword by the costs and the doubtful places, where it may be asked for, and nothing
+--                                      where not; with the message its codeword
+use mathlib.Core.Bool.{Bool, true, _&&_}
+use mathlib.Core.Path.{_≡_}
+use mathlib.Core.List.{List}
+use Prim.Native.Nat.{ℕ, _≤_}
+use lib.Dec.{eqb, leb}
+use lib.ListN.{length, take}
+use Rattle.code.specs.Encoding.{encodeOf, knownRate}
+use Rattle.soft.specs.Column.{columnOf}
+use Rattle.soft.specs.TestWord.{testWords}
+use Rattle.near.specs.Tree.{Places}
+use Rattle.answers.specs.declared.Answer.the-variants.{NoneNear, Near}
+use Rattle.answers.specs.Nearest.{Nearest}
+use Rattle.answers.specs.declared.Found.{Found}
+use Rattle.chase.specs.Places.{arePlaces}
+
+pub record Asked (rate : ℕ) (costs doubtful : List ℕ) (doubt : ℕ) : Type 0 where
+  pub known : knownRate rate ≡ true
+  pub size : length costs ≡ 1024
+  pub few : doubt ≤ 8
+  pub places : Places (take doubt doubtful)
+
+unfoldable pub askedOf : ℕ → List ℕ → List ℕ → ℕ → Bool
+askedOf rate costs doubtful doubt =
+    knownRate rate && (eqb (length costs) 1024 && (leb doubt 8 && arePlaces (take doubt doubtful)))
+
+pub record NearestCall (rate : ℕ) (costs doubtful : List ℕ) (doubt : ℕ) (f : Found) : Type 0 where
+  pub asked : Asked rate costs doubtful doubt
+      → Nearest rate (columnOf 16 costs) (testWords 64 (columnOf 16 costs) (take doubt doubtful)) f
+  pub refused : ¬ Asked rate costs doubtful doubt → (f .answer ≡ NoneNear) × (f .tests ≡ 0)
+  pub encoded : (t : ℕ) → f .answer ≡ Near t → f .codeword ≡ encodeOf rate (take rate (f .message))

@@ -1,0 +1,95 @@
+-- The steps of the functions: a word filled, the test of a known codeword, what later branches know, and test words counted.
+use mathlib.Core.Bool.{false}
+use mathlib.Core.Path.{_≡_, sym, ap, ap₂, _∙_, subst}
+use mathlib.Core.List.{List, []}
+use Prim.Native.Nat.{ℕ, _+_, _-_, _/_, _%_, _^_, _<_, _≤_}
+use native.Mathlib.Omega.{arith}
+use lib.Dec.{leb, ltb}
+use lib.ListN.{length, getD, take, drop, set, length-take, length-drop}
+use borrow.Author.Tests.{le-leb, lt-leb}
+use Rattle.lists.specs.Count.{bit, bit-le}
+use Rattle.soft.specs.Total.{differing}
+use Rattle.soft.specs.TestWord.{bestAt, secondAt, expand}
+use Rattle.soft.specs.TestWordLaws.{expand-nil, expand-cons}
+use Rattle.near.specs.Near.{mOf, reachOf}
+use Rattle.near.specs.Tree.{Places}
+use Rattle.answers.specs.declared.Answer.the-variants.{NoneNear, Near}
+use Rattle.answers.specs.declared.Found.{Found}
+use Rattle.candidate.specs.Ranged.{Ranged, reach-is}
+use Rattle.known.specs.Left.{left-cons, left-none, places-rest, split-places, twice}
+use Rattle.known.specs.Known.{isNear, laterOf, filledOf, governsOf, testsWithin, WithinOf}
+use Rattle.known.specs.Governing.{within-nil, within-cons, within-append}
+
+pub rest-length : (doubtful : List ℕ) (doubt left : ℕ) → length doubtful ≡ 8 → doubt ≤ 8 → left ≤ doubt → length (drop (doubt - left) (take doubt doubtful)) ≡ left
+rest-length doubtful doubt left eight few within = omega (arith, length-drop (doubt - left) (take doubt doubtful), length-take doubt doubtful)
+
+-- a loop that writes one place after the other
+module _ (c doubtful out : List ℕ) (doubt i : ℕ) where
+  pub filled-turn : length doubtful ≡ 8 → doubt ≤ 8 → i < doubt
+      → filledOf c out (drop i (take doubt doubtful))
+      ≡ filledOf c (set out (getD doubtful i 0 % 64) (getD c (getD doubtful i 0 % 64) 0)) (drop (i + 1) (take doubt doubtful))
+  unfolding filledOf
+  filled-turn eight few h = ap (filledOf c out) (left-cons doubtful doubt i eight few h)
+
+  pub filled-end : doubt ≤ i → filledOf c out (drop i (take doubt doubtful)) ≡ out
+  unfolding filledOf
+  filled-end h = ap (filledOf c out) (left-none doubtful doubt i h)
+
+module _ (k : ℕ) (known : Found) (word ps : List ℕ) where
+  pub governs-none : known .answer ≡ NoneNear → false ≡ governsOf k known word ps
+  unfolding governsOf isNear
+  governs-none e = sym (rw e)
+
+  pub governs-some : Ranged k → (t left d : ℕ) (agreed : List ℕ) → known .answer ≡ Near t → length ps ≡ left → agreed ≡ filledOf (known .codeword) word ps
+      → d ≡ differing 64 (known .codeword) agreed → ltb (d + left + (52 - k) / 2) (59 - k) ≡ governsOf k known word ps
+  unfolding governsOf isNear mOf
+  governs-some rate t left d agreed near size agreed-is d-is =
+      let m : 59 - k ≡ 64 - (k + 5) = omega arith in
+      rw (near, d-is, agreed-is, sym size, reach-is rate, m)
+
+module _ (first known : Found) where
+  pub later-none : first .answer ≡ NoneNear → known ≡ laterOf first known
+  unfolding laterOf isNear
+  later-none e = sym (rw e)
+
+  pub later-some : (t : ℕ) → first .answer ≡ Near t → first ≡ laterOf first known
+  unfolding laterOf isNear
+  later-some t e = sym (rw e)
+
+-- one word, by the distance that is measured
+module _ {k : ℕ} (rate : Ranged k) (c word : List ℕ) (d : ℕ) (d-is : d ≡ differing 64 c word) where
+  pub within-yes : d ≤ (52 - k) / 2 → 1 ≡ bit (leb (differing 64 c word) (reachOf k))
+  within-yes h = sym (ap bit (le-leb (differing 64 c word) (reachOf k) (omega (arith, reach-is rate))))
+
+  pub within-no : (52 - k) / 2 < d → 0 ≡ bit (leb (differing 64 c word) (reachOf k))
+  within-no h = sym (ap bit (lt-leb (differing 64 c word) (reachOf k) (omega (arith, reach-is rate))))
+
+-- where no place is left
+pub within-end : (k : ℕ) (columns : ℕ → List ℕ) (c word ps : List ℕ) (left n : ℕ) → left ≡ 0 → ps ≡ [] → n ≡ bit (leb (differing 64 c word) (reachOf k))
+    → WithinOf k columns c word ps left n
+within-end k columns c word ps left n none-left end n-is =
+    record {
+      few = subst (λ l. n ≤ 2 ^ l) (sym none-left) (subst (λ m. m ≤ 1) (sym n-is) (bit-le (leb (differing 64 c word) (reachOf k))));
+      counts = λ P. n-is ∙ sym (ap (λ q. testsWithin k c (expand columns word q)) end ∙ ap (testsWithin k c) (expand-nil columns word) ∙ within-cons k c word [] ∙ omega (arith, within-nil k c));
+    }
+
+-- both branches of a place
+module _ (doubtful : List ℕ) (doubt left : ℕ) (eight : length doubtful ≡ 8) (few : doubt ≤ 8) (within : left ≤ doubt) (some-left : 0 < left) where
+  abbrev rest : List ℕ
+  rest = drop (doubt - (left - 1)) (take doubt doubtful)
+
+  pub within-node : (k : ℕ) (columns : ℕ → List ℕ) (word : List ℕ) (place : ℕ) → place ≡ getD doubtful (doubt - left) 0 % 64 → (s o : ℕ) → s ≡ bestAt columns place
+      → o ≡ secondAt columns place → (c : List ℕ) (a b : ℕ) → WithinOf k columns c (set word place s) rest (left - 1) a
+      → WithinOf k columns c (set word place o) rest (left - 1) b → WithinOf k columns c word (drop (doubt - left) (take doubt doubtful)) left (a + b)
+  within-node k columns word place place-is s o s-is o-is c a b A B =
+      record {
+        few = omega (arith, A .few, B .few, twice left some-left);
+        counts = λ P.
+            let q = split-places doubtful doubt left eight few within some-left place place-is P in
+            let P′ : Places rest = places-rest (subst Places q P) in
+            ap₂ (λ m n. m + n) (A .counts P′) (B .counts P′)
+            ∙ ap₂ (λ y z. testsWithin k c (expand columns (set word place y) rest) + testsWithin k c (expand columns (set word place z) rest)) s-is o-is
+            ∙ sym
+            (ap (λ ps. testsWithin k c (expand columns word ps)) q
+            ∙ ap (testsWithin k c) (expand-cons columns word place rest) ∙ within-append k c _ _);
+      }

@@ -1,0 +1,71 @@
+-- The loop's invariant: the word so far, filled at the places still to come, is the whole word filled.
+use mathlib.Core.Path.{_≡_, refl, sym, _∙_}
+use Prim.Native.Nat.{_-_, _<_, _≤_}
+use lib.ListN.{length, take, drop}
+use Rattle.known.specs.Known.{filledOf}
+use Rattle.known.proofs.Counting.{filled-turn, filled-end}
+use borrow.Author.Needs.{needs}
+use Rattle.known.proofs.filled.Statement.{statement}
+use Rattle.known.proofs.filled.Tie as tie
+
+abbrev Inv-loop : tie.InvT-loop
+Inv-loop doubt left codeword doubtful out₀ i₀ out i =
+    (length doubtful ≡ 8) × (length out ≡ 64)
+    × (filledOf codeword out₀ (drop (doubt - left) (take doubt doubtful)) ≡ filledOf codeword out (drop i (take doubt doubtful)))
+
+abbrev μ-loop : tie.MeasureT-loop
+μ-loop doubt left codeword doubtful out₀ i₀ out i = doubt - i
+
+sub-i : tie.Need-sub-i Inv-loop μ-loop
+sub-i c = search needs
+
+loop-holds : tie.Need-loop-holds Inv-loop μ-loop
+loop-holds c = (search needs, search needs, refl)
+
+array-read-place : tie.Need-array-read-place Inv-loop μ-loop
+array-read-place c = search needs
+
+cast-place : tie.Need-cast-place Inv-loop μ-loop
+cast-place c = search needs
+
+array-read-out : tie.Need-array-read-out Inv-loop μ-loop
+array-read-out c = search needs
+
+array-write-out : tie.Need-array-write-out Inv-loop μ-loop
+array-write-out c = search needs
+
+add-i : tie.Need-add-i Inv-loop μ-loop
+add-i c = search needs
+
+loop-less : tie.Need-loop-less Inv-loop μ-loop
+loop-less c = search needs
+
+loop-again : tie.Need-loop-again Inv-loop μ-loop
+loop-again c =
+    let i = c .before .loop .inv in
+    let h : c .before .before .args .doubt ≤ 8 = search needs in
+    let b : c .before .loop .i < c .before .before .args .doubt = search needs in
+    (i .0, search needs, i .2 ∙ filled-turn _ _ _ _ _ (i .0) h b)
+
+returns : tie.Need-returns Inv-loop μ-loop
+returns c =
+    let i = c .before .loop .inv in
+    let h : c .before .before .args .doubt ≤ c .before .loop .i = search needs in
+    sym (i .2 ∙ filled-end _ _ _ _ _ h)
+
+pub filled-spec : {M : Type 1} → statement M
+filled-spec =
+    tie.close
+    (tie.spec
+    Inv-loop
+    μ-loop
+    sub-i
+    loop-holds
+    array-read-place
+    cast-place
+    array-read-out
+    array-write-out
+    add-i
+    loop-less
+    loop-again
+    returns)

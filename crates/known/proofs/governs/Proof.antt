@@ -1,0 +1,66 @@
+-- The two cases of the known answer.
+use mathlib.Core.Path.{_≡_, sym, subst}
+use Prim.Native.Nat.{_≤_}
+use lib.ListN.{length}
+use Rattle.soft.specs.TotalLaws.{differing-le}
+use Rattle.known.proofs.Counting.{governs-none, governs-some, rest-length}
+use borrow.Author.Needs.{needs}
+use Rattle.known.proofs.governs.Statement.{statement}
+use Rattle.known.proofs.governs.Tie as tie
+
+enum-told : tie.Need-enum-told
+enum-told c = search needs
+
+returns : tie.Need-returns
+returns c = governs-none _ _ _ _ (c .enum-told .given .1)
+
+enum-told-2 : tie.Need-enum-told-2
+enum-told-2 c = search needs
+
+filled-requires : tie.Need-filled-requires
+filled-requires c κs = search needs
+
+distance-requires : tie.Need-distance-requires
+distance-requires c κs = search needs
+
+-- a distance is at most 64
+measured : (c : tie.After-distance) → c .distance .result ≤ 64
+measured c = subst (λ n. n ≤ 64) (sym (c .distance .ensures)) (differing-le 64 _ _)
+
+add-result : tie.Need-add-result
+add-result c =
+    let d = measured c in
+    search needs
+
+sub-result : tie.Need-sub-result
+sub-result c = search needs
+
+add-result-2 : tie.Need-add-result-2
+add-result-2 c =
+    let d = measured c in
+    search needs
+
+sub-result-2 : tie.Need-sub-result-2
+sub-result-2 c = search needs
+
+returns-2 : tie.Need-returns-2
+returns-2 c =
+    let l : length (c .before .before .before .before .before .args .doubtful) ≡ 8 = search needs in
+    let h = c .before .before .before .before .before .pre in
+    let g = c .before .before .before .enum-told2 .given in
+    governs-some _ _ _ _ (h .0) _ _ _ _ (g .1) (rest-length _ _ _ l (h .1) (h .2)) (c .before .filled .ensures) (c .distance .ensures)
+
+pub governs-spec : {M : Type 1} → statement M
+governs-spec =
+    tie.close
+    (tie.spec
+    enum-told
+    returns
+    enum-told-2
+    filled-requires
+    distance-requires
+    add-result
+    sub-result
+    add-result-2
+    sub-result-2
+    returns-2)

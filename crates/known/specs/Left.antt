@@ -1,0 +1,73 @@
+-- The doubtful places left at a node, from one of them on: `drop (doubt - left) (take doubt doubtful)`, in an array of eight.
+--
+--   left-cons, left-none     the next place and the others; and none
+--   none-left, some-left     where the number of those left is 0, and where it is not
+--   places-rest              the others are places too
+--   split-places             the places left are the one that is decided next, and the rest
+--   twice                    a node has twice the test words of a branch
+--   tests-fit                two branches' counts fit 16 bits together
+use mathlib.Core.Path.{_≡_, sym, ap, ap₂, _∙_, subst}
+use mathlib.Core.List.{List, [], _∷_}
+use Prim.Native.Nat.{ℕ, suc, _+_, _-_, _%_, _^_, _<_, _≤_}
+use native.Mathlib.Nat.{mod-eq-of-lt, pow-suc}
+use native.Mathlib.Numerals.{add-one}
+use native.Mathlib.Omega.{arith}
+use lib.Dec.{T, leb, leb→le}
+use lib.ListN.{length, getD, take, drop, length-take, drop-of-length-le}
+use lib.Seq.{drop-cons, getD-take}
+use Rattle.lists.specs.Every.{every, every-at}
+use Rattle.near.specs.Tree.{Places, places-cons}
+
+module _ (doubtful : List ℕ) (doubt i : ℕ) where
+  pub left-cons : length doubtful ≡ 8 → doubt ≤ 8 → i < doubt → drop i (take doubt doubtful) ≡ getD doubtful i 0 ∷ drop (i + 1) (take doubt doubtful)
+  left-cons eight few h =
+      drop-cons (take doubt doubtful) i 0 (omega (arith, length-take doubt doubtful))
+      ∙ ap₂ (λ a m. a ∷ drop m (take doubt doubtful)) (getD-take doubt doubtful i 0 h) (sym (add-one i))
+
+  pub left-none : doubt ≤ i → drop i (take doubt doubtful) ≡ []
+  left-none h =
+      let b : length (take doubt doubtful) ≤ i = omega (arith, length-take doubt doubtful) in
+      drop-of-length-le (take doubt doubtful) b
+
+pub none-left : (doubt left : ℕ) (doubtful : List ℕ) → left ≡ 0 → drop (doubt - left) (take doubt doubtful) ≡ []
+none-left doubt left doubtful e = left-none doubtful doubt (doubt - left) (omega arith)
+
+pub some-left : (left : ℕ) → (left ≡ 0 → ⊥) → 0 < left
+some-left left h = omega arith
+
+pub places-rest : {p : ℕ} {ps : List ℕ} → Places (p ∷ ps) → Places ps
+places-rest (places-cons h fresh P) = P
+
+module _ (doubtful : List ℕ) (doubt left : ℕ) (eight : length doubtful ≡ 8) (few : doubt ≤ 8) (within : left ≤ doubt) (some-left : 0 < left) where
+  abbrev x : ℕ
+  x = getD doubtful (doubt - left) 0
+
+  abbrev rest : List ℕ
+  rest = drop (doubt - (left - 1)) (take doubt doubtful)
+
+  next-place : drop (doubt - left) (take doubt doubtful) ≡ x ∷ rest
+  next-place =
+      let n : doubt - left + 1 ≡ doubt - (left - 1) = omega arith in
+      left-cons doubtful doubt (doubt - left) eight few (omega arith) ∙ ap (λ m. x ∷ drop m (take doubt doubtful)) n
+
+  same-place : (place : ℕ) → place ≡ x % 64 → Places (x ∷ rest) → place ≡ x
+  same-place place place-is (places-cons h fresh P) = place-is ∙ mod-eq-of-lt h
+
+  pub split-places : (place : ℕ) → place ≡ x % 64 → Places (drop (doubt - left) (take doubt doubtful)) → drop (doubt - left) (take doubt doubtful) ≡ place ∷ rest
+  split-places place place-is P = next-place ∙ ap (λ y. y ∷ rest) (sym (same-place place place-is (subst Places next-place P)))
+
+pub twice : (left : ℕ) → 0 < left → 2 ^ left ≡ 2 ^ (left - 1) + 2 ^ (left - 1)
+twice left h =
+    let n : left ≡ suc (left - 1) = omega arith in
+    omega (arith, ap (λ m. 2 ^ m) n, pow-suc 2 (left - 1))
+
+-- a tree of at most eight places has few test words
+power-few : (n : ℕ) → n < 9 → 2 ^ n ≤ 256
+unfolding every
+power-few n h = leb→le (2 ^ n) 256 (every-at 9 (λ m. leb (2 ^ m) 256) (few-all) n h)
+  where
+    few-all : T (every 9 (λ m. leb (2 ^ m) 256))
+    few-all = tt
+
+pub tests-fit : (a b n : ℕ) → n < 9 → a ≤ 2 ^ n → b ≤ 2 ^ n → a + b ≤ 65535
+tests-fit a b n h p q = omega (arith, power-few n h)

@@ -1,0 +1,129 @@
+-- A node of the tree: spent, a leaf, or two branches.
+use mathlib.Core.Bool.{Bool, true}
+use mathlib.Core.Path.{_≡_, sym, ap₂, _∙_, subst}
+use mathlib.Core.List.{List, [], _∷_, _++_}
+use Prim.Native.Nat.{ℕ, _+_, _-_, _%_, _^_, _<_, _≤_}
+use native.Mathlib.Nat.{eq-or-lt-of-le, le-of-suc-le-suc, le-trans}
+use mathlib.Core.Logic.{⊎-elim}
+use native.Mathlib.Numerals.{add-one}
+use native.Mathlib.Omega.{arith}
+use lib.ListN.{length, getD, take, drop, set, length-set}
+use Rattle.algebra.specs.Koetter.{Basis}
+use Rattle.galois.specs.Field16.{K16}
+use Rattle.basis.specs.Choice.{leadAt}
+use Rattle.basis.specs.Step.{rowAt}
+use Rattle.interpolation.specs.Polynomial.{polynomials}
+use Rattle.interpolation.specs.Extending.{Extends}
+use Rattle.code.specs.Nodes.{node, ThroughNodes}
+use Rattle.soft.specs.TestWord.{bestAt, secondAt, expand}
+use Rattle.soft.specs.TestWordLaws.{expand-nil, expand-cons}
+use Rattle.near.specs.Near.{mOf}
+use Rattle.near.specs.Interpolated.{limitOf}
+use Rattle.near.specs.Tree.{Places, places-cons, Decided, decided-step, decided-through, tree-spent}
+use Rattle.answers.specs.declared.Answer.the-variants.{NoneNear}
+use Rattle.answers.specs.declared.Found.{Found}
+use Rattle.answers.specs.Nearest.{Nearest, nearest-none}
+use Rattle.tree.specs.Searching.{Lowest, Ready, LeafOf, SearchOf, BranchOf}
+use Rattle.candidate.specs.Ranged.{Ranged, workable}
+use Rattle.answers.specs.Answered.{BetterOf, Sound}
+use Rattle.known.specs.Known.{governsOf, WithinOf, BelowOf}
+use Rattle.known.specs.Left.{places-rest, split-places, twice}
+use Rattle.known.specs.Governing.{governs-all, below-tests, governed-nearest}
+
+-- the class of least lead, one more class
+pub lowest-turn : (leads : List ℕ) (q r p : ℕ) → p < 8 → leadAt leads p ≤ leadAt leads r → leadAt leads p ≤ leadAt leads q → Lowest leads q r
+    → Lowest leads (q + 1) p
+lowest-turn leads q r p h a b l =
+    record {
+      within = h;
+      lowest = λ i j.
+          ⊎-elim (λ (e : i ≡ q). subst (λ x. leadAt leads p ≤ leadAt leads x) (sym e) b) (λ s. le-trans a (l .lowest i s))
+          (eq-or-lt-of-le (le-of-suc-le-suc (subst (λ n. i < n) (add-one q) j)));
+    }
+
+-- a node that is spent, and a leaf
+module _ {k : ℕ} (rate : Ranged k) (columns : ℕ → List ℕ) (word ps : List ℕ) (rows : List (List ℕ)) (leads : List ℕ) (left : ℕ) (L : ℕ)
+    (L-is : L ≡ limitOf k) (class : ℕ) (low : Lowest leads 8 class) where
+  pub node-spent : (f : Found) → f .answer ≡ NoneNear → f .tests ≡ 0 → L < leadAt leads class → SearchOf k columns word ps rows leads left f
+  node-spent f e n far =
+      record {
+        few = omega arith;
+        finds = λ R P.
+            let t = tree-spent (workable rate) columns (R .decided) (R .basis) (λ r h. omega (arith, L-is, low .lowest r h)) in
+            nearest-none f e n (t .0) (t .1);
+      }
+
+  pub node-leaf : (f : Found) → left ≡ 0 → ps ≡ [] → leadAt leads class ≤ L → LeafOf k columns word (getD rows class []) f
+      → SearchOf k columns word ps rows leads left f
+  unfolding polynomials rowAt
+  node-leaf f none-left end close leaf =
+      record {
+        few = subst (λ n. f .tests ≤ 2 ^ n) (sym none-left) (leaf .few);
+        finds = λ R P.
+            let D : Decided word [] (R .nodes) = subst (λ q. Decided word q (R .nodes)) end (R .decided) in
+            let h = R .basis .held class (low .within) (omega (arith, L-is)) in
+            subst (λ q. Nearest k columns (expand columns word q) f) (sym end)
+            (subst (λ ts. Nearest k columns ts f) (sym (expand-nil columns word))
+            (leaf .finds
+            (record { lead = leadAt leads class; through = decided-through (mOf k) D .0 _ (h .member); leads = h .leads; unspent = omega (arith, L-is) })));
+      }
+
+-- one branch: the place is decided with the symbol, by a codeword that is known or by one more node
+module _ {k : ℕ} (rate : Ranged k) (columns : ℕ → List ℕ) (word : List ℕ) (place symbol : ℕ) (ps : List ℕ) (rows : List (List ℕ)) (leads : List ℕ)
+    (left : ℕ) (size : length word ≡ 64) where
+  pub branch-known : (known f : Found) (tests : ℕ) (b : Bool) → Sound k columns known → b ≡ governsOf k known (set word place symbol) ps → b ≡ true
+      → WithinOf k columns (known .codeword) (set word place symbol) ps left tests → BelowOf known tests f
+      → BranchOf k columns word place symbol ps rows leads left f
+  branch-known known f tests b sound test governs counted below =
+      record {
+        few = omega (arith, below-tests below, counted .few);
+        finds = λ R P.
+            let l : length (set word place symbol) ≡ 64 = length-set word place symbol ∙ size in
+            let g = governs-all k known (set word place symbol) ps rate l (sym test ∙ governs) (places-rest P) in
+            governed-nearest (workable rate) columns known (set word place symbol) ps l sound g f tests (counted .counts (places-rest P)) below;
+      }
+
+  module _ (L : ℕ) (L-is : L ≡ limitOf k) (rows′ : List (List ℕ)) (leads′ : List ℕ) (E : Extends L place symbol rows leads rows′ leads′) where
+    next-ready : Ready k word (place ∷ ps) rows leads → Places (place ∷ ps) → Ready k (set word place symbol) ps rows′ leads′
+    unfolding mOf
+    next-ready R (places-cons h fresh P) =
+        record {
+          nodes = node place symbol ∷ R .nodes;
+          decided = decided-step symbol size h fresh (R .decided);
+          basis =
+              subst (λ l. Basis K16 8 l (ThroughNodes (mOf k) (node place symbol ∷ R .nodes)) (polynomials (mOf k) rows′) (leadAt leads′)) L-is
+              (E .basis (mOf k) (omega (arith, rate .least)) (R .nodes)
+              (subst (λ l. Basis K16 8 l (ThroughNodes (mOf k) (R .nodes)) (polynomials (mOf k) rows) (leadAt leads)) (sym L-is) (R .basis)));
+        }
+
+    pub branch-node : (f : Found) → SearchOf k columns (set word place symbol) ps rows′ leads′ left f
+        → BranchOf k columns word place symbol ps rows leads left f
+    branch-node f S = record { few = S .few; finds = λ R P. S .finds (next-ready R P) (places-rest P) }
+
+-- two branches
+module _ (doubtful : List ℕ) (doubt left : ℕ) (eight : length doubtful ≡ 8) (few : doubt ≤ 8) (within : left ≤ doubt) (some-left : 0 < left) where
+  abbrev x : ℕ
+  x = getD doubtful (doubt - left) 0
+
+  abbrev rest : List ℕ
+  rest = drop (doubt - (left - 1)) (take doubt doubtful)
+
+  module _ (k : ℕ) (columns : ℕ → List ℕ) (word : List ℕ) (place : ℕ) (place-is : place ≡ x % 64) (s o : ℕ) (s-is : s ≡ bestAt columns place)
+      (o-is : o ≡ secondAt columns place) where
+    pub node-branch : (rows : List (List ℕ)) (leads : List ℕ) (a b r : Found) → BranchOf k columns word place s rest rows leads (left - 1) a
+        → BranchOf k columns word place o rest rows leads (left - 1) b → BetterOf k a b r
+        → SearchOf k columns word (drop (doubt - left) (take doubt doubtful)) rows leads left r
+    node-branch rows leads a b r A B J =
+        record {
+          few = omega (arith, J .sum, A .few, B .few, twice left some-left);
+          finds = λ R P.
+              let q = split-places doubtful doubt left eight few within some-left place place-is P in
+              let R′ : Ready k word (place ∷ rest) rows leads = subst (λ ps. Ready k word ps rows leads) q R in
+              let P′ : Places (place ∷ rest) = subst Places q P in
+              subst (λ ps. Nearest k columns (expand columns word ps) r) (sym q)
+              (subst (λ ts. Nearest k columns ts r)
+              (sym
+              (expand-cons columns word place rest
+              ∙ ap₂ (λ y z. expand columns (set word place y) rest ++ expand columns (set word place z) rest) (sym s-is) (sym o-is)))
+              (J .joins columns _ _ (A .finds R′ P′) (B .finds R′ P′)));
+        }

@@ -1,0 +1,47 @@
+-- The candidate is checked: within T of the word it is the answer, and otherwise no codeword is.
+use Rattle.answers.specs.Answered.{sound-none}
+use Rattle.tree.proofs.Leaves.{leaf-none, leaf-some, leaf-sound}
+use borrow.Author.Needs.{needs}
+use Rattle.tree.proofs.leaf.Statement.{statement}
+use Rattle.tree.proofs.leaf.Tie as tie
+
+candidate-of-requires : tie.Need-candidate-of-requires
+candidate-of-requires c κs = search needs
+
+sub-if1 : tie.Need-sub-if1
+sub-if1 c = search needs
+
+distance-requires : tie.Need-distance-requires
+distance-requires c κs = search needs
+
+none-near-requires : tie.Need-none-near-requires
+none-near-requires c κs = search needs
+
+returns : tie.Need-returns
+returns c = (
+  leaf-none (c .before .before .before .before .before .before .before .pre) _ _ _ _ (c .before .before .before .before .before .candidate-of .ensures) _ (c .before .before .distance .ensures) _
+      (c .none-near .ensures .0) (c .none-near .ensures .1) (c .before .if1 .taken),
+  sound-none _ (c .none-near .ensures .0),
+)
+
+cost-requires : tie.Need-cost-requires
+cost-requires c κs = search needs
+
+returns-2 : tie.Need-returns-2
+returns-2 c =
+    let h = c .before .before .before .before .before .before .before .pre in
+    let held = c .before .before .before .before .before .candidate-of .ensures in
+    let d = c .before .before .distance .ensures in
+    (leaf-some h _ _ _ _ held _ d _ (c .cost .ensures) (c .before .if1 .left), leaf-sound h _ _ _ _ held _ d _ (c .cost .ensures))
+
+pub leaf-spec : {M : Type 1} → statement M
+leaf-spec =
+    tie.close
+    (tie.spec
+    candidate-of-requires
+    sub-if1
+    distance-requires
+    none-near-requires
+    returns
+    cost-requires
+    returns-2)

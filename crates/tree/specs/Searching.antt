@@ -1,0 +1,43 @@
+-- What a node of the tree knows, and what it finds.
+--
+--   Lowest leads n r       of the first n classes none has a smaller lead than r
+--   Ready k word ps rows leads   a basis up to the limit through the nodes decided so far: those of the word but for the places ps
+--   LeafOf k columns word row f  what a leaf finds from its row
+--   SearchOf …             what a search of the tree finds
+--   BranchOf …             what a branch of a node finds
+use mathlib.Core.List.{List, [], _∷_}
+use Prim.Native.Nat.{ℕ, _^_, _<_, _≤_}
+use lib.ListN.{set}
+use Rattle.algebra.specs.Koetter.{Basis}
+use Rattle.galois.specs.Field16.{K16}
+use Rattle.basis.specs.Choice.{leadAt}
+use Rattle.interpolation.specs.Polynomial.{polynomials}
+use Rattle.code.specs.Nodes.{Node, ThroughNodes}
+use Rattle.soft.specs.TestWord.{expand}
+use Rattle.near.specs.Near.{mOf}
+use Rattle.near.specs.Interpolated.{limitOf}
+use Rattle.near.specs.Tree.{Places, Decided}
+use Rattle.answers.specs.declared.Found.{Found}
+use Rattle.answers.specs.Nearest.{Nearest}
+use Rattle.candidate.specs.Candidate.{Held}
+
+pub record Lowest (leads : List ℕ) (n r : ℕ) : Type 0 where
+  pub within : r < 8
+  pub lowest : (q : ℕ) → q < n → leadAt leads r ≤ leadAt leads q
+
+pub record Ready (k : ℕ) (word ps : List ℕ) (rows : List (List ℕ)) (leads : List ℕ) : Type 0 where
+  pub nodes : List Node
+  pub decided : Decided word ps nodes
+  pub basis : Basis K16 8 (limitOf k) (ThroughNodes (mOf k) nodes) (polynomials (mOf k) rows) (leadAt leads)
+
+pub record LeafOf (k : ℕ) (columns : ℕ → List ℕ) (word row : List ℕ) (f : Found) : Type 0 where
+  pub few : f .tests ≤ 1
+  pub finds : Held k word row → Nearest k columns (word ∷ []) f
+
+pub record SearchOf (k : ℕ) (columns : ℕ → List ℕ) (word ps : List ℕ) (rows : List (List ℕ)) (leads : List ℕ) (left : ℕ) (f : Found) : Type 0 where
+  pub few : f .tests ≤ 2 ^ left
+  pub finds : Ready k word ps rows leads → Places ps → Nearest k columns (expand columns word ps) f
+
+pub record BranchOf (k : ℕ) (columns : ℕ → List ℕ) (word : List ℕ) (place symbol : ℕ) (ps : List ℕ) (rows : List (List ℕ)) (leads : List ℕ) (left : ℕ) (f : Found) : Type 0 where
+  pub few : f .tests ≤ 2 ^ left
+  pub finds : Ready k word (place ∷ ps) rows leads → Places (place ∷ ps) → Nearest k columns (expand columns (set word place symbol) ps) f

@@ -1,0 +1,181 @@
+// The tree of test words: the doubtful places are doubled one after the other, and each leaf has the candidate of its test word. It knows of no
+// session and no buffers, and not which places are doubtful.
+ghost use mathlib.Core.Path.{_≡_};
+ghost use Prim.Native.Nat.{_-_, _<_, _≤_};
+ghost use lib.ListN.{take, drop};
+ghost use Rattle.basis.specs.Choice.{leadAt};
+ghost use Rattle.soft.specs.Column.{columnOf};
+ghost use Rattle.soft.specs.Total.{totalOf};
+ghost use Rattle.answers.specs.Answered.{Sound};
+ghost use Rattle.candidate.specs.Ranged.{Ranged};
+ghost use Rattle.tree.specs.Searching.{Lowest, LeafOf, SearchOf, BranchOf};
+use answers::Answer;
+use answers::Found;
+use answers::better;
+use answers::none_near;
+use basis::Leads;
+use basis::Rows;
+use candidate::candidate_of;
+use candidate::distance;
+use columns::column::best;
+use columns::column::second;
+use columns::costs::column_of;
+use interpolation::node::extend;
+use known::below;
+use known::governs;
+use known::later;
+use known::tests_within;
+use totals::total::total;
+
+fn cost(costs: &[u16], codeword: [u8; 64]) -> u32
+    ensures { λ r. ⌜ r ≡ totalOf 64 (columnOf 16 (now (costs .entry))) codeword ⌝ }
+{
+    total(costs, &codeword)
+}
+
+// One test word: what its row holds, if its codeword is within T of the word.
+fn leaf(row: [u8; 96], word: [u8; 64], costs: &[u16], k: usize) -> Found
+    requires { ⌜ Ranged k ⌝ }
+    ensures { λ r.
+        ⌜ LeafOf k (columnOf 16 (now (costs .entry))) word row r × Sound k (columnOf 16 (now (costs .entry))) r ⌝ }
+{
+    let held = candidate_of(row, k);
+    let message = held.message;
+    let codeword = held.codeword;
+    if (52 - k) / 2 < distance(codeword, word) {
+        return none_near();
+    }
+    Found {
+        answer: Answer::Near {
+            total: cost(costs, codeword),
+        },
+        message,
+        codeword,
+        tests: 1,
+    }
+}
+
+// Of two classes the one with the smaller lead.
+fn lower(leads: Leads, r: usize, q: usize) -> usize
+    requires { ⌜ (r < 8) × (q < 8) ⌝ }
+    ensures { λ p. ⌜ (p < 8) × (leadAt leads p ≤ leadAt leads r) × (leadAt leads p ≤ leadAt leads q) ⌝ }
+{
+    if leads[q] < leads[r] {
+        return q;
+    }
+    r
+}
+
+// The class of least lead.
+fn least(leads: Leads) -> usize
+    ensures { λ r. ⌜ Lowest leads 8 r ⌝ }
+{
+    let mut r = 0;
+    let mut q = 0;
+    while q < 8 {
+        r = lower(leads, r, q);
+        q += 1;
+    }
+    r
+}
+
+// One branch of a node: the place is decided with the symbol. Where the known codeword governs it, its test words are only counted.
+fn branch(
+    rows: Rows,
+    leads: Leads,
+    word: [u8; 64],
+    costs: &[u16],
+    k: usize,
+    doubtful: [u8; 8],
+    doubt: usize,
+    left: usize,
+    known: Found,
+    place: usize,
+    symbol: u8,
+) -> Found
+    requires { ⌜ Ranged k × (doubt ≤ 8) × (left ≤ doubt) × (place < 64) × Sound k (columnOf 16 (now costs)) known ⌝ }
+    ensures { λ r.
+        ⌜ BranchOf k (columnOf 16 (now (costs .entry))) word place symbol (drop (doubt - left) (take doubt doubtful)) rows leads left r
+        × Sound k (columnOf 16 (now (costs .entry))) r ⌝ }
+{
+    let mut next_word = word;
+    next_word[place] = symbol;
+    if governs(known, next_word, k, doubtful, doubt, left) {
+        let codeword = known.codeword;
+        let tests = tests_within(codeword, next_word, costs, k, doubtful, doubt, left);
+        return below(known, tests);
+    }
+    let limit = 2 * ((52 - k) / 2 + 6 + (k + 5)) + 1;
+    let mut next_leads = leads;
+    let next_rows = extend(rows, &mut next_leads, limit, place, symbol);
+    search(
+        next_rows,
+        next_leads,
+        next_word,
+        costs,
+        k,
+        doubtful,
+        doubt,
+        left,
+        known,
+    )
+}
+
+// The test words below a node: the doubtful places left are doubled one after the other, first with the best symbol and then with the
+// second. Each branch gets the basis of its node by value, and a node whose classes are all spent ends its part of the tree.
+pub fn search(
+    rows: Rows,
+    leads: Leads,
+    word: [u8; 64],
+    costs: &[u16],
+    k: usize,
+    doubtful: [u8; 8],
+    doubt: usize,
+    left: usize,
+    known: Found,
+) -> Found
+    requires { ⌜ Ranged k × (doubt ≤ 8) × (left ≤ doubt) × Sound k (columnOf 16 (now costs)) known ⌝ }
+    ensures { λ r.
+        ⌜ SearchOf k (columnOf 16 (now (costs .entry))) word (drop (doubt - left) (take doubt doubtful)) rows leads left r
+        × Sound k (columnOf 16 (now (costs .entry))) r ⌝ }
+{
+    let limit = 2 * ((52 - k) / 2 + 6 + (k + 5)) + 1;
+    let class = least(leads);
+    if limit < leads[class] {
+        return none_near();
+    }
+    if left == 0 {
+        return leaf(rows[class], word, costs, k);
+    }
+    let place = (doubtful[doubt - left] % 64) as usize;
+    let column = column_of(costs, place);
+    let symbol = best(column);
+    let other = second(column);
+    let first = branch(
+        rows,
+        leads,
+        word,
+        costs,
+        k,
+        doubtful,
+        doubt,
+        left - 1,
+        known,
+        place,
+        symbol,
+    );
+    let rest = branch(
+        rows,
+        leads,
+        word,
+        costs,
+        k,
+        doubtful,
+        doubt,
+        left - 1,
+        later(first, known),
+        place,
+        other,
+    );
+    better(first, rest, k)
+}
