@@ -22,7 +22,7 @@ fn main() -> io::Result<()> {
         let number = match call {
             b'E' => encoding::encode(rate, bytes, &mut first, 0),
             b'B' => reading_back::read_back(rate, bytes, &mut first),
-            _ => closing::decode_table(rate, bytes, usize::from(*doubt), &mut first, &mut report),
+            _ => table_decoding::decode_table(rate, bytes, usize::from(*doubt), &mut first, &mut report),
         };
         let digits: String = first.iter().chain(&report).map(|byte| format!("{byte:02x}")).collect();
         println!("{} {number} {digits}", galois::MULTIPLICATIONS.load(Ordering::Relaxed));

@@ -71,7 +71,7 @@ fn show_line(name: &[u8], number: u8, report: [u8; 8], message: &[u8]) {
 // The rate is the length of the message buffer.
 fn by_table(name: &[u8], room: &mut [u8], costs: &[u8], doubt: usize) {
     let mut report = [1u8; 8];
-    let number = closing::decode_table(room.len(), costs, doubt, room, &mut report);
+    let number = table_decoding::decode_table(room.len(), costs, doubt, room, &mut report);
     show_line(name, number, report, room);
 }
 

@@ -1,3 +1,1 @@
-pub mod Asked
-pub mod Answered
-pub mod Tabled
+pub mod Opened

@@ -32,5 +32,5 @@ pub extern "C" fn hermitian_decode_table(
 ) -> u8
     ensures { λ r. ⌜ closed r (now (message .exit)) (now (report .exit)) ≡ tableOf rate (now (table .entry)) doubt (now (message .entry)) (now (report .entry)) ⌝ }
 {
-    closing::decode_table(rate, table, doubt, message, report)
+    table_decoding::decode_table(rate, table, doubt, message, report)
 }

@@ -7,7 +7,8 @@ use lib.Seq.{length-take-le}
 use Rattle.session.specs.declared.Session.{Session}
 use Rattle.session.specs.declared.Opened.{Opened}
 use Rattle.session.specs.AnsweringLaws.{closing-by-hand, closing-wrong-size, closing-early, closing-decoded}
-use Rattle.closing.proofs.Asked.{asked-fit, fit-opened, opened-fit}
+use Rattle.decoding.specs.Asked.{asked-fit}
+use Rattle.closing.proofs.Opened.{fit-opened, opened-fit}
 use borrow.Author.Needs.{needs}
 use Rattle.closing.proofs.close.Statement.{statement}
 use Rattle.closing.proofs.close.Tie as tie

@@ -1,4 +1,4 @@
--- `hermitian_decode_table` hands on what `decode_table` of `closing` returns and leaves in the buffers.
+-- `hermitian_decode_table` hands on what `decode_table` of `table_decoding` returns and leaves in the buffers.
 use borrow.Author.Needs.{needs}
 use Rattle.modem.proofs.hermitian_decode_table.Statement.{statement}
 use Rattle.modem.proofs.hermitian_decode_table.Tie as tie

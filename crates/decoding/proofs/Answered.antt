@@ -1,14 +1,15 @@
 -- From what the search found to what decoding answers.
 --
---   tests-few          at most 256 test words have a codeword within T, so that their count fits two bytes
+--   list-few           the search is asked for at most 8 doubtful places
+--   tests-few          so at most 256 test words have a codeword within T, and their count fits two bytes
 --   answered-none      nobody near: refused with 9, the buffers as they were
---   decoded-near       the same from the steps of the code
 --   answered-near      somebody near: the message, and the report with its total, the count, and the pinned and changed places of its codeword
+--   decoded-near       the same from the steps of the code
 use mathlib.Core.Path.{_≡_, sym, ap, ap₂, _∙_}
 use mathlib.Core.List.{List, [], _∷_}
 use Prim.Native.Nat.{ℕ, _^_, _≤_}
 use native.Mathlib.Omega.{arith}
-use lib.ListN.{length, take}
+use lib.ListN.{length, take, length-take}
 use lib.Pow.{pow-mono}
 use Rattle.refusals.specs.Refusal.{accepted, noneNear}
 use Rattle.lists.specs.Count.{bit-le}
@@ -25,8 +26,12 @@ use Rattle.book.specs.Table.{closed}
 use Rattle.answers.specs.declared.Answer.the-variants.{NoneNear, Near}
 use Rattle.answers.specs.declared.Found.{Found}
 use Rattle.answers.specs.Nearest.{Nearest}
+use Rattle.chase.specs.Call.{Asked}
 
-pub tests-le : (k : ℕ) (ts : List (List ℕ)) → testsNear k ts ≤ length ts
+pub list-few : {rate doubt : ℕ} {costs doubtful : List ℕ} → Asked rate costs doubtful doubt → length (take doubt doubtful) ≤ 8
+list-few {rate} {doubt} {costs} {doubtful} asked = omega (arith, length-take doubt doubtful, asked .few)
+
+tests-le : (k : ℕ) (ts : List (List ℕ)) → testsNear k ts ≤ length ts
 tests-le k [] = omega (arith, tests-nil k)
 tests-le k (t ∷ ts) = omega (arith, tests-cons k t ts, tests-le k ts, bit-le (isSome (codewordNear k t)))
 

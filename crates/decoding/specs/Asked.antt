@@ -1,32 +1,21 @@
 -- When the search may be asked: for a rate and a doubtful list that opening accepts.
 --
---   rate-small         a known rate is at most 49
 --   fit-places         a fit doubtful list has different places, all below 64
---   asked-fit          so the search may be asked
---   list-few           a list of at most 8 places
---   opened-fit, fit-opened   opening accepts exactly these
-use mathlib.Core.Bool.{Bool, true, false, _&&_}
-use mathlib.Core.Path.{_≡_, refl, sym, ap, _∙_}
+--   asked-fit          so the search may be asked for it at a known rate
+use mathlib.Core.Bool.{true, _&&_}
+use mathlib.Core.Path.{_≡_}
 use mathlib.Core.List.{List, [], _∷_, List·Memᴰ, List·Memᴰ·cases-cons, List·Memᴰ·not-nil}
 use mathlib.Core.Logic.{⊎-elim}
 use Prim.Native.Nat.{ℕ, suc, _≤_}
 use native.Mathlib.Omega.{arith}
 use lib.Dec.{leb}
-use lib.ListN.{length, take, length-take}
+use lib.ListN.{length, take}
 use borrow.Author.Tests.{leb-true}
-use Rattle.refusals.specs.Refusal.{accepted}
 use Rattle.lists.specs.Distinct.{below, below-cons, and-left, and-right}
 use Rattle.code.specs.Encoding.{knownRate}
-use Rattle.code.specs.Rates.{known-bounds}
 use Rattle.near.specs.Tree.{Places, places-nil, places-cons}
 use Rattle.book.specs.Opening.{risingFrom, rising, fitPlaces, fitDoubt}
-use Rattle.session.specs.declared.Opened.{Opened}
-use Rattle.session.specs.Calls.{refusedWith, openedOf}
-use Rattle.session.specs.Laws.{opened-rate, opened-list, opened-new}
 use Rattle.chase.specs.Call.{Asked}
-
-pub rate-small : (k : ℕ) → knownRate k ≡ true → k ≤ 49
-rate-small k known = known-bounds k known .1
 
 rising-above : (n : ℕ) (list : List ℕ) → risingFrom n list ≡ true → (q : ℕ) → List·Memᴰ q list → n ≤ q
 unfolding risingFrom
@@ -59,20 +48,3 @@ module _ (rate : ℕ) (costs doubtful : List ℕ) (doubt : ℕ) where
       → Asked rate costs doubtful doubt
   asked-fit known fit size few =
       record { known = known; size = size; few = few; places = fit-places (take doubt doubtful) fit }
-
-module _ (rate : ℕ) (list : List ℕ) where
-  pub fit-opened : knownRate rate ≡ true → fitDoubt list ≡ true → openedOf rate list .refusal ≡ accepted
-  fit-opened r f = ap (λ (o : Opened). o .refusal) (opened-new rate list r f)
-
-  -- what opening accepts has a known rate and a fit list
-  pub opened-fit : openedOf rate list .refusal ≡ accepted → (knownRate rate ≡ true) × (fitDoubt list ≡ true)
-  unfolding refusedWith
-  opened-fit e = go (knownRate rate) refl (fitDoubt list) refl
-    where
-      go : (a : Bool) → knownRate rate ≡ a → (b : Bool) → fitDoubt list ≡ b → (knownRate rate ≡ true) × (fitDoubt list ≡ true)
-      go true r true f = (r, f)
-      go true r false f = absurd (omega (arith, sym (ap (λ (o : Opened). o .refusal) (opened-list rate list r f)) ∙ e))
-      go false r b f = absurd (omega (arith, sym (ap (λ (o : Opened). o .refusal) (opened-rate rate list r)) ∙ e))
-
-pub list-few : {rate doubt : ℕ} {costs doubtful : List ℕ} → Asked rate costs doubtful doubt → length (take doubt doubtful) ≤ 8
-list-few {rate} {doubt} {costs} {doubtful} asked = omega (arith, length-take doubt doubtful, asked .few)

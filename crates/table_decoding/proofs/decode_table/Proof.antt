@@ -6,10 +6,10 @@ use borrow.Author.Tests.{not-true, not-false}
 use Rattle.code.specs.Encoding.{knownRate}
 use Rattle.book.specs.Closing.{refusedClosing}
 use Rattle.book.specs.Table.{table-rate, table-size, table-doubt}
-use Rattle.closing.proofs.Tabled.{table-asked, table-answers}
+use Rattle.table_decoding.proofs.Tabled.{table-asked, table-answers}
 use borrow.Author.Needs.{needs}
-use Rattle.closing.proofs.decode_table.Statement.{statement}
-use Rattle.closing.proofs.decode_table.Tie as tie
+use Rattle.table_decoding.proofs.decode_table.Statement.{statement}
+use Rattle.table_decoding.proofs.decode_table.Tie as tie
 
 known-rate-requires : tie.Need-known-rate-requires
 known-rate-requires c κs = search needs

@@ -2,11 +2,11 @@
 use mathlib.Core.Path.{_≡_}
 use native.Mathlib.Omega.{arith}
 use lib.ListN.{length}
-use Rattle.closing.proofs.Asked.{rate-small, list-few}
-use Rattle.closing.proofs.Answered.{tests-few, answered-none, decoded-near}
+use Rattle.code.specs.Rates.{known-bounds}
+use Rattle.decoding.proofs.Answered.{list-few, tests-few, answered-none, decoded-near}
 use borrow.Author.Needs.{needs}
-use Rattle.closing.proofs.decode.Statement.{statement}
-use Rattle.closing.proofs.decode.Tie as tie
+use Rattle.decoding.proofs.decode.Statement.{statement}
+use Rattle.decoding.proofs.decode.Tie as tie
 
 -- the message that was found has room for every rate
 found-room : (c : tie.After-nearest) → length (c .nearest .result .message) ≡ 49
@@ -63,7 +63,7 @@ returns-2 c =
     let near = c .before .before .before .before .before .before .before .before .before .before .before .before .before .before .before .before .before .before .before .nearest .ensures in
     let answer = c .before .before .before .before .before .before .before .before .before .before .before .before .before .before .before .before .before .answer .given .1 in
     decoded-near _ _ _ _ (near .asked asked) _ _ answer (c .before .before .before .before .before .before .before .before .before .before .before .before .before .before .before .before .before .before .before .before .before .before .before .pre .message-long) (found-room (c .before .before .before .before .before .before .before .before .before .before .before .before .before .before .before .before .before .before .before))
-    (rate-small _ (asked .known)) (c .before .before .before .before .before .before .before .before .before .before .before .before .copy .ensures) (near .encoded _ answer)
+    (known-bounds _ (asked .known) .1) (c .before .before .before .before .before .before .before .before .before .before .before .before .copy .ensures) (near .encoded _ answer)
     (c .before .before .before .before .before .before .before .pinned .ensures) (c .before .before .before .before .before .changed .ensures) (c .before .before .report .ensures)
 
 pub decode-spec : {M : Type 1} → statement M

@@ -18,7 +18,7 @@ use Rattle.book.specs.Opening.{fitDoubt}
 use Rattle.book.specs.Closing.{reportLength, Closed, decodeOf}
 use Rattle.book.specs.Table.{tableLength, tableColumns, pickedOf, tableOf, table-decoded, picked-length, picked-fit}
 use Rattle.chase.specs.Call.{Asked}
-use Rattle.closing.proofs.Asked.{asked-fit}
+use Rattle.decoding.specs.Asked.{asked-fit}
 
 module _ (table : List ℕ) (doubt : ℕ) (few : doubt ≤ mostDoubt) {costs doubtful : List ℕ} (c : costs ≡ costsFrom (places * symbols) table)
     (d : doubtful ≡ padded mostDoubt (doubtfulOf places doubt (columnOf symbols costs))) where

@@ -5,9 +5,10 @@ use mathlib.Core.Path.{_≡_}
 use mathlib.Core.List.{List}
 use Prim.Native.Nat.{ℕ}
 use lib.ListN.{length}
+use Rattle.book.specs.Closing.{reportLength}
 use Rattle.chase.specs.Call.{Asked}
 
 pub record Decodable (rate : ℕ) (costs doubtful : List ℕ) (doubt : ℕ) (message report : List ℕ) : Type 0 where
   pub asked : Asked rate costs doubtful doubt
   pub message-long : length message ≡ rate
-  pub report-long : length report ≡ 8
+  pub report-long : length report ≡ reportLength
