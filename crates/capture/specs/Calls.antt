@@ -1,5 +1,6 @@
 -- What writing a capture answers, and the parts of its bytes.
 --
+--   headLength d             5 + d: the bytes before the records, where d places are doubtful
 --   headBytes rate list      version, length, rate, d and the d doubtful places
 --   recordBytes p column     a place and its 32 cost bytes
 --   wrapped arrival          the places modulo 64: no session from opening has one above 63
@@ -8,7 +9,7 @@
 --                            the session, a refused call leaves the buffer as it was, and the buffer keeps its length
 use mathlib.Core.Path.{_≡_}
 use mathlib.Core.List.{List, _∷_, map}
-use Prim.Native.Nat.{ℕ, _/_, _%_}
+use Prim.Native.Nat.{ℕ, _+_, _/_, _%_}
 use lib.ListN.{length}
 use Rattle.refusals.specs.Refusal.{accepted}
 use Rattle.lists.specs.Listed.{listed}
@@ -17,6 +18,9 @@ use Rattle.book.specs.Capture.{bodyLength, costBytes}
 use Rattle.book.specs.Writing.{writeOf}
 use Rattle.session.specs.declared.Session.{Session}
 use Rattle.session.specs.View.{entryAt, bookOf, Good}
+
+abbrev pub headLength : ℕ → ℕ
+headLength d = 5 + d
 
 unfoldable pub headBytes : ℕ → List ℕ → List ℕ
 headBytes rate list = 1 ∷ bodyLength (length list) / 256 ∷ bodyLength (length list) % 256 ∷ rate ∷ length list ∷ list

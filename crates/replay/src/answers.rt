@@ -45,7 +45,7 @@ fn open(rate: usize, doubtful: &[u8]) -> Session
 fn open_capture(bytes: &[u8]) -> Session
     ensures { λ r. ⌜ StandsFor (openCaptureOf (now (bytes .entry)) .book) r ⌝ }
 {
-    let opened = capture::open_capture(bytes);
+    let opened = opening::open_capture(bytes);
     write_byte(opened.refusal);
     opened.session
 }
@@ -62,7 +62,7 @@ fn deliver(current: Session, place: usize, column: &[u8]) -> Session
 fn call_with(current: Session, letter: u8, out: &mut [u8]) -> u8 {
     match letter {
         b'R' => reading::read_interpolant(current, out),
-        _ => capture::write_capture(current, out),
+        _ => writing::write_capture(current, out),
     }
 }
 
@@ -117,7 +117,7 @@ fn close(current: Session, size: usize, rest: &[u8]) -> Session
 fn look_up(current: Session, place: usize, bytes: &[u8]) -> Session
     ensures { λ r. ⌜ r ≡ current ⌝ }
 {
-    let part = capture::look_up(bytes, place);
+    let part = look_up::look_up(bytes, place);
     write_number(part.len());
     write(part);
     current

@@ -39,7 +39,7 @@ fn show_capture(bytes: &[u8], out: &mut [u8]) -> usize
     requires { ⌜ 256 ≤ length (now out) ⌝ }
     ensures { λ r. ⌜ Appended (now (out .entry)) 0 (shownOf (now (bytes .entry))) r (now (out .exit)) ⌝ }
 {
-    let opened = capture::open_capture(bytes);
+    let opened = opening::open_capture(bytes);
     let refusal = opened.refusal;
     if refusal != refusals::ACCEPTED {
         return text::put_refused(refusal, out);

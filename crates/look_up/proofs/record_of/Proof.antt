@@ -1,0 +1,61 @@
+-- `look_up::record_of` meets its contract. The loop's invariant: no record passed is that of the place.
+use borrow.Author.Needs.{needs}
+use mathlib.Core.Path.{_≡_}
+use Prim.Native.Nat.{_+_, _*_, _-_, _≤_}
+use native.Mathlib.Omega.{arith}
+use lib.ListN.{drop}
+use Rattle.book.specs.Book.{places}
+use Rattle.book.specs.LookUp.{recordWith}
+use Rattle.look_up.proofs.Searching.{search-start, search-here, search-next, search-end}
+use Rattle.look_up.proofs.record_of.Statement.{statement}
+use Rattle.look_up.proofs.record_of.Tie as tie
+
+abbrev Inv-loop : tie.InvT-loop
+Inv-loop place records i₀ i = (i ≤ 64) × (recordWith place places records ≡ i + recordWith place (64 - i) (drop (33 * i) records))
+
+abbrev μ-loop : tie.MeasureT-loop
+μ-loop place records i₀ i = 64 - i
+
+loop-holds : tie.Need-loop-holds Inv-loop μ-loop
+loop-holds c = (omega arith, search-start _ _)
+
+mul-if1 : tie.Need-mul-if1 Inv-loop μ-loop
+mul-if1 c = search needs
+
+shared-slice-read-if1 : tie.Need-shared-slice-read-if1 Inv-loop μ-loop
+shared-slice-read-if1 c = search needs
+
+cast-if1 : tie.Need-cast-if1 Inv-loop μ-loop
+cast-if1 c = omega (arith, c .shared-slice-known .given (33 * c .before .before .loop .i))
+
+returns : tie.Need-returns Inv-loop μ-loop
+returns c = search-here _ _ _ (c .before .before .loop-test .taken) (c .if1 .taken) (c .before .before .before .loop .inv .1)
+
+add-i : tie.Need-add-i Inv-loop μ-loop
+add-i c = search needs
+
+loop-less : tie.Need-loop-less Inv-loop μ-loop
+loop-less c = search needs
+
+loop-again : tie.Need-loop-again Inv-loop μ-loop
+loop-again c =
+    (omega arith, search-next _ _ _ (c .before .before .loop-test .taken) (c .if1 .left) (c .before .before .before .loop .inv .1))
+
+returns-2 : tie.Need-returns-2 Inv-loop μ-loop
+returns-2 c = search-end _ _ _ (c .loop-test .left) (c .before .loop .inv .0) (c .before .loop .inv .1)
+
+pub record-of-spec : {M : Type 1} → statement M
+record-of-spec =
+    tie.close
+    (tie.spec
+    Inv-loop
+    μ-loop
+    loop-holds
+    mul-if1
+    shared-slice-read-if1
+    cast-if1
+    returns
+    add-i
+    loop-less
+    loop-again
+    returns-2)

@@ -1,0 +1,94 @@
+-- The checks of an opening of a capture: each return of the code is a case of it.
+use mathlib.Core.Bool.{true, _&&_, and-false}
+use mathlib.Core.Path.{_≡_, sym, ap, ap₂, _∙_, subst}
+use mathlib.Core.List.{List}
+use Prim.Native.Nat.{ℕ, _+_, _-_, _<_, _≤_}
+use native.Mathlib.Omega.{arith}
+use lib.Dec.{eqb, leb}
+use lib.ListN.{length, getD, take, drop}
+use borrow.Author.Tests.{le-leb, lt-leb, eq-eqb, ne-eqb}
+use Rattle.refusals.specs.Refusal.{accepted, wrongVersion, wrongLength}
+use Rattle.lists.specs.Distinct.{and-both}
+use Rattle.book.specs.Book.{places, Book, Outcome}
+use Rattle.book.specs.Capture.{bodyLength, recordsOf}
+use Rattle.book.specs.CaptureOpening.{deliverRow, rateIn, doubtIn, recordsIn, sizeFits, versionFits, lengthIn, lengthFits, openWith, openCaptureOf}
+use Rattle.book.specs.CaptureCases.{open-size, open-version, open-length, open-checked, with-on, with-refused}
+use Rattle.session.specs.declared.Opened.{Opened}
+use Rattle.session.specs.View.{bookOf}
+use Rattle.session.specs.Calls.{refusedWith, openedOf, Opening}
+use Rattle.session.specs.Laws.{refused-opens, opens}
+use Rattle.capture.specs.Rest.{rest-whole}
+
+module _ (bytes : List ℕ) where
+  pub too-short : length bytes < 2117 → Opening (openCaptureOf bytes) (refusedWith wrongLength)
+  unfolding sizeFits
+  too-short h = rw (open-size bytes (ap (λ b. b && leb (length bytes) 2125) (lt-leb 2117 (length bytes) h))) (refused-opens wrongLength)
+
+  pub too-long : 2125 < length bytes → Opening (openCaptureOf bytes) (refusedWith wrongLength)
+  unfolding sizeFits
+  too-long h =
+      rw (open-size bytes (ap (λ b. leb 2117 (length bytes) && b) (lt-leb (length bytes) 2125 h) ∙ and-false (leb 2117 (length bytes))))
+      (refused-opens wrongLength)
+
+  module _ (least : 2117 ≤ length bytes) (most : length bytes ≤ 2125) where
+    sized : sizeFits bytes ≡ true
+    unfolding sizeFits
+    sized = and-both (leb 2117 (length bytes)) (leb (length bytes) 2125) (le-leb 2117 (length bytes) least) (le-leb (length bytes) 2125 most)
+
+    pub other-version : (getD bytes 0 0 ≡ 1 → ⊥) → Opening (openCaptureOf bytes) (refusedWith wrongVersion)
+    unfolding versionFits
+    other-version v = rw (open-version bytes sized (ne-eqb (getD bytes 0 0) 1 v)) (refused-opens wrongVersion)
+
+    module _ (one : getD bytes 0 0 ≡ 1) where
+      versioned : versionFits bytes ≡ true
+      unfolding versionFits
+      versioned = eq-eqb (getD bytes 0 0) 1 one
+
+      pub other-total : (lengthIn bytes + 3 ≡ length bytes → ⊥) → Opening (openCaptureOf bytes) (refusedWith wrongLength)
+      unfolding lengthFits
+      other-total n =
+          rw
+          (open-length bytes sized versioned
+          (ap (λ b. b && eqb (lengthIn bytes) (bodyLength (doubtIn bytes))) (ne-eqb (lengthIn bytes + 3) (length bytes) n)))
+          (refused-opens wrongLength)
+
+      pub other-doubt : (lengthIn bytes ≡ bodyLength (doubtIn bytes) → ⊥) → Opening (openCaptureOf bytes) (refusedWith wrongLength)
+      unfolding lengthFits
+      other-doubt n =
+          rw
+          (open-length bytes sized versioned
+          (ap (λ b. eqb (lengthIn bytes + 3) (length bytes) && b) (ne-eqb (lengthIn bytes) (bodyLength (doubtIn bytes)) n)
+          ∙ and-false (eqb (lengthIn bytes + 3) (length bytes))))
+          (refused-opens wrongLength)
+
+      module _ (total : lengthIn bytes + 3 ≡ length bytes) (body : lengthIn bytes ≡ bodyLength (doubtIn bytes)) (list : List ℕ)
+          (parted : list ≡ take (5 + doubtIn bytes - 5) (drop 5 bytes)) where
+        checked : openCaptureOf bytes ≡ openWith (rateIn bytes) list (recordsIn bytes)
+        unfolding lengthFits
+        checked =
+            let n : 5 + doubtIn bytes - 5 ≡ doubtIn bytes = omega arith in
+            open-checked bytes sized versioned
+            (and-both (eqb (lengthIn bytes + 3) (length bytes)) (eqb (lengthIn bytes) (bodyLength (doubtIn bytes)))
+            (eq-eqb (lengthIn bytes + 3) (length bytes) total) (eq-eqb (lengthIn bytes) (bodyLength (doubtIn bytes)) body))
+            ∙ ap (λ (l : List ℕ). openWith (rateIn bytes) l (recordsIn bytes)) (sym (parted ∙ ap (λ k. take k (drop 5 bytes)) n))
+
+        pub opening-refused : (openedOf (rateIn bytes) list .refusal ≡ accepted → ⊥)
+            → Opening (openCaptureOf bytes) (openedOf (rateIn bytes) list)
+        opening-refused n =
+            rw (
+              checked,
+              with-refused (rateIn bytes) list (recordsIn bytes) (λ e. n (opens (rateIn bytes) list .number ∙ e)),
+            )
+            (opens (rateIn bytes) list)
+
+        pub delivering : (rest : List ℕ) (r : Opened) → openedOf (rateIn bytes) list .refusal ≡ accepted
+            → rest ≡ take (length bytes - (5 + doubtIn bytes)) (drop (5 + doubtIn bytes) bytes)
+            → Opening (deliverRow (bookOf (openedOf (rateIn bytes) list .session)) (recordsOf places rest)) r
+            → Opening (openCaptureOf bytes) r
+        delivering rest r n e d =
+            let q : rest ≡ drop (5 + doubtIn bytes) bytes =
+            e ∙ rest-whole (5 + doubtIn bytes) bytes in
+            subst (λ (o : Outcome). Opening o r)
+            (ap₂ (λ (b : Book) (l : List ℕ). deliverRow b (recordsOf places l)) (opens (rateIn bytes) list .book) q
+            ∙ sym (checked ∙ with-on (rateIn bytes) list (recordsIn bytes) (sym (opens (rateIn bytes) list .number) ∙ n)))
+            d

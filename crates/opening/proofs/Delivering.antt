@@ -1,0 +1,84 @@
+-- The loop that delivers the records of a capture: what is left to deliver answers as the whole row does.
+use mathlib.Core.Path.{_≡_, refl, sym, ap, ap₂, _∙_}
+use mathlib.Core.List.{List, [], _∷_}
+use Prim.Native.Nat.{ℕ, suc, _+_, _-_, _*_, _<_, _≤_}
+use native.Mathlib.Omega.{arith}
+use lib.ListN.{getD, take, drop}
+use lib.Seq.{drop-drop}
+use Rattle.refusals.specs.Refusal.{accepted}
+use Rattle.book.specs.Book.{places, width, Entry, Outcome}
+use Rattle.book.specs.Capture.{recordLength, recordsOf}
+use Rattle.soft.specs.Column.{costsFrom}
+use Rattle.book.specs.CaptureOpening.{deliverRow}
+use Rattle.book.specs.CaptureCases.{row-none, row-on, row-refused}
+use Rattle.session.specs.declared.Session.{Session}
+use Rattle.session.specs.declared.Delivered.{Delivered}
+use Rattle.session.specs.View.{bookOf, Good}
+use Rattle.session.specs.Calls.{refusedWith, Opening, Delivery}
+use Rattle.session.specs.Laws.{refused-opens}
+use Rattle.capture.specs.Rest.{rest-first}
+
+record-step : (records : List ℕ) (i : ℕ) → i < places
+    → recordsOf (places - i) (drop (recordLength * i) records)
+    ≡ record {
+      place = getD records (recordLength * i) 0;
+      column = costsFrom width (take (recordLength * i + recordLength - (recordLength * i + 1)) (drop (recordLength * i + 1) records));
+    } ∷ recordsOf (places - (i + 1)) (drop (recordLength * (i + 1)) records)
+unfolding recordsOf
+record-step records i h =
+    let at : ℕ = recordLength * i in
+    let e : places - i ≡ suc (places - (i + 1)) = omega arith in
+    let f : at + recordLength ≡ recordLength * (i + 1) = omega arith in
+    let g : 32 ≡ at + recordLength - (at + 1) = omega arith in
+    ap (λ n. recordsOf n (drop at records)) e
+    ∙ ap₂ (λ (x : Entry) (l : List Entry). x ∷ l)
+    (ap₂ (λ p (c : List ℕ). record { place = p; column = costsFrom width c }) (rest-first at records)
+    (ap₂ (λ k (l : List ℕ). take k l) g (drop-drop 1 at records)))
+    (ap (recordsOf (places - (i + 1))) (drop-drop recordLength at records ∙ ap (λ k. drop k records) f))
+
+no-records-left : (bytes : List ℕ) → recordsOf 0 bytes ≡ []
+unfolding recordsOf
+no-records-left bytes = refl
+
+-- what the whole row answers, and what is left of it from the session held after i records
+abbrev whole : Session → List ℕ → Outcome
+whole start records = deliverRow (bookOf start) (recordsOf places records)
+
+abbrev left : Session → List ℕ → ℕ → Outcome
+left current records i = deliverRow (bookOf current) (recordsOf (places - i) (drop (recordLength * i) records))
+
+module _ (start current : Session) (records column : List ℕ) (i : ℕ) (r : Delivered) (h : i < places) (good : Good current)
+    (same : whole start records ≡ left current records i)
+    (read : column ≡ costsFrom width (take (recordLength * i + recordLength - (recordLength * i + 1)) (drop (recordLength * i + 1) records)))
+    (d : Delivery current (getD records (recordLength * i) 0) column r) where
+  entry : Entry
+  entry = record { place = getD records (recordLength * i) 0; column = column }
+
+  rest : List Entry
+  rest = recordsOf (places - (i + 1)) (drop (recordLength * (i + 1)) records)
+
+  next : whole start records ≡ deliverRow (bookOf current) (entry ∷ rest)
+  unfolding entry rest
+  next =
+      same
+      ∙ ap (deliverRow (bookOf current))
+      (record-step records i h
+      ∙ ap (λ (c : List ℕ). record { place = getD records (recordLength * i) 0; column = c } ∷ rest) (sym read))
+
+  pub turn : r .refusal ≡ accepted → whole start records ≡ left (r .session) records (i + 1)
+  unfolding entry rest
+  turn n =
+      next ∙ row-on (bookOf current) entry rest (sym (d .number good) ∙ n)
+      ∙ ap (λ b. deliverRow b rest) (sym (d .book good))
+
+  pub stop : (r .refusal ≡ accepted → ⊥) → Opening (whole start records) (refusedWith (r .refusal))
+  unfolding entry rest
+  stop n =
+      rw (next, row-refused (bookOf current) entry rest (λ e. n (d .number good ∙ e)), ← d .number good) (refused-opens (r .refusal))
+
+pub finish : (start current : Session) (records : List ℕ) (i : ℕ) → places ≤ i → Good current → whole start records ≡ left current records i
+    → Opening (whole start records) (record { refusal = accepted; session = current })
+finish start current records i h good same =
+    let n : places - i ≡ 0 = omega arith in
+    rw (same, n, no-records-left (drop (recordLength * i) records), row-none (bookOf current))
+    (record { number = refl; book = refl; good = good })

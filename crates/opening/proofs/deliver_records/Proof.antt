@@ -1,0 +1,113 @@
+-- `opening::deliver_records` meets its contract. The loop's invariant: what is left to deliver answers as the whole row does.
+use borrow.Author.Needs.{needs}
+use mathlib.Core.Path.{_≡_, refl}
+use Prim.Native.Nat.{_-_, _*_, _≤_}
+use native.Mathlib.Omega.{arith}
+use lib.ListN.{drop}
+use Rattle.book.specs.Book.{places}
+use Rattle.book.specs.Capture.{recordsOf}
+use Rattle.book.specs.CaptureOpening.{deliverRow}
+use Rattle.session.specs.View.{bookOf, Good}
+use Rattle.opening.proofs.Delivering.{turn, stop, finish}
+use Rattle.opening.proofs.deliver_records.Statement.{statement}
+use Rattle.opening.proofs.deliver_records.Tie as tie
+
+abbrev Inv-loop : tie.InvT-loop
+Inv-loop records current₀ i₀ current i =
+    (i ≤ 64) × Good current
+    × (deliverRow (bookOf current₀) (recordsOf places records) ≡ deliverRow (bookOf current) (recordsOf (64 - i) (drop (33 * i) records)))
+
+abbrev μ-loop : tie.MeasureT-loop
+μ-loop records current₀ i₀ current i = 64 - i
+
+loop-holds : tie.Need-loop-holds Inv-loop μ-loop
+loop-holds c = (omega arith, c .before .pre .0, refl)
+
+mul-at : tie.Need-mul-at Inv-loop μ-loop
+mul-at c = search needs
+
+shared-slice-read-place : tie.Need-shared-slice-read-place Inv-loop μ-loop
+shared-slice-read-place c = search needs
+
+cast-place : tie.Need-cast-place Inv-loop μ-loop
+cast-place c = omega (arith, c .shared-slice-known2 .given (33 * c .before .before .loop .i))
+
+add-column-from : tie.Need-add-column-from Inv-loop μ-loop
+add-column-from c = search needs
+
+add-column-from-2 : tie.Need-add-column-from-2 Inv-loop μ-loop
+add-column-from-2 c = search needs
+
+sub-column-from : tie.Need-sub-column-from Inv-loop μ-loop
+sub-column-from c = search needs
+
+part-column-from-start : tie.Need-part-column-from-start Inv-loop μ-loop
+part-column-from-start c = search needs
+
+part-column-from-end : tie.Need-part-column-from-end Inv-loop μ-loop
+part-column-from-end c = search needs
+
+column-from-requires : tie.Need-column-from-requires Inv-loop μ-loop
+column-from-requires c κs = search needs
+
+deliver-requires : tie.Need-deliver-requires Inv-loop μ-loop
+deliver-requires c κs = search needs
+
+refused-requires : tie.Need-refused-requires Inv-loop μ-loop
+refused-requires c κs = search needs
+
+returns : tie.Need-returns Inv-loop μ-loop
+returns c =
+    let s = c .before .before .before .before .before .before .before .before .before .args in
+    let l = c .before .before .before .before .before .before .before .loop in
+    rw (c .refused .ensures)
+    (stop (s .opened) (l .current) (s .records .now) (c .before .before .before .column-from .result) (l .i) (c .before .before .deliver .result)
+    (c .before .before .before .before .before .before .loop-test .taken) (l .inv .1) (l .inv .2) (c .before .before .before .column-from .ensures)
+    (c .before .before .deliver .ensures) (c .before .if1 .taken))
+
+add-i : tie.Need-add-i Inv-loop μ-loop
+add-i c = search needs
+
+loop-less : tie.Need-loop-less Inv-loop μ-loop
+loop-less c = search needs
+
+loop-again : tie.Need-loop-again Inv-loop μ-loop
+loop-again c =
+    let s = c .before .before .before .before .before .before .before .before .before .args in
+    let l = c .before .before .before .before .before .before .before .loop in (
+      omega arith,
+      c .before .before .deliver .ensures .good (l .inv .1),
+      turn (s .opened) (l .current) (s .records .now) (c .before .before .before .column-from .result) (l .i) (c .before .before .deliver .result)
+          (c .before .before .before .before .before .before .loop-test .taken) (l .inv .1) (l .inv .2) (c .before .before .before .column-from .ensures)
+          (c .before .before .deliver .ensures) (c .before .if1 .left),
+    )
+
+returns-2 : tie.Need-returns-2 Inv-loop μ-loop
+returns-2 c =
+    let s = c .before .before .before .args in
+    finish (s .opened) (c .before .loop .current) (s .records .now) (c .before .loop .i) (c .loop-test .left) (c .before .loop .inv .1)
+    (c .before .loop .inv .2)
+
+pub deliver-records-spec : {M : Type 1} → statement M
+deliver-records-spec =
+    tie.close
+    (tie.spec
+    Inv-loop
+    μ-loop
+    loop-holds
+    mul-at
+    shared-slice-read-place
+    cast-place
+    add-column-from
+    add-column-from-2
+    sub-column-from
+    part-column-from-start
+    part-column-from-end
+    column-from-requires
+    deliver-requires
+    refused-requires
+    returns
+    add-i
+    loop-less
+    loop-again
+    returns-2)

@@ -1,0 +1,186 @@
+-- `opening::open_capture` meets its contract: each return is a case of opening a capture, and the tests on the way say which.
+use borrow.Author.Needs.{needs}
+use mathlib.Core.Path.{_≡_, refl, sym, ap, _∙_, subst}
+use mathlib.Core.List.{List}
+use Prim.Native.Nat.{ℕ, _+_, _-_}
+use native.Mathlib.Omega.{arith}
+use lib.ListN.{length, take, drop}
+use Rattle.book.specs.Book.{places}
+use Rattle.book.specs.Capture.{bodyLength, recordsOf}
+use Rattle.book.specs.CaptureOpening.{deliverRow, rateIn, doubtIn, lengthIn, openCaptureOf}
+use Rattle.session.specs.declared.Opened.{Opened}
+use Rattle.session.specs.View.{bookOf, Good}
+use Rattle.session.specs.Calls.{openedOf, Opening}
+use Rattle.session.specs.Laws.{opens}
+use Rattle.capture.specs.Rest.{rest-length}
+use Rattle.opening.proofs.Checked.{too-short, too-long, other-version, other-total, other-doubt, opening-refused, delivering}
+use Rattle.opening.proofs.open_capture.Statement.{statement}
+use Rattle.opening.proofs.open_capture.Tie as tie
+
+refused-requires : tie.Need-refused-requires
+refused-requires c κs = search needs
+
+returns : tie.Need-returns
+returns c = rw (c .refused .ensures) (too-short _ (c .before .if1 .taken))
+
+refused-requires-2 : tie.Need-refused-requires-2
+refused-requires-2 c κs = search needs
+
+returns-2 : tie.Need-returns-2
+returns-2 c = rw (c .refused2 .ensures) (too-long _ (c .before .if2 .taken))
+
+shared-slice-read-if3 : tie.Need-shared-slice-read-if3
+shared-slice-read-if3 c = search needs
+
+refused-requires-3 : tie.Need-refused-requires-3
+refused-requires-3 c κs = search needs
+
+returns-3 : tie.Need-returns-3
+returns-3 c =
+    rw (c .refused3 .ensures)
+    (other-version _ (c .before .before .before .before .if1 .left) (c .before .before .before .if2 .left) (c .before .if3 .taken))
+
+shared-slice-read-length : tie.Need-shared-slice-read-length
+shared-slice-read-length c = search needs
+
+cast-length : tie.Need-cast-length
+cast-length c = omega (arith, c .shared-slice-known3 .given 1)
+
+mul-length : tie.Need-mul-length
+mul-length c = omega (arith, c .shared-slice-known3 .given 1)
+
+shared-slice-read-length-2 : tie.Need-shared-slice-read-length-2
+shared-slice-read-length-2 c = search needs
+
+cast-length-2 : tie.Need-cast-length-2
+cast-length-2 c = omega (arith, c .shared-slice-known4 .given 2)
+
+add-length : tie.Need-add-length
+add-length c = omega (arith, c .shared-slice-known4 .given 1, c .shared-slice-known4 .given 2)
+
+shared-slice-read-doubt : tie.Need-shared-slice-read-doubt
+shared-slice-read-doubt c = search needs
+
+cast-doubt : tie.Need-cast-doubt
+cast-doubt c = omega (arith, c .shared-slice-known5 .given 4)
+
+add-if4 : tie.Need-add-if4
+add-if4 c = omega (arith, c .shared-slice-known5 .given 1, c .shared-slice-known5 .given 2)
+
+refused-requires-4 : tie.Need-refused-requires-4
+refused-requires-4 c κs = search needs
+
+returns-4 : tie.Need-returns-4
+returns-4 c =
+    rw (c .refused4 .ensures)
+    (other-total _ (c .before .before .before .before .before .before .before .before .if1 .left) (c .before .before .before .before .before .before .before .if2 .left) (c .before .before .before .before .before .if3 .left) (c .before .if4 .taken))
+
+add-if5 : tie.Need-add-if5
+add-if5 c = omega (arith, c .before .shared-slice-known5 .given 4)
+
+refused-requires-5 : tie.Need-refused-requires-5
+refused-requires-5 c κs = search needs
+
+returns-5 : tie.Need-returns-5
+returns-5 c =
+    rw (c .refused5 .ensures)
+    (other-doubt _ (c .before .before .before .before .before .before .before .before .before .if1 .left) (c .before .before .before .before .before .before .before .before .if2 .left) (c .before .before .before .before .before .before .if3 .left) (c .before .if5 .taken))
+
+add-start : tie.Need-add-start
+add-start c = search needs
+
+shared-slice-read-open : tie.Need-shared-slice-read-open
+shared-slice-read-open c = search needs
+
+cast-open : tie.Need-cast-open
+cast-open c = omega (arith, c .shared-slice-known6 .given 3)
+
+sub-open : tie.Need-sub-open
+sub-open c = search needs
+
+part-open-start : tie.Need-part-open-start
+part-open-start c = search needs
+
+part-open-end : tie.Need-part-open-end
+part-open-end c = search needs
+
+open-requires : tie.Need-open-requires
+open-requires c κs = search needs
+
+returns-6 : tie.Need-returns-6
+returns-6 c =
+    let bytes : List ℕ = c .before .before .before .before .before .before .before .before .before .before .before .before .before .before .before .args .bytes .now in
+    let list : List ℕ = take (5 + doubtIn bytes - 5) (drop 5 bytes) in
+    let e : c .before .before .«open» .result ≡ openedOf (rateIn bytes) list = c .before .before .«open» .ensures in
+    subst (λ (o : Opened). Opening (openCaptureOf bytes) o) (sym e)
+    (opening-refused bytes (c .before .before .before .before .before .before .before .before .before .before .before .before .before .if1 .left) (c .before .before .before .before .before .before .before .before .before .before .before .before .if2 .left) (c .before .before .before .before .before .before .before .before .before .before .if3 .left) (c .before .before .before .before .before .before .if4 .left) (c .before .before .before .before .before .if5 .left) list refl
+    (λ n. c .if6 .taken (ap (λ (o : Opened). o .refusal) e ∙ n)))
+
+sub-deliver-records : tie.Need-sub-deliver-records
+sub-deliver-records c = search needs
+
+part-deliver-records-start : tie.Need-part-deliver-records-start
+part-deliver-records-start c = search needs
+
+part-deliver-records-end : tie.Need-part-deliver-records-end
+part-deliver-records-end c = search needs
+
+deliver-records-requires : tie.Need-deliver-records-requires
+deliver-records-requires c κs =
+    let bytes : List ℕ = c .before .before .before .before .before .before .before .before .before .before .before .before .before .before .before .before .args .bytes .now in
+    let list : List ℕ = take (5 + doubtIn bytes - 5) (drop 5 bytes) in
+    let total : lengthIn bytes + 3 ≡ length bytes = c .before .before .before .before .before .before .before .if4 .left in
+    let body : lengthIn bytes ≡ bodyLength (doubtIn bytes) = c .before .before .before .before .before .before .if5 .left in (
+      subst (λ (o : Opened). Good (o .session)) (sym (c .before .before .before .«open» .ensures)) (opens (rateIn bytes) list .good),
+      rest-length (5 + doubtIn bytes) 2112 bytes (omega arith),
+    )
+
+returns-7 : tie.Need-returns-7
+returns-7 c =
+    let bytes : List ℕ = c .before .before .before .before .before .before .before .before .before .before .before .before .before .before .before .before .before .args .bytes .now in
+    let list : List ℕ = take (5 + doubtIn bytes - 5) (drop 5 bytes) in
+    let rest : List ℕ = take (length bytes - (5 + doubtIn bytes)) (drop (5 + doubtIn bytes) bytes) in
+    let e : c .before .before .before .before .«open» .result ≡ openedOf (rateIn bytes) list = c .before .before .before .before .«open» .ensures in
+    delivering bytes (c .before .before .before .before .before .before .before .before .before .before .before .before .before .before .before .if1 .left) (c .before .before .before .before .before .before .before .before .before .before .before .before .before .before .if2 .left) (c .before .before .before .before .before .before .before .before .before .before .before .before .if3 .left) (c .before .before .before .before .before .before .before .before .if4 .left) (c .before .before .before .before .before .before .before .if5 .left) list refl
+    rest (c .deliver-records .result) (sym (ap (λ (o : Opened). o .refusal) e) ∙ c .before .before .if6 .left) refl
+    (subst (λ (o : Opened). Opening (deliverRow (bookOf (o .session)) (recordsOf places rest)) (c .deliver-records .result)) e
+    (c .deliver-records .ensures))
+
+pub open-capture-spec : {M : Type 1} → statement M
+open-capture-spec =
+    tie.close
+    (tie.spec
+    refused-requires
+    returns
+    refused-requires-2
+    returns-2
+    shared-slice-read-if3
+    refused-requires-3
+    returns-3
+    shared-slice-read-length
+    cast-length
+    mul-length
+    shared-slice-read-length-2
+    cast-length-2
+    add-length
+    shared-slice-read-doubt
+    cast-doubt
+    add-if4
+    refused-requires-4
+    returns-4
+    add-if5
+    refused-requires-5
+    returns-5
+    add-start
+    shared-slice-read-open
+    cast-open
+    sub-open
+    part-open-start
+    part-open-end
+    open-requires
+    returns-6
+    sub-deliver-records
+    part-deliver-records-start
+    part-deliver-records-end
+    deliver-records-requires
+    returns-7)

@@ -1,0 +1,112 @@
+-- `writing::write_head` meets its contract: five stores, and the list copied behind them.
+use borrow.Author.Needs.{needs}
+use native.Mathlib.Omega.{arith}
+use mathlib.Core.Path.{_≡_, sym, ap, ap₂, _∙_}
+use mathlib.Core.List.{List, _∷_}
+use Prim.Native.Nat.{ℕ, _+_, _-_, _/_, _%_}
+use lib.ListN.{length, set, take, length-set}
+use lib.Seq.{length-take-le}
+use borrow.Rule.Slice.PartMut.{same-len-mid}
+use Rattle.lists.specs.Over.{over-same}
+use Rattle.capture.specs.Calls.{headBytes}
+use Rattle.capture.specs.Rest.{rest-length}
+use Rattle.writing.proofs.Parts.{five-stores, head-end}
+use Rattle.writing.proofs.write_head.Statement.{statement}
+use Rattle.writing.proofs.write_head.Tie as tie
+
+add-length : tie.Need-add-length
+add-length c = search needs
+
+slice-write-out : tie.Need-slice-write-out
+slice-write-out c = search needs
+
+cast-out : tie.Need-cast-out
+cast-out c = search needs
+
+slice-write-out-2 : tie.Need-slice-write-out-2
+slice-write-out-2 c = simp length-set (omega arith)
+
+cast-out-2 : tie.Need-cast-out-2
+cast-out-2 c = search needs
+
+slice-write-out-3 : tie.Need-slice-write-out-3
+slice-write-out-3 c = simp length-set (omega arith)
+
+slice-write-out-4 : tie.Need-slice-write-out-4
+slice-write-out-4 c = simp length-set (omega arith)
+
+cast-out-3 : tie.Need-cast-out-3
+cast-out-3 c = search needs
+
+slice-write-out-5 : tie.Need-slice-write-out-5
+slice-write-out-5 c = simp length-set (omega arith)
+
+array-share-prefix-list : tie.Need-array-share-prefix-list
+array-share-prefix-list c =
+    let l : length (c .before .args .t2) ≡ 8 = search needs in
+    omega (arith, c .before .pre .0)
+
+slice-aggregate-copy : tie.Need-slice-aggregate-copy
+slice-aggregate-copy c =
+    let s = c .before .before in
+    let l : length (s .args .t2) ≡ 8 = search needs in
+    sym (length-take-le (s .args .count) (s .args .t2) (omega (arith, s .pre .0)))
+
+sub-copy : tie.Need-sub-copy
+sub-copy c = simp length-set (omega arith)
+
+part-copy-start : tie.Need-part-copy-start
+part-copy-start c = simp length-set (omega arith)
+
+part-copy-end : tie.Need-part-copy-end
+part-copy-end c = search needs
+
+copy-requires : tie.Need-copy-requires
+copy-requires c κs = search needs
+
+same-length : tie.Need-same-length
+same-length c =
+    let a = c .before .before .before .before .before .before .args in
+    let n : ℕ = 2114 + a .count in
+    let stored : List ℕ = set (set (set (set (set (a .out .now) 0 1) 1 (n / 256)) 2 (n % 256)) 3 (a .rate)) 4 (a .count) in
+    same-len-mid 5 (length stored - 5) stored (c .before .before .copy .last .1 .0) (c .before .before .copy .kept .1 .0)
+    ∙ five-stores (a .out .now) 1 (n / 256) (n % 256) (a .rate) (a .count)
+
+returns : tie.Need-returns
+unfolding headBytes
+returns c =
+    let s = c .before .before .before .before .before .before in
+    let a = s .args in
+    let n : ℕ = 2114 + a .count in
+    let stored : List ℕ = set (set (set (set (set (a .out .now) 0 1) 1 (n / 256)) 2 (n % 256)) 3 (a .rate)) 4 (a .count) in
+    let l : length (a .t2) ≡ 8 = search needs in
+    let list : List ℕ = take (a .count) (a .t2) in
+    let m : length list ≡ a .count = length-take-le (a .count) (a .t2) (omega (arith, s .pre .0)) in
+    let room = rest-length 5 (a .count) stored (five-stores (a .out .now) 1 (n / 256) (n % 256) (a .rate) (a .count) ∙ s .pre .1) in
+    let bytes : List ℕ = c .before .before .copy .last .1 .0 in
+    let e : bytes ≡ list = c .before .before .copy .ensures ∙ over-same _ _ (room ∙ sym m) in
+    let k : length bytes ≡ a .count = ap length e ∙ m in
+    head-end (a .out .now) bytes 1 (n / 256) (n % 256) (a .rate) (a .count) (omega (arith, s .pre .1))
+    ∙ ap₂ (λ n (b : List ℕ). 1 ∷ (2114 + n) / 256 ∷ (2114 + n) % 256 ∷ a .rate ∷ n ∷ b) (sym m) e
+
+pub write-head-spec : {M : Type 1} → statement M
+write-head-spec =
+    tie.close
+    (tie.spec
+    add-length
+    slice-write-out
+    cast-out
+    slice-write-out-2
+    cast-out-2
+    slice-write-out-3
+    slice-write-out-4
+    cast-out-3
+    slice-write-out-5
+    array-share-prefix-list
+    slice-aggregate-copy
+    sub-copy
+    part-copy-start
+    part-copy-end
+    copy-requires
+    same-length
+    returns)
