@@ -1,9 +1,9 @@
 // Text in a lent buffer: each function puts some behind the first `at` bytes and answers where the text then ends.
 ghost use mathlib.Core.Path.{_≡_};
 ghost use mathlib.Core.List.{map, _++_};
-ghost use Prim.Native.Nat.{_+_, _≤_, _<_};
+ghost use Prim.Native.Nat.{_+_, _*_, _≤_, _<_};
 ghost use lib.ListN.{length};
-ghost use Rattle.show.specs.Text.{decimalOf, hexOf, numberLine, totalIn, testsIn, headingOf, messageLine, refusedLine};
+ghost use Rattle.show.specs.Text.{space, decimalOf, hexOf, numberLine, totalIn, testsIn, headingOf, messageLine, refusedLine};
 ghost use Rattle.show.specs.Appended.{Appended};
 
 fn put_bytes(bytes: &[u8], out: &mut [u8], at: usize) -> usize
@@ -42,16 +42,22 @@ fn byte(x: u8) -> u64
     x as u64
 }
 
+fn pair(high: u8, low: u8) -> u64
+    ensures { λ r. ⌜ (r ≡ 256 * high + low) × (r < 65536) ⌝ }
+{
+    256 * byte(high) + byte(low)
+}
+
 fn total_in(report: [u8; 8]) -> u64
     ensures { λ r. ⌜ r ≡ totalIn report ⌝ }
 {
-    16777216 * byte(report[0]) + 65536 * byte(report[1]) + 256 * byte(report[2]) + byte(report[3])
+    65536 * pair(report[0], report[1]) + pair(report[2], report[3])
 }
 
 fn tests_in(report: [u8; 8]) -> u64
     ensures { λ r. ⌜ r ≡ testsIn report ⌝ }
 {
-    256 * byte(report[4]) + byte(report[5])
+    pair(report[4], report[5])
 }
 
 fn hex_digit(symbol: u8) -> u8
@@ -85,14 +91,22 @@ fn put_message(message: &[u8], out: &mut [u8], at: usize) -> usize
     put_bytes(b"\n", out, after)
 }
 
+// The first three numbers of the heading.
+fn put_cost(rate: u8, doubt: usize, total: u64, out: &mut [u8]) -> usize
+    requires { ⌜ 256 ≤ length (now out) ⌝ }
+    ensures { λ r. ⌜ Appended (now (out .entry)) 0 (numberLine rate space ++ numberLine doubt space ++ numberLine total space) r (now (out .exit)) × (r ≤ 63) ⌝ }
+{
+    let after_rate = put_number(rate as u64, b' ', out, 0);
+    let after_doubt = put_number(doubt as u64, b' ', out, after_rate);
+    put_number(total, b' ', out, after_doubt)
+}
+
 // The line `rate d total tests pinned changed`; the last four are read from the report.
 fn put_heading(rate: u8, doubt: usize, report: [u8; 8], out: &mut [u8]) -> usize
     requires { ⌜ 256 ≤ length (now out) ⌝ }
     ensures { λ r. ⌜ Appended (now (out .entry)) 0 (headingOf rate doubt report) r (now (out .exit)) × (r ≤ 126) ⌝ }
 {
-    let after_rate = put_number(rate as u64, b' ', out, 0);
-    let after_doubt = put_number(doubt as u64, b' ', out, after_rate);
-    let after_total = put_number(total_in(report), b' ', out, after_doubt);
+    let after_total = put_cost(rate, doubt, total_in(report), out);
     let after_tests = put_number(tests_in(report), b' ', out, after_total);
     let after_pinned = put_number(byte(report[6]), b' ', out, after_tests);
     put_number(byte(report[7]), b'\n', out, after_pinned)
