@@ -23,8 +23,8 @@ use Rattle.book.specs.Closing.{Closed, reportLength, closeOf}
 use Rattle.session.specs.declared.Session.{Session}
 use Rattle.session.specs.View.{bookOf, Good}
 use Rattle.session.specs.Answering.{Closing}
-use Rattle.show.specs.Text.{headingOf, messageLine, refusedLine}
-use Rattle.show.specs.Appended.{Appended}
+use Rattle.text.specs.Text.{headingOf, messageLine, refusedLine}
+use Rattle.text.specs.Appended.{Appended}
 use Rattle.show.specs.Shown.{answerLines, closedLines, openedLines}
 
 pub opened-refused : (o : Outcome) → (o .number ≡ accepted → ⊥) → openedLines o ≡ refusedLine (o .number)

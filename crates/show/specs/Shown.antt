@@ -11,7 +11,7 @@ use Rattle.refusals.specs.Refusal.{accepted}
 use Rattle.book.specs.Book.{Book, Outcome}
 use Rattle.book.specs.CaptureOpening.{openCaptureOf}
 use Rattle.book.specs.Closing.{reportLength, Closed, closeOf}
-use Rattle.show.specs.Text.{headingOf, messageLine, refusedLine}
+use Rattle.text.specs.Text.{headingOf, messageLine, refusedLine}
 
 unfoldable pub answerLines : Book → Closed → List ℕ
 answerLines book c =

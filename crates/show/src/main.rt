@@ -1,7 +1,5 @@
 // Reads a capture from standard input and prints what its session closes with: `rate d total tests pinned changed`, then the message
 // in hexadecimal digits; or `refused N`. No more than 4,096 bytes are read: a capture is shorter, and a longer input is refused by its size.
-mod text;
-
 use libc::STDIN_FILENO;
 use libc::STDOUT_FILENO;
 use session::Session;
@@ -9,7 +7,7 @@ ghost use mathlib.Core.Path.{_≡_};
 ghost use Prim.Native.Nat.{_≤_};
 ghost use lib.ListN.{length, replicate};
 ghost use Rattle.session.specs.View.{bookOf, Good};
-ghost use Rattle.show.specs.Appended.{Appended};
+ghost use Rattle.text.specs.Appended.{Appended};
 ghost use Rattle.show.specs.Shown.{closedLines, shownOf};
 
 // Closes a session into a message buffer of zeros, as long as its rate asks for.

@@ -1,8 +1,8 @@
 -- The lines are those of the capture's book, opened or refused.
 use mathlib.Core.Path.{_∙_, ap, sym}
 use Rattle.book.specs.CaptureOpening.{openCaptureOf}
-use Rattle.show.specs.Text.{refusedLine}
-use Rattle.show.specs.Appended.{appended-as}
+use Rattle.text.specs.Text.{refusedLine}
+use Rattle.text.specs.Appended.{appended-as}
 use Rattle.show.specs.Shown.{closedLines, shownOf}
 use Rattle.show.proofs.Showing.{opened-refused, opened-accepted}
 use borrow.Author.Needs.{needs}

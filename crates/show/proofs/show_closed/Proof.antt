@@ -4,7 +4,7 @@ use Prim.Native.Nat.{ℕ}
 use native.Mathlib.Omega.{arith}
 use lib.ListN.{length, replicate, length-replicate}
 use Rattle.book.specs.Closing.{reportLength}
-use Rattle.show.specs.Appended.{appended-as}
+use Rattle.text.specs.Appended.{appended-as}
 use Rattle.show.proofs.Showing.{shows-refused, shows-closed}
 use borrow.Author.Needs.{needs}
 use Rattle.show.proofs.show_closed.Statement.{statement}

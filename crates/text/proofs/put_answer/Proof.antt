@@ -1,8 +1,8 @@
 -- The heading, and then the message.
-use Rattle.show.specs.Appended.{appended-both}
+use Rattle.text.specs.Appended.{appended-both}
 use borrow.Author.Needs.{needs}
-use Rattle.show.proofs.text.put_answer.Statement.{statement}
-use Rattle.show.proofs.text.put_answer.Tie as tie
+use Rattle.text.proofs.put_answer.Statement.{statement}
+use Rattle.text.proofs.put_answer.Tie as tie
 
 put-heading-requires : tie.Need-put-heading-requires
 put-heading-requires c κs = search needs

@@ -11,7 +11,7 @@ use native.Mathlib.Omega.{arith, pow-step}
 use lib.Dec.{lit<}
 use borrow.Author.Tests.{lt-ltb, le-ltb}
 use Rattle.io.specs.Digits.{glyph, digits, Fewest}
-use Rattle.show.specs.Text.{decimalWithin}
+use Rattle.text.specs.Text.{decimalWithin}
 
 few : (most n : ℕ) → n < 10 → decimalWithin (suc most) n ≡ glyph n ∷ []
 unfolding decimalWithin

@@ -13,7 +13,7 @@ use native.Mathlib.Numerals.{add-one}
 use native.Mathlib.Omega.{arith}
 use lib.ListN.{length, getD, set, take}
 use lib.Seq.{paste, paste-zero, paste-suc, take-paste, length-paste, take-all}
-use Rattle.show.specs.Appended.{Appended}
+use Rattle.text.specs.Appended.{Appended}
 
 pub record Putting (d : List ℕ) (at : ℕ) (s : List ℕ) (i : ℕ) (out : List ℕ) : Type 0 where
   pub within : i ≤ length s

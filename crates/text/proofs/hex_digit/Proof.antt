@@ -1,9 +1,9 @@
 -- By the two cases of a digit.
 use borrow.Author.Tests.{lt-ltb, le-ltb}
-use Rattle.show.specs.Text.{hexOf}
+use Rattle.text.specs.Text.{hexOf}
 use borrow.Author.Needs.{needs}
-use Rattle.show.proofs.text.hex_digit.Statement.{statement}
-use Rattle.show.proofs.text.hex_digit.Tie as tie
+use Rattle.text.proofs.hex_digit.Statement.{statement}
+use Rattle.text.proofs.hex_digit.Tie as tie
 
 add-result : tie.Need-add-result
 add-result c = search needs

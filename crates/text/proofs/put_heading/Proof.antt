@@ -3,11 +3,11 @@ use mathlib.Core.Path.{_≡_, ap}
 use mathlib.Core.List.{List, _++_}
 use Prim.Native.Nat.{ℕ}
 use native.Mathlib.Omega.{arith}
-use Rattle.show.specs.Text.{space, newline, headingOf, numberLine}
-use Rattle.show.specs.Appended.{Appended, appended-as, appended-both}
+use Rattle.text.specs.Text.{space, newline, headingOf, numberLine}
+use Rattle.text.specs.Appended.{Appended, appended-as, appended-both}
 use borrow.Author.Needs.{needs}
-use Rattle.show.proofs.text.put_heading.Statement.{statement}
-use Rattle.show.proofs.text.put_heading.Tie as tie
+use Rattle.text.proofs.put_heading.Statement.{statement}
+use Rattle.text.proofs.put_heading.Tie as tie
 
 -- a number that a call has read from the report
 number-as : {before after : List ℕ} {at r n m : ℕ} (end : ℕ) → n ≡ m → Appended before at (numberLine n end) r after

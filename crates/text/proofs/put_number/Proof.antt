@@ -1,10 +1,10 @@
 -- The digits, and then the byte that ends them.
 use native.Mathlib.Omega.{arith}
-use Rattle.show.specs.Text.{numberLine}
-use Rattle.show.specs.Appended.{appended-both}
+use Rattle.text.specs.Text.{numberLine}
+use Rattle.text.specs.Appended.{appended-both}
 use borrow.Author.Needs.{needs}
-use Rattle.show.proofs.text.put_number.Statement.{statement}
-use Rattle.show.proofs.text.put_number.Tie as tie
+use Rattle.text.proofs.put_number.Statement.{statement}
+use Rattle.text.proofs.put_number.Tie as tie
 
 put-decimal-requires : tie.Need-put-decimal-requires
 put-decimal-requires c κs = search needs

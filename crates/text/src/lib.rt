@@ -1,10 +1,11 @@
-// Text in a lent buffer: each function puts some behind the first `at` bytes and answers where the text then ends.
+// What `show` prints, as text in a lent buffer: each function puts some behind the first `at` bytes and answers where the text then ends.
+// It knows of no session: a report is its eight bytes.
 ghost use mathlib.Core.Path.{_≡_};
 ghost use mathlib.Core.List.{map, _++_};
 ghost use Prim.Native.Nat.{_+_, _*_, _≤_, _<_};
 ghost use lib.ListN.{length};
-ghost use Rattle.show.specs.Text.{space, decimalOf, hexOf, numberLine, totalIn, testsIn, headingOf, messageLine, refusedLine};
-ghost use Rattle.show.specs.Appended.{Appended};
+ghost use Rattle.text.specs.Text.{space, decimalOf, hexOf, numberLine, totalIn, testsIn, headingOf, messageLine, refusedLine};
+ghost use Rattle.text.specs.Appended.{Appended};
 
 fn put_bytes(bytes: &[u8], out: &mut [u8], at: usize) -> usize
     requires { ⌜ at + length (now bytes) ≤ length (now out) ⌝ }

@@ -4,11 +4,11 @@ use Prim.Native.Nat.{ℕ, _-_}
 use lib.ListN.{length, length-map}
 use mathlib.Core.List.{List, map}
 use native.Mathlib.Omega.{arith}
-use Rattle.show.specs.Text.{hexOf}
-use Rattle.show.proofs.Put.{Putting, putting-start, putting-turn, putting-end, putting-room, putting-length, mapped-at}
+use Rattle.text.specs.Text.{hexOf}
+use Rattle.text.proofs.Put.{Putting, putting-start, putting-turn, putting-end, putting-room, putting-length, mapped-at}
 use borrow.Author.Needs.{needs}
-use Rattle.show.proofs.text.put_digits.Statement.{statement}
-use Rattle.show.proofs.text.put_digits.Tie as tie
+use Rattle.text.proofs.put_digits.Statement.{statement}
+use Rattle.text.proofs.put_digits.Tie as tie
 
 abbrev Inv-loop : tie.InvT-loop
 Inv-loop symbols out₀ at i₀ out i = Putting out₀ at (map hexOf symbols) i out

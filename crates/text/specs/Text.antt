@@ -1,4 +1,4 @@
--- Text as the program prints it, in ASCII: numbers in decimal, symbols as hexadecimal digits.
+-- Text as `show` prints it, in ASCII: numbers in decimal, symbols as hexadecimal digits.
 --
 --   space, newline       32 and 10
 --   decimalOf n          the decimal digits of n, the highest first, as few as hold it

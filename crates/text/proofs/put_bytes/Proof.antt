@@ -2,10 +2,10 @@
 use mathlib.Core.Path.{refl}
 use Prim.Native.Nat.{_-_}
 use lib.ListN.{length}
-use Rattle.show.proofs.Put.{Putting, putting-start, putting-turn, putting-end, putting-room, putting-length}
+use Rattle.text.proofs.Put.{Putting, putting-start, putting-turn, putting-end, putting-room, putting-length}
 use borrow.Author.Needs.{needs}
-use Rattle.show.proofs.text.put_bytes.Statement.{statement}
-use Rattle.show.proofs.text.put_bytes.Tie as tie
+use Rattle.text.proofs.put_bytes.Statement.{statement}
+use Rattle.text.proofs.put_bytes.Tie as tie
 
 abbrev Inv-loop : tie.InvT-loop
 Inv-loop bytes out₀ at i₀ out i = Putting out₀ at bytes i out

@@ -1,11 +1,11 @@
 -- The digits, and then the end of the line.
 use native.Mathlib.Omega.{arith}
 use lib.ListN.{length-map}
-use Rattle.show.specs.Text.{hexOf, messageLine}
-use Rattle.show.specs.Appended.{appended-both}
+use Rattle.text.specs.Text.{hexOf, messageLine}
+use Rattle.text.specs.Appended.{appended-both}
 use borrow.Author.Needs.{needs}
-use Rattle.show.proofs.text.put_message.Statement.{statement}
-use Rattle.show.proofs.text.put_message.Tie as tie
+use Rattle.text.proofs.put_message.Statement.{statement}
+use Rattle.text.proofs.put_message.Tie as tie
 
 put-digits-requires : tie.Need-put-digits-requires
 put-digits-requires c κs = search needs

@@ -1,9 +1,9 @@
 -- The word, and then the number.
-use Rattle.show.specs.Text.{refusedLine}
-use Rattle.show.specs.Appended.{appended-both}
+use Rattle.text.specs.Text.{refusedLine}
+use Rattle.text.specs.Appended.{appended-both}
 use borrow.Author.Needs.{needs}
-use Rattle.show.proofs.text.put_refused.Statement.{statement}
-use Rattle.show.proofs.text.put_refused.Tie as tie
+use Rattle.text.proofs.put_refused.Statement.{statement}
+use Rattle.text.proofs.put_refused.Tie as tie
 
 slice-aggregate-put-bytes : tie.Need-slice-aggregate-put-bytes
 slice-aggregate-put-bytes c = search needs

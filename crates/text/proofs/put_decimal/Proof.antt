@@ -2,11 +2,11 @@
 use mathlib.Core.Path.{_∙_}
 use Prim.Native.Nat.{_≤_}
 use native.Mathlib.Omega.{arith}
-use Rattle.show.specs.Appended.{appended-as}
-use Rattle.show.proofs.Decimal.{decimal-digits, decimal-short}
+use Rattle.text.specs.Appended.{appended-as}
+use Rattle.text.proofs.Decimal.{decimal-digits, decimal-short}
 use borrow.Author.Needs.{needs}
-use Rattle.show.proofs.text.put_decimal.Statement.{statement}
-use Rattle.show.proofs.text.put_decimal.Tie as tie
+use Rattle.text.proofs.put_decimal.Statement.{statement}
+use Rattle.text.proofs.put_decimal.Tie as tie
 
 decimal-requires : tie.Need-decimal-requires
 decimal-requires c κs = search needs

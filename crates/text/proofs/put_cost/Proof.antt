@@ -1,9 +1,9 @@
 -- Three numbers, one behind the other.
 use native.Mathlib.Omega.{arith}
-use Rattle.show.specs.Appended.{appended-both}
+use Rattle.text.specs.Appended.{appended-both}
 use borrow.Author.Needs.{needs}
-use Rattle.show.proofs.text.put_cost.Statement.{statement}
-use Rattle.show.proofs.text.put_cost.Tie as tie
+use Rattle.text.proofs.put_cost.Statement.{statement}
+use Rattle.text.proofs.put_cost.Tie as tie
 
 put-number-requires : tie.Need-put-number-requires
 put-number-requires c κs = search needs
