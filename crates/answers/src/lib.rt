@@ -5,6 +5,10 @@ ghost use Prim.Native.Nat.{_+_, _≤_};
 ghost use lib.ListN.{take};
 ghost use Rattle.lists.specs.Words.{isBefore};
 ghost use Rattle.answers.specs.Answered.{OneOf, BetterOf};
+use candidate::Message;
+use candidate::Word;
+use candidate::rate::MOST_RATE;
+use columns::costs::PLACES;
 
 // Document 01's answer: no codeword is near, or the total of the cheapest near one, whose message stands beside it.
 pub enum Answer {
@@ -15,8 +19,8 @@ pub enum Answer {
 // The message in the first k entries, where k is the rate, and its codeword; and how many test words have a codeword within T.
 pub struct Found {
     pub answer: Answer,
-    pub message: [u8; 49],
-    pub codeword: [u8; 64],
+    pub message: Message,
+    pub codeword: Word,
     pub tests: usize,
 }
 
@@ -25,14 +29,14 @@ pub fn none_near() -> Found
 {
     Found {
         answer: Answer::NoneNear,
-        message: [0u8; 49],
-        codeword: [0u8; 64],
+        message: [0u8; MOST_RATE],
+        codeword: [0u8; PLACES],
         tests: 0,
     }
 }
 
 // Compared from symbol 0 on.
-fn before(a: [u8; 49], b: [u8; 49], k: usize) -> bool
+fn before(a: Message, b: Message, k: usize) -> bool
     requires { ⌜ k ≤ 49 ⌝ }
     ensures { λ r. ⌜ r ≡ isBefore (take k a) (take k b) ⌝ }
 {

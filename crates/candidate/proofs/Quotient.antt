@@ -40,7 +40,7 @@ z-is : (row : List ℕ) (M : ℕ) → coef (listed 64 (zAt row)) ≡ withZ K16 M
 unfolding zPart part
 z-is row M = coef-z row ∙ sym (polynomial-z M (coef row))
 
-module _ {k : ℕ} (rate : Ranged k) (row function : List ℕ) (divided : Divided (listed 64 (plainAt row)) (listed 64 (zAt row)) (k + 5) function) where
+module _ {k : ℕ} (rate : Ranged k) (row function : List ℕ) (divided : Divided (listed 64 (plainAt row)) (listed 64 (zAt row)) (mOf k) function) where
   candidate-is : listed k (symbolIn function) ≡ messageFrom k (coef function)
   unfolding messageFrom symbolFrom symbolIn
   candidate-is =
@@ -71,17 +71,18 @@ module _ {k : ℕ} (rate : Ranged k) (row function : List ℕ) (divided : Divide
         powers-fit = omega (arith, b, radius w, genus-4, rate .least);
         terms-fit = omega (arith, b, radius w, genus-4);
       })
-      ∙ ap₂ (λ r q. quotient K16 4 (j .0) r (k + 5) q) (z-is row (mOf k)) (plain-is row (mOf k)))
+      ∙ ap₂ (λ r q. quotient K16 4 (j .0) r (mOf k) q) (z-is row (mOf k)) (plain-is row (mOf k)))
       ∙ near-divides word w (h .through) (h .leads) (h .unspent) m (j .1) f
 
 -- from the steps of the code
-pub candidate-made : {k : ℕ} → Ranged k → (row function q0 q1 : List ℕ) (r : Candidate) → q0 ≡ listed 64 (plainAt row) → q1 ≡ listed 64 (zAt row)
-    → Divided q0 q1 (k + 5) function → take k (r .message) ≡ listed k (symbolIn function) → r .codeword ≡ encodeOf k (take k (r .message))
+pub candidate-made : {k : ℕ} → Ranged k → (row function q0 q1 : List ℕ) (m : ℕ) (r : Candidate) → q0 ≡ listed 64 (plainAt row) → q1 ≡ listed 64 (zAt row)
+    → m ≡ mOf k → Divided q0 q1 m function → take k (r .message) ≡ listed k (symbolIn function) → r .codeword ≡ encodeOf k (take k (r .message))
     → CandidateOf k row r
-candidate-made {k} rate row function q0 q1 r q0-is q1-is quotient-is m-is encoded =
-    let divided = subst₂ (λ p q. Divided p q (k + 5) function) q0-is q1-is quotient-is in
+candidate-made {k} rate row function q0 q1 m r q0-is q1-is m-is quotient-is message-is encoded =
+    let divided = subst (λ n. Divided (listed 64 (plainAt row)) (listed 64 (zAt row)) n function) m-is
+    (subst₂ (λ p q. Divided p q m function) q0-is q1-is quotient-is) in
     record {
-      word = subst (Word 16 k) (sym m-is) (candidate-word rate row function divided);
+      word = subst (Word 16 k) (sym message-is) (candidate-word rate row function divided);
       encoded = encoded;
-      only = λ word h m f. sym (only rate row function divided word h m f) ∙ sym m-is;
+      only = λ word h n f. sym (only rate row function divided word h n f) ∙ sym message-is;
     }

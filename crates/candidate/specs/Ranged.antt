@@ -2,10 +2,10 @@
 --
 --   Ranged k        k from 27 to 49
 --   workable        such a rate has a T
---   reach-is        T, as it is computed
---   limit-is        2(T + g + M) + 1, as it is computed
-use mathlib.Core.Path.{_≡_}
-use Prim.Native.Nat.{ℕ, _+_, _-_, _*_, _/_, _≤_}
+--   top-small       M is from 32 to 54
+--   reach-small     T is at most 28
+--   limit-small     the limit is at most 127, the largest key that a row has room for
+use Prim.Native.Nat.{ℕ, _≤_}
 use native.Mathlib.Omega.{arith}
 use Rattle.hermitian.specs.Repair.{limit}
 use Rattle.near.specs.Near.{mOf, reachOf}
@@ -19,10 +19,14 @@ pub record Ranged (k : ℕ) : Type 0 where
 pub workable : {k : ℕ} → Ranged k → Workable k
 workable h = record { least = omega arith; most = omega arith }
 
-pub reach-is : {k : ℕ} → Ranged k → (52 - k) / 2 ≡ reachOf k
-unfolding reachOf mOf
-reach-is h = omega arith
+pub top-small : {k : ℕ} → Ranged k → (32 ≤ mOf k) × (mOf k ≤ 54)
+unfolding mOf
+top-small h = omega arith
 
-pub limit-is : {k : ℕ} → Ranged k → 2 * ((52 - k) / 2 + 6 + (k + 5)) + 1 ≡ limitOf k
-unfolding limitOf limit mOf
-limit-is h = omega (arith, reach-is h, genus-4)
+pub reach-small : (k : ℕ) → reachOf k ≤ 28
+unfolding reachOf
+reach-small k = omega arith
+
+pub limit-small : {k : ℕ} → Ranged k → limitOf k ≤ 127
+unfolding limitOf limit reachOf mOf
+limit-small h = omega (arith, genus-4)

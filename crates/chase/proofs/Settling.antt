@@ -1,6 +1,6 @@
 -- From the settled places to the root of the tree: flags, nodes, and the known rates.
 use mathlib.Core.Bool.{Bool, true, false, cond}
-use mathlib.Core.Path.{_≡_, refl, sym, ap, _∙_, subst}
+use mathlib.Core.Path.{_≡_, refl, sym, ap, _∙_, subst, subst₂}
 use mathlib.Core.List.{List, [], _∷_, _++_, List·Memᴰ, List·Memᴰ·head, List·Memᴰ·tail, List·Memᴰ·cases-cons, List·Memᴰ·append-cases, List·Memᴰ·eq-of-singleton, List·Memᴰ·not-nil, Memᴰ·append-left, Memᴰ·append-right}
 use mathlib.Core.Logic.{_⊎_, inl, inr, ⊎-elim}
 use Prim.Native.Nat.{ℕ, zero, suc, _+_, _-_, _%_, _<_, _≤_}
@@ -128,14 +128,14 @@ place-small doubtful doubt i l h b P =
 -- ---- the root of the tree
 
 module _ (k : ℕ) (costs doubtful : List ℕ) (doubt : ℕ) (f : Found) where
-  pub root : (word flags : List ℕ) (rows : List (List ℕ)) (leads : List ℕ) (L : ℕ) → Asked k costs doubtful doubt
+  pub root : (word flags : List ℕ) (rows : List (List ℕ)) (leads : List ℕ) (m L : ℕ) → Asked k costs doubtful doubt
       → word ≡ bestWord 64 (columnOf 16 costs)
-      → (Places (take doubt doubtful) → Flagged (take doubt doubtful) flags) → L ≡ limitOf k
-      → Basis K16 8 L (ThroughNodes (k + 5) (settled word flags 64)) (polynomials (k + 5) rows) (leadAt leads)
+      → (Places (take doubt doubtful) → Flagged (take doubt doubtful) flags) → m ≡ mOf k → L ≡ limitOf k
+      → Basis K16 8 L (ThroughNodes m (settled word flags 64)) (polynomials m rows) (leadAt leads)
       → SearchOf k (columnOf 16 costs) word (drop (doubt - doubt) (take doubt doubtful)) rows leads doubt f
       → Sound k (columnOf 16 costs) f → NearestCall k costs doubtful doubt f
-  unfolding testWords mOf
-  root word flags rows leads L A w-is flagged L-is B S sound =
+  unfolding testWords
+  root word flags rows leads m L A w-is flagged m-is L-is B S sound =
       let z : doubt - doubt ≡ 0 = omega arith in
       let S′ : SearchOf k (columnOf 16 costs) word (take doubt doubtful) rows leads doubt f =
       subst (λ n. SearchOf k (columnOf 16 costs) word (drop n (take doubt doubtful)) rows leads doubt f) z S in
@@ -145,7 +145,7 @@ module _ (k : ℕ) (costs doubtful : List ℕ) (doubt : ℕ) (f : Found) where
       (record {
         nodes = settled word flags 64;
         decided = settled-decided word flags (take doubt doubtful) (flagged (A .places));
-        basis = subst (λ l. Basis K16 8 l (ThroughNodes (k + 5) (settled word flags 64)) (polynomials (k + 5) rows) (leadAt leads)) L-is B;
+        basis = subst₂ (λ n l. Basis K16 8 l (ThroughNodes n (settled word flags 64)) (polynomials n rows) (leadAt leads)) m-is L-is B;
       })
       (A .places)) in
       record { asked = λ _. N; refused = λ n. absurd (n A); encoded = sound .encoded }

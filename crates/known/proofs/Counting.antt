@@ -2,7 +2,7 @@
 use mathlib.Core.Bool.{false}
 use mathlib.Core.Path.{_≡_, sym, ap, ap₂, _∙_, subst}
 use mathlib.Core.List.{List, []}
-use Prim.Native.Nat.{ℕ, _+_, _-_, _/_, _%_, _^_, _<_, _≤_}
+use Prim.Native.Nat.{ℕ, _+_, _-_, _%_, _^_, _<_, _≤_}
 use native.Mathlib.Omega.{arith}
 use lib.Dec.{leb, ltb}
 use lib.ListN.{length, getD, take, drop, set, length-take, length-drop}
@@ -15,7 +15,6 @@ use Rattle.near.specs.Near.{mOf, reachOf}
 use Rattle.near.specs.Tree.{Places}
 use Rattle.answers.specs.declared.Answer.the-variants.{NoneNear, Near}
 use Rattle.answers.specs.declared.Found.{Found}
-use Rattle.candidate.specs.Ranged.{Ranged, reach-is}
 use Rattle.known.specs.Left.{left-cons, left-none, places-rest, split-places, twice}
 use Rattle.known.specs.Known.{isNear, laterOf, filledOf, governsOf, testsWithin, WithinOf}
 use Rattle.known.specs.Governing.{within-nil, within-cons, within-append}
@@ -40,12 +39,10 @@ module _ (k : ℕ) (known : Found) (word ps : List ℕ) where
   unfolding governsOf isNear
   governs-none e = sym (rw e)
 
-  pub governs-some : Ranged k → (t left d : ℕ) (agreed : List ℕ) → known .answer ≡ Near t → length ps ≡ left → agreed ≡ filledOf (known .codeword) word ps
-      → d ≡ differing 64 (known .codeword) agreed → ltb (d + left + (52 - k) / 2) (59 - k) ≡ governsOf k known word ps
-  unfolding governsOf isNear mOf
-  governs-some rate t left d agreed near size agreed-is d-is =
-      let m : 59 - k ≡ 64 - (k + 5) = omega arith in
-      rw (near, d-is, agreed-is, sym size, reach-is rate, m)
+  pub governs-some : (t left d r m : ℕ) (agreed : List ℕ) → known .answer ≡ Near t → length ps ≡ left → agreed ≡ filledOf (known .codeword) word ps
+      → d ≡ differing 64 (known .codeword) agreed → r ≡ reachOf k → m ≡ 64 - mOf k → ltb (d + left + r) m ≡ governsOf k known word ps
+  unfolding governsOf isNear
+  governs-some t left d r m agreed near size agreed-is d-is r-is m-is = rw (near, d-is, agreed-is, sym size, r-is, m-is)
 
 module _ (first known : Found) where
   pub later-none : first .answer ≡ NoneNear → known ≡ laterOf first known
@@ -57,12 +54,12 @@ module _ (first known : Found) where
   later-some t e = sym (rw e)
 
 -- one word, by the distance that is measured
-module _ {k : ℕ} (rate : Ranged k) (c word : List ℕ) (d : ℕ) (d-is : d ≡ differing 64 c word) where
-  pub within-yes : d ≤ (52 - k) / 2 → 1 ≡ bit (leb (differing 64 c word) (reachOf k))
-  within-yes h = sym (ap bit (le-leb (differing 64 c word) (reachOf k) (omega (arith, reach-is rate))))
+module _ (k : ℕ) (c word : List ℕ) (d r : ℕ) (d-is : d ≡ differing 64 c word) (r-is : r ≡ reachOf k) where
+  pub within-yes : d ≤ r → 1 ≡ bit (leb (differing 64 c word) (reachOf k))
+  within-yes h = sym (ap bit (le-leb (differing 64 c word) (reachOf k) (omega arith)))
 
-  pub within-no : (52 - k) / 2 < d → 0 ≡ bit (leb (differing 64 c word) (reachOf k))
-  within-no h = sym (ap bit (lt-leb (differing 64 c word) (reachOf k) (omega (arith, reach-is rate))))
+  pub within-no : r < d → 0 ≡ bit (leb (differing 64 c word) (reachOf k))
+  within-no h = sym (ap bit (lt-leb (differing 64 c word) (reachOf k) (omega arith)))
 
 -- where no place is left
 pub within-end : (k : ℕ) (columns : ℕ → List ℕ) (c word ps : List ℕ) (left n : ℕ) → left ≡ 0 → ps ≡ [] → n ≡ bit (leb (differing 64 c word) (reachOf k))

@@ -5,7 +5,7 @@ ghost use Prim.Native.Nat.{_-_, _≤_};
 ghost use lib.Dec.{leb};
 ghost use lib.ListN.{take, drop};
 ghost use Rattle.lists.specs.Count.{bit};
-ghost use Rattle.soft.specs.Column.{columnOf};
+ghost use Rattle.soft.specs.Column.{places, symbols, columnOf};
 ghost use Rattle.soft.specs.Total.{differing};
 ghost use Rattle.near.specs.Near.{reachOf};
 ghost use Rattle.candidate.specs.Ranged.{Ranged};
@@ -13,10 +13,15 @@ ghost use Rattle.known.specs.Known.{laterOf, filledOf, governsOf, Within
 use answers::Answer;
 use answers::Found;
 use answers::none_near;
+use candidate::Word;
 use candidate::distance;
+use candidate::rate::least_distance;
+use candidate::rate::reach;
 use columns::column::best;
 use columns::column::second;
+use columns::costs::PLACES;
 use columns::costs::column_of;
+use doubt::MOST_DOUBT;
 
 // The known codeword for later branches: the one just found, if there is one.
 pub fn later(first: Found, known: Found) -> Found
@@ -30,33 +35,27 @@ pub fn later(first: Found, known: Found) -> Found
 }
 
 // The word with the codeword's symbols at the doubtful places left.
-fn filled(
-    codeword: [u8; 64],
-    word: [u8; 64],
-    doubtful: [u8; 8],
-    doubt: usize,
-    left: usize,
-) -> [u8; 64]
+fn filled(codeword: Word, word: Word, doubtful: [u8; MOST_DOUBT], doubt: usize, left: usize) -> Word
     requires { ⌜ (doubt ≤ 8) × (left ≤ doubt) ⌝ }
     ensures { λ r. ⌜ r ≡ filledOf codeword word (drop (doubt - left) (take doubt doubtful)) ⌝ }
 {
     let mut out = word;
     let mut i = doubt - left;
     while i < doubt {
-        let place = (doubtful[i] % 64) as usize;
+        let place = doubtful[i] as usize % PLACES;
         out[place] = codeword[place];
         i += 1;
     }
     out
 }
 
-// Is no other codeword than the known one within T of any test word below a node? Two codewords differ in at least 59 - k places; and the
+// Is no other codeword than the known one within T of any test word below a node? Two codewords differ in at least 64 - M places; and the
 // known one differs from such a test word only in decided places in which it differs from the word, and in places left.
 pub fn governs(
     known: Found,
-    word: [u8; 64],
+    word: Word,
     k: usize,
-    doubtful: [u8; 8],
+    doubtful: [u8; MOST_DOUBT],
     doubt: usize,
     left: usize,
 ) -> bool
@@ -69,15 +68,15 @@ pub fn governs(
     }
     let codeword = known.codeword;
     let agreed = filled(codeword, word, doubtful, doubt, left);
-    distance(codeword, agreed) + left + (52 - k) / 2 < 59 - k
+    distance(codeword, agreed) + left + reach(k) < least_distance(k)
 }
 
 // 1 for a word within T of the codeword, and 0 for any other.
-fn within(codeword: [u8; 64], word: [u8; 64], k: usize) -> usize
+fn within(codeword: Word, word: Word, k: usize) -> usize
     requires { ⌜ Ranged k ⌝ }
-    ensures { λ r. ⌜ r ≡ bit (leb (differing 64 codeword word) (reachOf k)) ⌝ }
+    ensures { λ r. ⌜ r ≡ bit (leb (differing places codeword word) (reachOf k)) ⌝ }
 {
-    if distance(codeword, word) <= (52 - k) / 2 {
+    if distance(codeword, word) <= reach(k) {
         return 1;
     }
     0
@@ -85,22 +84,22 @@ fn within(codeword: [u8; 64], word: [u8; 64], k: usize) -> usize
 
 // How many test words below a node are within T of the codeword.
 pub fn tests_within(
-    codeword: [u8; 64],
-    word: [u8; 64],
+    codeword: Word,
+    word: Word,
     costs: &[u16],
     k: usize,
-    doubtful: [u8; 8],
+    doubtful: [u8; MOST_DOUBT],
     doubt: usize,
     left: usize,
 ) -> usize
     requires { ⌜ Ranged k × (doubt ≤ 8) × (left ≤ doubt) ⌝ }
     ensures { λ r.
-        ⌜ WithinOf k (columnOf 16 (now (costs .entry))) codeword word (drop (doubt - left) (take doubt doubtful)) left r ⌝ }
+        ⌜ WithinOf k (columnOf symbols (now (costs .entry))) codeword word (drop (doubt - left) (take doubt doubtful)) left r ⌝ }
 {
     if left == 0 {
         return within(codeword, word, k);
     }
-    let place = (doubtful[doubt - left] % 64) as usize;
+    let place = doubtful[doubt - left] as usize % PLACES;
     let column = column_of(costs, place);
     let symbol = best(column);
     let other = second(column);

@@ -2,33 +2,33 @@
 use mathlib.Core.Path.{_≡_, refl, ap, _∙_}
 use mathlib.Core.List.{List, [], _∷_}
 use mathlib.Core.Option.{Option, none}
-use Prim.Native.Nat.{ℕ, _-_, _/_, _<_, _≤_}
+use Prim.Native.Nat.{ℕ, _<_, _≤_}
 use native.Mathlib.Omega.{arith}
 use lib.ListN.{take}
 use Rattle.lists.specs.Count.{bit}
 use Rattle.soft.specs.Total.{differing, totalOf}
-use Rattle.near.specs.Near.{codewordNear, isSome, testsNear, messageCost}
+use Rattle.near.specs.Near.{reachOf, codewordNear, isSome, testsNear, messageCost}
 use Rattle.near.specs.Laws.{answer-one, tests-cons, tests-nil}
 use Rattle.answers.specs.declared.Answer.the-variants.{NoneNear, Near}
 use Rattle.answers.specs.declared.Found.{Found}
 use Rattle.answers.specs.Nearest.{nearest-none, nearest-some}
 use Rattle.answers.specs.Answered.{Sound}
 use Rattle.candidate.specs.declared.Candidate.{Candidate}
-use Rattle.candidate.specs.Ranged.{Ranged, workable, reach-is}
+use Rattle.candidate.specs.Ranged.{Ranged, workable}
 use Rattle.candidate.specs.Candidate.{CandidateOf, candidate-near, candidate-far}
 use Rattle.tree.specs.Searching.{LeafOf}
 
 module _ {k : ℕ} (rate : Ranged k) (columns : ℕ → List ℕ) (word row : List ℕ) (held : Candidate) (C : CandidateOf k row held) (d : ℕ)
-    (d-is : d ≡ differing 64 (held .codeword) word) where
+    (d-is : d ≡ differing 64 (held .codeword) word) (r : ℕ) (r-is : r ≡ reachOf k) where
   one-count : (o : Option (List ℕ)) → codewordNear k word ≡ o → testsNear k (word ∷ []) ≡ bit (isSome o)
   one-count o e = tests-cons k word [] ∙ omega (arith, tests-nil k, ap (λ x. bit (isSome x)) e)
 
-  pub leaf-none : (f : Found) → f .answer ≡ NoneNear → f .tests ≡ 0 → (52 - k) / 2 < d → LeafOf k columns word row f
+  pub leaf-none : (f : Found) → f .answer ≡ NoneNear → f .tests ≡ 0 → r < d → LeafOf k columns word row f
   leaf-none f e n far =
       record {
         few = omega arith;
         finds = λ h.
-            let c = candidate-far C word h (omega (arith, d-is, reach-is rate)) in
+            let c = candidate-far C word h (omega arith) in
             nearest-none f e n (one-count none c) (answer-one (workable rate) columns word ∙ c);
       }
 
@@ -43,11 +43,11 @@ module _ {k : ℕ} (rate : Ranged k) (columns : ℕ → List ℕ) (word row : Li
     pub leaf-sound : Sound k columns answered
     leaf-sound = record { word = λ t e. C .word; encoded = λ t e. C .encoded; cost = λ t e. let s : t ≡ total = cc in s ∙ cost-is }
 
-    pub leaf-some : d ≤ (52 - k) / 2 → LeafOf k columns word row answered
+    pub leaf-some : d ≤ r → LeafOf k columns word row answered
     leaf-some close =
         record {
           few = omega arith;
           finds = λ h.
-              let c = candidate-near C word h (omega (arith, d-is, reach-is rate)) in
+              let c = candidate-near C word h (omega arith) in
               nearest-some answered total refl (one-count _ c) (answer-one (workable rate) columns word ∙ c) cost-is;
         }

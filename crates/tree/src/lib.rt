@@ -4,7 +4,7 @@ ghost use mathlib.Core.Path.{_≡_};
 ghost use Prim.Native.Nat.{_-_, _<_, _≤_};
 ghost use lib.ListN.{take, drop};
 ghost use Rattle.basis.specs.Choice.{leadAt};
-ghost use Rattle.soft.specs.Column.{columnOf};
+ghost use Rattle.soft.specs.Column.{places, symbols, columnOf};
 ghost use Rattle.soft.specs.Total.{totalOf};
 ghost use Rattle.answers.specs.Answered.{Sound};
 ghost use Rattle.candidate.specs.Ranged.{Ranged};
@@ -13,36 +13,43 @@ use answers::Answer;
 use answers::Found;
 use answers::better;
 use answers::none_near;
+use basis::CLASSES;
 use basis::Leads;
 use basis::Rows;
+use candidate::Word;
 use candidate::candidate_of;
 use candidate::distance;
+use candidate::rate::largest_key;
+use candidate::rate::reach;
 use columns::column::best;
 use columns::column::second;
+use columns::costs::PLACES;
 use columns::costs::column_of;
+use doubt::MOST_DOUBT;
 use interpolation::node::extend;
 use known::below;
 use known::governs;
 use known::later;
 use known::tests_within;
+use rows::Row;
 use totals::total::total;
 
-fn cost(costs: &[u16], codeword: [u8; 64]) -> u32
-    ensures { λ r. ⌜ r ≡ totalOf 64 (columnOf 16 (now (costs .entry))) codeword ⌝ }
+fn cost(costs: &[u16], codeword: Word) -> u32
+    ensures { λ r. ⌜ r ≡ totalOf places (columnOf symbols (now (costs .entry))) codeword ⌝ }
 {
     total(costs, &codeword)
 }
 
 // One test word: what its row holds, if its codeword is within T of the word.
-fn leaf(row: [u8; 96], word: [u8; 64], costs: &[u16], k: usize) -> Found
+fn leaf(row: Row, word: Word, costs: &[u16], k: usize) -> Found
     requires { ⌜ Ranged k ⌝ }
     ensures { λ r.
-        ⌜ LeafOf k (columnOf 16 (now (costs .entry))) word row r × Sound k (columnOf 16 (now (costs .entry))) r ⌝ }
+        ⌜ LeafOf k (columnOf symbols (now (costs .entry))) word row r × Sound k (columnOf symbols (now (costs .entry))) r ⌝ }
 {
     let held = candidate_of(row, k);
     let message = held.message;
     let codeword = held.codeword;
-    if (52 - k) / 2 < distance(codeword, word) {
+    if reach(k) < distance(codeword, word) {
         return none_near();
     }
     Found {
@@ -72,7 +79,7 @@ fn least(leads: Leads) -> usize
 {
     let mut r = 0;
     let mut q = 0;
-    while q < 8 {
+    while q < CLASSES {
         r = lower(leads, r, q);
         q += 1;
     }
@@ -83,20 +90,20 @@ fn least(leads: Leads) -> usize
 fn branch(
     rows: Rows,
     leads: Leads,
-    word: [u8; 64],
+    word: Word,
     costs: &[u16],
     k: usize,
-    doubtful: [u8; 8],
+    doubtful: [u8; MOST_DOUBT],
     doubt: usize,
     left: usize,
     known: Found,
     place: usize,
     symbol: u8,
 ) -> Found
-    requires { ⌜ Ranged k × (doubt ≤ 8) × (left ≤ doubt) × (place < 64) × Sound k (columnOf 16 (now costs)) known ⌝ }
+    requires { ⌜ Ranged k × (doubt ≤ 8) × (left ≤ doubt) × (place < 64) × Sound k (columnOf symbols (now costs)) known ⌝ }
     ensures { λ r.
-        ⌜ BranchOf k (columnOf 16 (now (costs .entry))) word place symbol (drop (doubt - left) (take doubt doubtful)) rows leads left r
-        × Sound k (columnOf 16 (now (costs .entry))) r ⌝ }
+        ⌜ BranchOf k (columnOf symbols (now (costs .entry))) word place symbol (drop (doubt - left) (take doubt doubtful)) rows leads left r
+        × Sound k (columnOf symbols (now (costs .entry))) r ⌝ }
 {
     let mut next_word = word;
     next_word[place] = symbol;
@@ -105,7 +112,7 @@ fn branch(
         let tests = tests_within(codeword, next_word, costs, k, doubtful, doubt, left);
         return below(known, tests);
     }
-    let limit = 2 * ((52 - k) / 2 + 6 + (k + 5)) + 1;
+    let limit = largest_key(k);
     let mut next_leads = leads;
     let next_rows = extend(rows, &mut next_leads, limit, place, symbol);
     search(
@@ -126,20 +133,20 @@ fn branch(
 pub fn search(
     rows: Rows,
     leads: Leads,
-    word: [u8; 64],
+    word: Word,
     costs: &[u16],
     k: usize,
-    doubtful: [u8; 8],
+    doubtful: [u8; MOST_DOUBT],
     doubt: usize,
     left: usize,
     known: Found,
 ) -> Found
-    requires { ⌜ Ranged k × (doubt ≤ 8) × (left ≤ doubt) × Sound k (columnOf 16 (now costs)) known ⌝ }
+    requires { ⌜ Ranged k × (doubt ≤ 8) × (left ≤ doubt) × Sound k (columnOf symbols (now costs)) known ⌝ }
     ensures { λ r.
-        ⌜ SearchOf k (columnOf 16 (now (costs .entry))) word (drop (doubt - left) (take doubt doubtful)) rows leads left r
-        × Sound k (columnOf 16 (now (costs .entry))) r ⌝ }
+        ⌜ SearchOf k (columnOf symbols (now (costs .entry))) word (drop (doubt - left) (take doubt doubtful)) rows leads left r
+        × Sound k (columnOf symbols (now (costs .entry))) r ⌝ }
 {
-    let limit = 2 * ((52 - k) / 2 + 6 + (k + 5)) + 1;
+    let limit = largest_key(k);
     let class = least(leads);
     if limit < leads[class] {
         return none_near();
@@ -147,7 +154,7 @@ pub fn search(
     if left == 0 {
         return leaf(rows[class], word, costs, k);
     }
-    let place = (doubtful[doubt - left] % 64) as usize;
+    let place = doubtful[doubt - left] as usize % PLACES;
     let column = column_of(costs, place);
     let symbol = best(column);
     let other = second(column);

@@ -1,5 +1,6 @@
 -- The message by division, and its codeword.
 use Rattle.candidate.proofs.Quotient.{candidate-made}
+use Rattle.near.specs.Near.{mOf}
 use borrow.Author.Needs.{needs}
 use Rattle.candidate.proofs.candidate_of.Statement.{statement}
 use Rattle.candidate.proofs.candidate_of.Tie as tie
@@ -10,10 +11,11 @@ without-z-requires c κs = search needs
 with-z-requires : tie.Need-with-z-requires
 with-z-requires c κs = search needs
 
-add-divide : tie.Need-add-divide
-add-divide c = search needs
+top-order-requires : tie.Need-top-order-requires
+top-order-requires c κs = search needs
 
 divide-requires : tie.Need-divide-requires
+unfolding mOf
 divide-requires c κs = search needs
 
 message-of-requires : tie.Need-message-of-requires
@@ -24,8 +26,9 @@ encoded-requires c κs = search needs
 
 returns : tie.Need-returns
 returns c =
-    candidate-made (c .before .before .before .before .before .pre) _ _ _ _ _ (c .before .before .before .before .without-z .ensures)
-    (c .before .before .before .with-z .ensures) (c .before .before .divide .ensures) (c .before .message-of .ensures) (c .encoded .ensures)
+    candidate-made (c .before .before .before .before .before .before .pre) _ _ _ _ _ _ (c .before .before .before .before .before .without-z .ensures)
+    (c .before .before .before .before .with-z .ensures) (c .before .before .before .top-order .ensures) (c .before .before .divide .ensures)
+    (c .before .message-of .ensures) (c .encoded .ensures)
 
 pub candidate-of-spec : {M : Type 1} → statement M
 candidate-of-spec =
@@ -33,7 +36,7 @@ candidate-of-spec =
     (tie.spec
     without-z-requires
     with-z-requires
-    add-divide
+    top-order-requires
     divide-requires
     message-of-requires
     encoded-requires

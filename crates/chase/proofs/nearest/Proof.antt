@@ -1,10 +1,11 @@
 -- The root of the tree: all settled places are decided.
 use mathlib.Core.Path.{sym, _∙_}
 use mathlib.Core.Logic.{inl, inr}
+use native.Mathlib.Omega.{arith}
 use borrow.Author.Tests.{not-true, not-false}
 use Rattle.chase.specs.Call.{Asked}
 use Rattle.answers.specs.Answered.{sound-none}
-use Rattle.candidate.specs.Ranged.{limit-is}
+use Rattle.candidate.specs.Ranged.{top-small, limit-small}
 use Rattle.chase.proofs.Settling.{known-range, root}
 use Rattle.chase.proofs.Asking.{asked-yes, unasked, unasked-rate, unasked-doubt, unasked-test}
 use borrow.Author.Needs.{needs}
@@ -48,43 +49,36 @@ may-ask c = asked-yes _ _ _ _ (sym (c .before .asked .ensures) ∙ not-false _ (
 best-word-requires : tie.Need-best-word-requires
 best-word-requires c κs = search needs
 
-add-m : tie.Need-add-m
-add-m c = search needs
+top-order-requires : tie.Need-top-order-requires
+top-order-requires c κs = search needs
 
-sub-limit : tie.Need-sub-limit
-sub-limit c = search needs
-
-add-limit : tie.Need-add-limit
-add-limit c = search needs
-
-add-limit-2 : tie.Need-add-limit-2
-add-limit-2 c = search needs
-
-mul-limit : tie.Need-mul-limit
-mul-limit c = search needs
-
-add-limit-3 : tie.Need-add-limit-3
-add-limit-3 c = search needs
+largest-key-requires : tie.Need-largest-key-requires
+largest-key-requires c κs = search needs
 
 settled-places-requires : tie.Need-settled-places-requires
-settled-places-requires c κs = may-ask (c .before) .few
+settled-places-requires c κs = may-ask (c .before .before .before) .few
 
 settle-requires : tie.Need-settle-requires
-settle-requires c κs = search needs
+settle-requires c κs =
+    let r = known-range _ (may-ask (c .before .before .before .before .before) .known) in
+    let m = top-small r in
+    let m-is = c .before .before .before .top-order .ensures in
+    (omega (arith, m, m-is), omega (arith, m, m-is), omega (arith, limit-small r, c .before .before .largest-key .ensures))
 
 none-near-requires-5 : tie.Need-none-near-requires-5
 none-near-requires-5 c κs = search needs
 
 search-requires : tie.Need-search-requires
 search-requires c κs =
-    let a = may-ask (c .before .before .before .before .before) in
+    let a = may-ask (c .before .before .before .before .before .before .before) in
     (known-range _ (a .known), a .few, search needs, sound-none _ (c .none-near5 .ensures .0))
 
 returns-5 : tie.Need-returns-5
 returns-5 c =
-    let a = may-ask (c .before .before .before .before .before .before) in
-    root _ _ _ _ _ _ _ _ _ _ a (c .before .before .before .before .before .best-word .ensures) (c .before .before .before .before .settled-places .ensures)
-    (limit-is (known-range _ (a .known))) (c .before .before .settle .ensures) (c .search .ensures .0) (c .search .ensures .1)
+    let a = may-ask (c .before .before .before .before .before .before .before .before) in
+    root _ _ _ _ _ _ _ _ _ _ _ a (c .before .before .before .before .before .before .before .best-word .ensures) (c .before .before .before .before .settled-places .ensures)
+    (c .before .before .before .before .before .before .top-order .ensures) (c .before .before .before .before .before .largest-key .ensures)
+    (c .before .before .settle .ensures) (c .search .ensures .0) (c .search .ensures .1)
 
 pub nearest-spec : {M : Type 1} → statement M
 nearest-spec =
@@ -100,12 +94,8 @@ nearest-spec =
     none-near-requires-4
     returns-4
     best-word-requires
-    add-m
-    sub-limit
-    add-limit
-    add-limit-2
-    mul-limit
-    add-limit-3
+    top-order-requires
+    largest-key-requires
     settled-places-requires
     settle-requires
     none-near-requires-5

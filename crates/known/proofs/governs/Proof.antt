@@ -3,6 +3,7 @@ use mathlib.Core.Path.{_≡_, sym, subst}
 use Prim.Native.Nat.{_≤_}
 use lib.ListN.{length}
 use Rattle.soft.specs.TotalLaws.{differing-le}
+use Rattle.candidate.specs.Ranged.{reach-small}
 use Rattle.known.proofs.Counting.{governs-none, governs-some, rest-length}
 use borrow.Author.Needs.{needs}
 use Rattle.known.proofs.governs.Statement.{statement}
@@ -32,23 +33,25 @@ add-result c =
     let d = measured c in
     search needs
 
-sub-result : tie.Need-sub-result
-sub-result c = search needs
+reach-requires : tie.Need-reach-requires
+reach-requires c κs = search needs
 
 add-result-2 : tie.Need-add-result-2
 add-result-2 c =
-    let d = measured c in
+    let d = measured (c .before) in
+    let r : c .reach .result ≤ 28 = subst (λ n. n ≤ 28) (sym (c .reach .ensures)) (reach-small _) in
     search needs
 
-sub-result-2 : tie.Need-sub-result-2
-sub-result-2 c = search needs
+least-distance-requires : tie.Need-least-distance-requires
+least-distance-requires c κs = search needs
 
 returns-2 : tie.Need-returns-2
 returns-2 c =
-    let l : length (c .before .before .before .before .before .args .doubtful) ≡ 8 = search needs in
-    let h = c .before .before .before .before .before .pre in
-    let g = c .before .before .before .enum-told2 .given in
-    governs-some _ _ _ _ (h .0) _ _ _ _ (g .1) (rest-length _ _ _ l (h .1) (h .2)) (c .before .filled .ensures) (c .distance .ensures)
+    let l : length (c .before .before .before .before .before .before .before .args .doubtful) ≡ 8 = search needs in
+    let h = c .before .before .before .before .before .before .before .pre in
+    let g = c .before .before .before .before .before .enum-told2 .given in
+    governs-some _ _ _ _ _ _ _ _ _ _ (g .1) (rest-length _ _ _ l (h .1) (h .2)) (c .before .before .before .filled .ensures) (c .before .before .distance .ensures)
+    (c .before .reach .ensures) (c .least-distance .ensures)
 
 pub governs-spec : {M : Type 1} → statement M
 governs-spec =
@@ -60,7 +63,7 @@ governs-spec =
     filled-requires
     distance-requires
     add-result
-    sub-result
+    reach-requires
     add-result-2
-    sub-result-2
+    least-distance-requires
     returns-2)

@@ -1,13 +1,13 @@
 -- A node is spent, a leaf, or has two branches with one place less; a branch is governed by the known codeword, or is a node again.
-use mathlib.Core.Path.{_≡_, refl, ap, _∙_}
-use Prim.Native.Nat.{ℕ, _+_, _*_, _<_}
+use mathlib.Core.Path.{_≡_, refl, sym, ap, _∙_, subst}
+use Prim.Native.Nat.{ℕ, _+_, _*_, _<_, _≤_}
 use native.Mathlib.Omega.{arith}
 use lib.ListN.{length}
 use Rattle.basis.specs.Choice.{leadAt}
 use Rattle.soft.specs.Column.{bestOf, secondOf}
 use Rattle.answers.specs.Answered.{sound-none, sound-one}
 use Rattle.known.specs.Governing.{sound-below, later-one}
-use Rattle.candidate.specs.Ranged.{limit-is}
+use Rattle.candidate.specs.Ranged.{limit-small}
 use Rattle.tree.proofs.Descending.{branch-known, branch-node, node-spent, node-leaf, node-branch}
 use Rattle.known.specs.Left.{tests-fit, none-left, some-left}
 use borrow.Author.Needs.{needs}
@@ -27,6 +27,7 @@ use Rattle.tree.proofs.leaf.Reads as leaf-reads
 use Rattle.tree.proofs.least.Reads as least-reads
 use Rattle.answers.proofs.none_near.Reads as none-near-reads
 use Rattle.known.proofs.tests_within.Reads as tests-within-reads
+use Rattle.candidate.proofs.rate.largest_key.Reads as largest-key-reads
 use Rattle.interpolation.proofs.node.extend.Reads as extend-reads
 use Rattle.columns.proofs.column.best.Reads as best-reads
 use Rattle.columns.proofs.column.second.Reads as second-reads
@@ -61,6 +62,8 @@ branch-claims t = (
   tests-within-reads.Learnt,
   below-reads.Asked,
   below-reads.Learnt,
+  largest-key-reads.Asked,
+  largest-key-reads.Learnt,
   extend-reads.Asked,
   extend-reads.Learnt,
   search-below t,
@@ -69,6 +72,8 @@ branch-claims t = (
 
 abbrev search-claims : ℕ → search-lts.Claims
 search-claims t = (
+  largest-key-reads.Asked,
+  largest-key-reads.Learnt,
   least-reads.Asked,
   least-reads.Learnt,
   none-near-reads.Asked,
@@ -113,58 +118,30 @@ branch-returns t c =
       sound-below (h .4) (c .below .ensures),
     )
 
-branch-sub-limit : (t : ℕ) → branch-lts.Need-sub-limit (branch-claims t) (branch-at t) branch.Post
-branch-sub-limit t c = search needs
-
-branch-add-limit : (t : ℕ) → branch-lts.Need-add-limit (branch-claims t) (branch-at t) branch.Post
-branch-add-limit t c = search needs
-
-branch-add-limit-2 : (t : ℕ) → branch-lts.Need-add-limit-2 (branch-claims t) (branch-at t) branch.Post
-branch-add-limit-2 t c = search needs
-
-branch-add-limit-3 : (t : ℕ) → branch-lts.Need-add-limit-3 (branch-claims t) (branch-at t) branch.Post
-branch-add-limit-3 t c = search needs
-
-branch-mul-limit : (t : ℕ) → branch-lts.Need-mul-limit (branch-claims t) (branch-at t) branch.Post
-branch-mul-limit t c = search needs
-
-branch-add-limit-4 : (t : ℕ) → branch-lts.Need-add-limit-4 (branch-claims t) (branch-at t) branch.Post
-branch-add-limit-4 t c = search needs
+branch-largest-key-requires : (t : ℕ) → branch-lts.Need-largest-key-requires (branch-claims t) (branch-at t) branch.Post
+branch-largest-key-requires t c κs = search needs
 
 branch-extend-requires : (t : ℕ) → branch-lts.Need-extend-requires (branch-claims t) (branch-at t) branch.Post
-branch-extend-requires t c κs = search needs
+branch-extend-requires t c κs =
+    let l = subst (λ n. n ≤ 127) (sym (c .before .largest-key .ensures)) (limit-small (c .before .before .before .before .before .pre .1 .0)) in
+    (search needs, l, search needs)
 
 branch-search-requires : (t : ℕ) → branch-lts.Need-search-requires (branch-claims t) (branch-at t) branch.Post
 branch-search-requires t c κs =
-    let h = c .before .before .before .before .before .pre in
+    let h = c .before .before .before .before .before .before .pre in
     (omega (arith, h .0), (h .1 .0, h .1 .1, h .1 .2, h .1 .4))
 
 branch-returns-2 : (t : ℕ) → branch-lts.Need-returns-2 (branch-claims t) (branch-at t) branch.Post
 branch-returns-2 t c =
-    let h = c .before .before .before .before .before .before .pre .1 in
-    (branch-node (h .0) _ _ _ _ _ _ _ _ (branch-lengths t (c .before .before .before .before .before .before)) _ (limit-is (h .0)) _ _ (c .before .extend .ensures) _ (c .search .ensures .0), c .search .ensures .1)
+    let h = c .before .before .before .before .before .before .before .pre .1 in
+    (branch-node (h .0) _ _ _ _ _ _ _ _ (branch-lengths t (c .before .before .before .before .before .before .before)) _ (c .before .before .before .largest-key .ensures) _ _ (c .before .extend .ensures) _ (c .search .ensures .0), c .search .ensures .1)
 
 search-lengths : (t : ℕ) (c : search-lts.Start (search-claims t) (search-at t) search′.Post)
     → length (c .args .t6) ≡ 8
 search-lengths t c = search needs
 
-search-sub-limit : (t : ℕ) → search-lts.Need-sub-limit (search-claims t) (search-at t) search′.Post
-search-sub-limit t c = search needs
-
-search-add-limit : (t : ℕ) → search-lts.Need-add-limit (search-claims t) (search-at t) search′.Post
-search-add-limit t c = search needs
-
-search-add-limit-2 : (t : ℕ) → search-lts.Need-add-limit-2 (search-claims t) (search-at t) search′.Post
-search-add-limit-2 t c = search needs
-
-search-add-limit-3 : (t : ℕ) → search-lts.Need-add-limit-3 (search-claims t) (search-at t) search′.Post
-search-add-limit-3 t c = search needs
-
-search-mul-limit : (t : ℕ) → search-lts.Need-mul-limit (search-claims t) (search-at t) search′.Post
-search-mul-limit t c = search needs
-
-search-add-limit-4 : (t : ℕ) → search-lts.Need-add-limit-4 (search-claims t) (search-at t) search′.Post
-search-add-limit-4 t c = search needs
+search-largest-key-requires : (t : ℕ) → search-lts.Need-largest-key-requires (search-claims t) (search-at t) search′.Post
+search-largest-key-requires t c κs = search needs
 
 search-least-requires : (t : ℕ) → search-lts.Need-least-requires (search-claims t) (search-at t) search′.Post
 search-least-requires t c κs = search needs
@@ -181,7 +158,7 @@ search-none-near-requires t c κs = search needs
 search-returns : (t : ℕ) → search-lts.Need-returns (search-claims t) (search-at t) search′.Post
 unfolding leadAt
 search-returns t c = (
-  node-spent (c .before .before .before .before .pre .1 .0) _ _ _ _ _ _ _ (limit-is (c .before .before .before .before .pre .1 .0)) _ (c .before .before .least .ensures) _ (c .none-near .ensures .0) (c .none-near .ensures .1) (c .before .if1 .taken),
+  node-spent (c .before .before .before .before .before .pre .1 .0) _ _ _ _ _ _ _ (c .before .before .before .largest-key .ensures) _ (c .before .before .least .ensures) _ (c .none-near .ensures .0) (c .none-near .ensures .1) (c .before .if1 .taken),
   sound-none _ (c .none-near .ensures .0),
 )
 
@@ -197,7 +174,7 @@ search-leaf-requires t c κs = search needs
 search-returns-2 : (t : ℕ) → search-lts.Need-returns-2 (search-claims t) (search-at t) search′.Post
 unfolding leadAt
 search-returns-2 t c = (
-  node-leaf (c .before .before .before .before .before .before .pre .1 .0) _ _ _ _ _ _ _ (limit-is (c .before .before .before .before .before .before .pre .1 .0)) _ (c .before .before .before .before .least .ensures) _ (c .before .before .if2 .taken) (none-left _ _ _ (c .before .before .if2 .taken)) (c .before .before .before .if1 .left) (c .leaf .ensures .0),
+  node-leaf (c .before .before .before .before .before .before .before .pre .1 .0) _ _ _ _ _ _ _ (c .before .before .before .before .before .largest-key .ensures) _ (c .before .before .before .before .least .ensures) _ (c .before .before .if2 .taken) (none-left _ _ _ (c .before .before .if2 .taken)) (c .before .before .before .if1 .left) (c .leaf .ensures .0),
   c .leaf .ensures .1,
 )
 
@@ -224,7 +201,7 @@ search-sub-branch t c = search needs
 
 search-branch-requires : (t : ℕ) → search-lts.Need-branch-requires (search-claims t) (search-at t) search′.Post
 search-branch-requires t c κs =
-    let h = c .before .before .before .before .before .before .before .pre in
+    let h = c .before .before .before .before .before .before .before .before .pre in
     (omega (arith, h .0, c .before .before .before .if2 .left), (h .1 .0, h .1 .1, omega (arith, h .1 .2), search needs, h .1 .3))
 
 search-sub-branch-2 : (t : ℕ) → search-lts.Need-sub-branch-2 (search-claims t) (search-at t) search′.Post
@@ -235,18 +212,18 @@ search-later-requires t c κs = search needs
 
 search-branch-requires-2 : (t : ℕ) → search-lts.Need-branch-requires-2 (search-claims t) (search-at t) search′.Post
 search-branch-requires-2 t c κs =
-    let h = c .before .before .before .before .before .before .before .before .before .pre in
+    let h = c .before .before .before .before .before .before .before .before .before .before .pre in
     (omega (arith, h .0, c .before .before .before .before .before .if2 .left), (h .1 .0, h .1 .1, omega (arith, h .1 .2), search needs, sound-one (c .before .branch .ensures .1) (h .1 .3) (later-one _ _ _ (c .later .ensures))))
 
 search-better-requires : (t : ℕ) → search-lts.Need-better-requires (search-claims t) (search-at t) search′.Post
 search-better-requires t c κs =
-    let h = c .before .before .before .before .before .before .before .before .before .before .pre .1 in
+    let h = c .before .before .before .before .before .before .before .before .before .before .before .pre .1 in
     (h .0 .most, tests-fit _ _ _ (omega (arith, h .1, h .2)) (c .before .before .branch .ensures .0 .few) (c .branch2 .ensures .0 .few))
 
 search-returns-3 : (t : ℕ) → search-lts.Need-returns-3 (search-claims t) (search-at t) search′.Post
 search-returns-3 t c =
-    let h = c .before .before .before .before .before .before .before .before .before .before .before .pre .1 in (
-      node-branch _ _ _ (search-lengths t (c .before .before .before .before .before .before .before .before .before .before .before)) (h .1) (h .2) (some-left _ (c .before .before .before .before .before .before .before .if2 .left)) _ _ _ _ refl _ _
+    let h = c .before .before .before .before .before .before .before .before .before .before .before .before .pre .1 in (
+      node-branch _ _ _ (search-lengths t (c .before .before .before .before .before .before .before .before .before .before .before .before)) (h .1) (h .2) (some-left _ (c .before .before .before .before .before .before .before .if2 .left)) _ _ _ _ refl _ _
           (c .before .before .before .before .before .best .ensures ∙ ap bestOf (c .before .before .before .before .before .before .column-of .ensures)) (c .before .before .before .before .second .ensures ∙ ap secondOf (c .before .before .before .before .before .before .column-of .ensures)) _ _ _ _ _ (c .before .before .before .branch .ensures .0) (c .before .branch2 .ensures .0) (c .better .ensures .0),
       sound-one (c .before .before .before .branch .ensures .1) (c .before .branch2 .ensures .1) (c .better .ensures .1),
     )
@@ -260,24 +237,14 @@ pub +branch+search-spec : {M : Type 1} → statement M
     (branch-tests-within-requires t)
     (branch-below-requires t)
     (branch-returns t)
-    (branch-sub-limit t)
-    (branch-add-limit t)
-    (branch-add-limit-2 t)
-    (branch-add-limit-3 t)
-    (branch-mul-limit t)
-    (branch-add-limit-4 t)
+    (branch-largest-key-requires t)
     (branch-extend-requires t)
     (branch-search-requires t)
     (branch-returns-2 t))
     λ t. search-lts.spec (search-claims t)
     (search-at t)
     search′.Post
-    (search-sub-limit t)
-    (search-add-limit t)
-    (search-add-limit-2 t)
-    (search-add-limit-3 t)
-    (search-mul-limit t)
-    (search-add-limit-4 t)
+    (search-largest-key-requires t)
     (search-least-requires t)
     (search-mul-if1 t)
     (search-array-read-if1 t)

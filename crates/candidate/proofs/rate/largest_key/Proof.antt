@@ -1,0 +1,38 @@
+-- The genus is 6.
+use native.Mathlib.Omega.{arith}
+use Rattle.hermitian.specs.Repair.{limit}
+use Rattle.near.specs.Near.{mOf, reachOf}
+use Rattle.near.specs.Reach.{genus-4}
+use Rattle.near.specs.Interpolated.{limitOf}
+use borrow.Author.Needs.{needs}
+use Rattle.candidate.proofs.rate.largest_key.Statement.{statement}
+use Rattle.candidate.proofs.rate.largest_key.Tie as tie
+
+reach-requires : tie.Need-reach-requires
+reach-requires c κs = search needs
+
+add-result : tie.Need-add-result
+unfolding limitOf limit mOf reachOf
+add-result c = omega arith
+
+top-order-requires : tie.Need-top-order-requires
+top-order-requires c κs = search needs
+
+add-result-2 : tie.Need-add-result-2
+unfolding limitOf limit mOf reachOf
+add-result-2 c = omega arith
+
+mul-result : tie.Need-mul-result
+unfolding limitOf limit mOf reachOf
+mul-result c = omega arith
+
+add-result-3 : tie.Need-add-result-3
+unfolding limitOf limit mOf reachOf
+add-result-3 c = omega arith
+
+returns : tie.Need-returns
+unfolding limitOf limit mOf reachOf
+returns c = omega (arith, genus-4)
+
+pub largest-key-spec : {M : Type 1} → statement M
+largest-key-spec = tie.close (tie.spec reach-requires add-result top-order-requires add-result-2 mul-result add-result-3 returns)

@@ -1,0 +1,20 @@
+-- M is below 64.
+use native.Mathlib.Omega.{arith}
+use Rattle.near.specs.Near.{mOf}
+use borrow.Author.Needs.{needs}
+use Rattle.candidate.proofs.rate.least_distance.Statement.{statement}
+use Rattle.candidate.proofs.rate.least_distance.Tie as tie
+
+top-order-requires : tie.Need-top-order-requires
+top-order-requires c κs = search needs
+
+sub-result : tie.Need-sub-result
+unfolding mOf
+sub-result c = omega arith
+
+returns : tie.Need-returns
+unfolding mOf
+returns c = omega arith
+
+pub least-distance-spec : {M : Type 1} → statement M
+least-distance-spec = tie.close (tie.spec top-order-requires sub-result returns)

@@ -1,0 +1,24 @@
+-- The two roundings are the same.
+use native.Mathlib.Omega.{arith}
+use Rattle.near.specs.Near.{mOf, reachOf}
+use borrow.Author.Needs.{needs}
+use Rattle.candidate.proofs.rate.reach.Statement.{statement}
+use Rattle.candidate.proofs.rate.reach.Tie as tie
+
+least-distance-requires : tie.Need-least-distance-requires
+least-distance-requires c κs = search needs
+
+sub-result : tie.Need-sub-result
+unfolding mOf reachOf
+sub-result c = omega arith
+
+sub-result-2 : tie.Need-sub-result-2
+unfolding mOf reachOf
+sub-result-2 c = omega arith
+
+returns : tie.Need-returns
+unfolding mOf reachOf
+returns c = omega arith
+
+pub reach-spec : {M : Type 1} → statement M
+reach-spec = tie.close (tie.spec least-distance-requires sub-result sub-result-2 returns)

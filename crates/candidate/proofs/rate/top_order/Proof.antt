@@ -1,0 +1,20 @@
+-- M is k + 5.
+use native.Mathlib.Omega.{arith}
+use Rattle.near.specs.Near.{mOf}
+use Rattle.candidate.proofs.rate.top_order.Statement.{statement}
+use Rattle.candidate.proofs.rate.top_order.Tie as tie
+
+add-result : tie.Need-add-result
+unfolding mOf
+add-result c = omega arith
+
+sub-result : tie.Need-sub-result
+unfolding mOf
+sub-result c = omega arith
+
+returns : tie.Need-returns
+unfolding mOf
+returns c = omega arith
+
+pub top-order-spec : {M : Type 1} → statement M
+top-order-spec = tie.close (tie.spec add-result sub-result returns)
