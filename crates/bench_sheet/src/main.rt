@@ -36,20 +36,17 @@ fn filled(rate: usize, list: &[u8], m: usize) -> Session {
     let opened = session::open(rate, list);
     let mut current = opened.session;
     for i in 0..64 {
-        let delivered = session::deliver(current, 63 - i, column(63 - i, m));
+        let place = 63 - i;
+        let delivered = session::deliver(current, place, column(place, m));
         let left = delivered.session;
         current = left;
     }
     current
 }
 
-fn show(n: u64) {
-    io::write_all(STDOUT_FILENO, b" ");
-    io::print_decimal(STDOUT_FILENO, n);
-}
-
 fn show_byte(n: u8) {
-    show(n as u64);
+    io::write_all(STDOUT_FILENO, b" ");
+    io::print_decimal(STDOUT_FILENO, n as u64);
 }
 
 // The name of a run, and how its frame is handed over.

@@ -16,11 +16,8 @@ open-requires c κs = search needs
 loop-holds : tie.Need-loop-holds Inv-loop μ-loop
 loop-holds c = search needs
 
-sub-deliver : tie.Need-sub-deliver Inv-loop μ-loop
-sub-deliver c = search needs
-
-sub-column : tie.Need-sub-column Inv-loop μ-loop
-sub-column c = search needs
+sub-place : tie.Need-sub-place Inv-loop μ-loop
+sub-place c = search needs
 
 column-requires : tie.Need-column-requires Inv-loop μ-loop
 column-requires c κs = search needs
@@ -48,8 +45,7 @@ filled-spec =
     μ-loop
     open-requires
     loop-holds
-    sub-deliver
-    sub-column
+    sub-place
     column-requires
     deliver-requires
     add-i
