@@ -32,7 +32,7 @@ rising-places n [] e b = places-nil
 rising-places n (p ∷ list) e b =
     let r : risingFrom (suc p) list ≡ true = and-right (leb n p) (risingFrom (suc p) list) e in
     let h = below-cons 64 p list b in
-    places-cons (h .0) (λ m. omega (arith, rising-above (suc p) list r p m)) (rising-places (suc p) list r (h .1))
+    places-cons (h .0) (λ (m : List·Memᴰ p list). omega (arith, rising-above (suc p) list r p m)) (rising-places (suc p) list r (h .1))
 
 pub fit-places : (list : List ℕ) → fitDoubt list ≡ true → Places list
 unfolding fitDoubt fitPlaces rising
