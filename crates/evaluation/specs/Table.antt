@@ -18,7 +18,7 @@ use Rattle.lists.specs.Same.{same, same-yes}
 use Rattle.galois.specs.Gf16.{times}
 use Rattle.galois.specs.Field16.{times-lt}
 use Rattle.hermitian.specs.Orders.{isPresent}
-use Rattle.curve.specs.Curve.{power, xOf}
+use Rattle.curve.specs.Curve.{power, power-nil, power-suc, xOf}
 use Rattle.code.specs.Encoding.{monomial}
 use Rattle.curve.specs.Points.{yTable, yTable-rule}
 use Rattle.code.specs.Evaluation.{ifPresent, monomialAt}
@@ -54,39 +54,79 @@ table-at p o h l =
 pub in-table : {t : List ℕ} (p : ℕ) {l : List ℕ} → p < 64 → t ≡ monomialTable → l ≡ listed 64 (entryIn t p) → l ≡ listed 64 (monomialAt p)
 in-table p h e q = q ∙ ap (λ s. listed 64 (entryIn s p)) e ∙ listed-ext 64 _ _ (λ o l. table-at p o h l)
 
--- ---- the test, with the y of the constant points
-unfoldable pub testAt : ℕ → ℕ → ℕ → ℕ
-testAt y x o = 48 + ifPresent (isPresent 4 o) (times (power x (o / 4 - o % 4)) (power y (o % 4)))
+-- ---- the test, with the y of the constant points and with powers that are made one from the other
 
-unfoldable pub testDigit : ℕ → ℕ
-testDigit i = testAt (getD yTable (i / 64) 0) (i / 256) (i % 64)
+-- v, v a, v a a, …: n of them
+unfoldable pub powersFrom : ℕ → ℕ → ℕ → List ℕ
+powersFrom zero v a = []
+powersFrom (suc n) v a = v ∷ powersFrom n (times v a) a
 
-test-digit : (i : ℕ) → i < 4096 → testDigit i ≡ digitAt i
-unfolding testDigit testAt digitAt monomialAt monomial
-test-digit i h =
-    let x : i / 256 ≡ xOf (i / 64) = omega arith in
-    ap₂ (λ y x. testAt y x (i % 64)) (yTable-rule (i / 64) (omega arith)) x
+powers-from : (n k i a : ℕ) {v : ℕ} → v ≡ power a k → i < n → getD (powersFrom n v a) i 0 ≡ power a (k + i)
+unfolding powersFrom
+powers-from zero k i a e h = absurd (omega arith)
+powers-from (suc n) k zero a e h = let m : k ≡ k + 0 = omega arith in e ∙ ap (power a) m
+powers-from (suc n) k (suc i) a e h =
+    let m : suc k + i ≡ k + suc i = omega arith in
+    powers-from n (suc k) i a (ap (λ u. times u a) e ∙ sym (power-suc a k)) (omega arith) ∙ ap (power a) m
+
+own : (i : ℕ) → 0 + i ≡ i
+own i = omega arith
+
+powers-at : (n i a : ℕ) → i < n → getD (powersFrom n 1 a) i 0 ≡ power a i
+powers-at n i a h = powers-from n 0 i a (sym (power-nil a)) h ∙ ap (power a) (own i)
 
 -- a list by its rule, from the front
-unfoldable pub front : ℕ → ℕ → (ℕ → ℕ) → List ℕ
-front zero i f = []
-front (suc n) i f = f i ∷ front n (suc i) f
+module _ {A : Type 0} where
+  unfoldable pub front : ℕ → ℕ → (ℕ → A) → List A
+  front zero i f = []
+  front (suc n) i f = f i ∷ front n (suc i) f
 
-front-listed : (n i : ℕ) (f : ℕ → ℕ) → front n i f ≡ listed n (λ k. f (i + k))
-unfolding front listed
-front-listed zero i f = refl
-front-listed (suc n) i f =
-    let here : i ≡ i + 0 = omega arith in
-    ap (λ l. f i ∷ l) (front-listed n (suc i) f ∙ listed-ext n _ _ (λ k h. ap f (next k)))
-    ∙ ap (λ j. f j ∷ listed n (λ k. f (i + suc k))) here
-    ∙ sym (listed-cons n (λ k. f (i + k)))
-  where
-    next : (k : ℕ) → suc i + k ≡ i + suc k
-    next k = omega arith
+  front-listed : (n i : ℕ) (f : ℕ → A) → front n i f ≡ listed n (λ k. f (i + k))
+  unfolding front listed
+  front-listed zero i f = refl
+  front-listed (suc n) i f =
+      let here : i ≡ i + 0 = omega arith in
+      ap (λ l. f i ∷ l) (front-listed n (suc i) f ∙ listed-ext n _ _ (λ k h. ap f (next k)))
+      ∙ ap (λ j. f j ∷ listed n (λ k. f (i + suc k))) here
+      ∙ sym (listed-cons n (λ k. f (i + k)))
+    where
+      next : (k : ℕ) → suc i + k ≡ i + suc k
+      next k = omega arith
 
-pub table-from : (t : List ℕ) → T (same t (front 4096 0 testDigit)) → t ≡ monomialTable
-unfolding monomialTable
-table-from t passes = same-yes t _ passes ∙ front-listed 4096 0 testDigit ∙ listed-ext 4096 _ _ (λ i h. ap testDigit (own i) ∙ test-digit i h)
-  where
-    own : (i : ℕ) → 0 + i ≡ i
-    own i = omega arith
+  front-at : (n i : ℕ) (f : ℕ → A) (d : A) → i < n → getD (front n 0 f) i d ≡ f i
+  front-at n i f d h = ap (λ l. getD l i d) (front-listed n 0 f) ∙ listed-at n i (λ k. f (0 + k)) d h ∙ ap f (own i)
+
+unfoldable pub xPowers : ℕ → List ℕ
+xPowers x = powersFrom 16 1 x
+
+unfoldable pub yPowers : ℕ → List ℕ
+yPowers p = powersFrom 4 1 (getD yTable p 0)
+
+unfoldable pub testAt : List ℕ → List ℕ → ℕ → ℕ
+testAt xs ys o = 48 + ifPresent (isPresent 4 o) (times (getD xs (o / 4 - o % 4) 0) (getD ys (o % 4) 0))
+
+-- the powers of each x, and of the y of each place, are lists that are made once
+unfoldable pub testDigit : List (List ℕ) → List (List ℕ) → ℕ → ℕ
+testDigit xs ys i = testAt (getD xs (i / 256) []) (getD ys (i / 64) []) (i % 64)
+
+unfoldable pub testDigits : List (List ℕ) → List (List ℕ) → List ℕ
+testDigits xs ys = front 4096 0 (testDigit xs ys)
+
+test-digit : (i : ℕ) → i < 4096 → testDigit (front 16 0 xPowers) (front 64 0 yPowers) i ≡ digitAt i
+unfolding testDigit testAt digitAt monomialAt monomial xPowers yPowers
+test-digit i h =
+    let x : i / 256 ≡ xOf (i / 64) = omega arith in
+    ap (λ a. 48 + ifPresent (isPresent 4 (i % 64)) a)
+    (ap₂ times
+    (ap (λ l. getD l (i % 64 / 4 - i % 64 % 4) 0) (front-at 16 (i / 256) xPowers [] (omega arith))
+    ∙ powers-at 16 (i % 64 / 4 - i % 64 % 4) (i / 256) (omega arith)
+    ∙ ap (λ a. power a (i % 64 / 4 - i % 64 % 4)) x)
+    (ap (λ l. getD l (i % 64 % 4) 0) (front-at 64 (i / 64) yPowers [] (omega arith))
+    ∙ powers-at 4 (i % 64 % 4) (getD yTable (i / 64) 0) (omega arith)
+    ∙ ap (λ a. power a (i % 64 % 4)) (yTable-rule (i / 64) (omega arith))))
+
+pub table-from : (t : List ℕ) → T (same t (testDigits (front 16 0 xPowers) (front 64 0 yPowers))) → t ≡ monomialTable
+unfolding monomialTable testDigits
+table-from t passes =
+    same-yes t _ passes ∙ front-listed 4096 0 (testDigit (front 16 0 xPowers) (front 64 0 yPowers))
+    ∙ listed-ext 4096 _ _ (λ i h. ap (testDigit (front 16 0 xPowers) (front 64 0 yPowers)) (own i) ∙ test-digit i h)

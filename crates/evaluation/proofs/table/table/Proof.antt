@@ -3,14 +3,13 @@ use Rattle.lists.specs.Same.{same}
 use Rattle.galois.specs.Gf16.{times}
 use Rattle.galois.specs.Binary as Binary
 use Rattle.hermitian.specs.Orders.{isPresent}
-use Rattle.curve.specs.Curve.{power}
 use Rattle.curve.specs.Points.{yTable}
-use Rattle.evaluation.specs.Table.{testAt, testDigit, front, table-from}
+use Rattle.evaluation.specs.Table.{powersFrom, xPowers, yPowers, testAt, testDigit, testDigits, front, table-from}
 use Rattle.evaluation.proofs.table.table.Statement.{statement}
 use Rattle.evaluation.proofs.table.table.Tie as tie
 
 returns : tie.Need-returns
-unfolding same front testDigit testAt isPresent yTable power times Binary.times Binary.shiftAdd Binary.xtime
+unfolding same front testDigits testDigit testAt powersFrom xPowers yPowers isPresent yTable times Binary.times Binary.shiftAdd Binary.xtime
 returns c = table-from _ tt
 
 pub table-spec : {M : Type 1} → statement M
