@@ -73,10 +73,6 @@ pub among-nil : (p : ℕ) → among p [] ≡ false
 unfolding among
 among-nil p = refl
 
-pub among-cons : (p x : ℕ) (l : List ℕ) → among p (x ∷ l) ≡ (eqb x p || among p l)
-unfolding among
-among-cons p x l = refl
-
 pub among-one : (p x : ℕ) → among p (x ∷ []) ≡ true → x ≡ p
 unfolding among
 among-one p x a = eqb-true x p (sym (or-false (eqb x p)) ∙ a)

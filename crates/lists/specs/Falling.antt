@@ -28,10 +28,6 @@ unfoldable pub fromEnd : List ℕ → ℕ → ℕ
 fromEnd [] k = 0
 fromEnd (a ∷ l) k = cond (eqb k (length l)) a (fromEnd l k)
 
-pub falling-suc : (n : ℕ) (f : ℕ → ℕ) → falling (suc n) f ≡ f n ∷ falling n f
-unfolding falling
-falling-suc n f = refl
-
 -- the first entry has the rest behind it
 fromEnd-first : (a : ℕ) (l : List ℕ) (k : ℕ) → k ≡ length l → fromEnd (a ∷ l) k ≡ a
 unfolding fromEnd

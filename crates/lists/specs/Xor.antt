@@ -1,6 +1,6 @@
 -- The laws of exclusive or that lib.Bits leaves out (it has xor-comm, xor-zero-l, xor-zero-r, xor-self, xor-lt, xor-mod, xor-shr).
 --
---   xor-assoc, xor-left-comm, xor-self-left, xor-swap   regrouping; a number against itself; a sum of sums, term by term
+--   xor-assoc, xor-left-comm, xor-swap   regrouping; a sum of sums, term by term
 --   xor-twice          the double of a sum
 --   bit-xor, mul-xor   a multiple of a sum of two bits; a sum, times a bit; mul-bit-le: a bit times a number is at most that
 --   Additive f         f takes sums to sums; additive-zero, additive-after: so zero to zero, and one after another
@@ -37,9 +37,6 @@ xor-assoc a =
 
 pub xor-left-comm : (a b c : ℕ) → bitXor a (bitXor b c) ≡ bitXor b (bitXor a c)
 xor-left-comm a b c = sym (xor-assoc a b c) ∙ ap (λ (x : ℕ). bitXor x c) (xor-comm a b) ∙ xor-assoc b a c
-
-pub xor-self-left : (a b : ℕ) → bitXor a (bitXor a b) ≡ b
-xor-self-left a b = sym (xor-assoc a a b) ∙ ap (λ (x : ℕ). bitXor x b) (xor-self a)
 
 pub xor-swap : (a b c d : ℕ) → bitXor (bitXor a b) (bitXor c d) ≡ bitXor (bitXor a c) (bitXor b d)
 xor-swap a b c d = xor-assoc a b (bitXor c d) ∙ ap (bitXor a) (xor-left-comm b c d) ∙ sym (xor-assoc a c (bitXor b d))
