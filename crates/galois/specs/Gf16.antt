@@ -6,7 +6,6 @@
 --   inverse a   the inverse of a, and 0 for 0 (inverse-zero): a ^ 14
 --   powers      the powers α ^ 0 to α ^ 14, as document 01 lists them; alpha-15: the next one is 1 again
 --   alpha-4     α ^ 4 = α + 1
---   c1, c2      bench sheet, C1 and C2
 use mathlib.Core.Path.{_≡_, refl}
 use mathlib.Core.List.{List, [], _∷_}
 use Prim.Native.Nat.{ℕ}
@@ -38,11 +37,3 @@ inverse-zero = refl
 pub alpha-15 : alpha 15 ≡ 1
 unfolding alpha Binary.power Binary.times Binary.shiftAdd Binary.xtime
 alpha-15 = refl
-
-pub c1 : times 2 9 ≡ 1
-unfolding times Binary.times Binary.shiftAdd Binary.xtime
-c1 = refl
-
-pub c2 : times 7 7 ≡ 6
-unfolding times Binary.times Binary.shiftAdd Binary.xtime
-c2 = refl

@@ -4,8 +4,7 @@
 --   remainder l r M q i      q after i steps, at the orders M, M − 1, …, each taking that multiple of the monomial times r away
 --   quotient l r M q         the function found
 --   remainder-step           where q = f·r, each step takes off the highest term of f
---   division                 so what is found is f, for every f of order at most M,
---   division-exact           and nothing remains
+--   division                 so what is found is f, for every f of order at most M
 --   repaired                 the function near a word is found from every small Q through it
 use mathlib.Core.Path.{_≡_, refl, sym, ap, ap₂, _∙_, fun-ext}
 use Prim.Native.Nat.{ℕ, zero, suc, _+_, _-_, _≤_}
@@ -15,7 +14,7 @@ use Rattle.algebra.specs.Field.{Field, add-zero, zero-add, add-self, add-assoc,
 use Rattle.algebra.specs.Coefficients.{choose, choose-yes, choose-no, plus, scale, Below, Lead}
 use Rattle.hermitian.specs.Present.{Present, decPresent, genus}
 use Rattle.hermitian.specs.Ring.{Fn, timesMonomial, timesMonomial-lead}
-use Rattle.hermitian.specs.Product.{product, product-nil, product-suc, below-product}
+use Rattle.hermitian.specs.Product.{product, product-suc, below-product}
 use Rattle.hermitian.specs.Points.{Points}
 use Rattle.hermitian.specs.Decoding.{Radius, Near, Small, PassesThrough, decoding}
 
@@ -95,11 +94,6 @@ module _ {F : Type 0} (K : Field F) (w l : ℕ) (r : ℕ → F) where
             ∙ ap (quotientAt o) (remaining M e (M - o) (omega arith) ∙ ap (λ k. product K w k f r) a)
             ∙ quotient-top o
         go o (no h) = choose-no (decLe o M) _ 𝟘 h ∙ sym (b .zero-from o (omega arith))
-
-    pub division-exact : (M : ℕ) {q : ℕ → F} → q ≡ product K w (suc M) f r → remainder M q (suc M) ≡ (λ k. 𝟘)
-    division-exact M {q} e =
-        let a : suc M - suc M ≡ 0 = omega arith in
-        remaining M e (suc M) (omega arith) ∙ ap (λ k. product K w k f r) a ∙ product-nil K w f r
 
 module _ {F : Type 0} (K : Field F) (w : ℕ) where
   -- 4.7 and 4.8 together: what the decoder finds

@@ -3,7 +3,7 @@
 --   Interpolant K w M c   c is such a Q: zero where no term stands, and from some key on
 --   withoutZ, withZ       Q0 and Q1: the coefficients without and with z, by order
 --   joined M a b          the Q with Q0 = a and Q1 = b
---   without-joined, with-joined, joined-parts   joining and taking apart undo each other
+--   without-joined, with-joined   taking apart undoes joining
 --   joined-plus, joined-scale, joined-shift   sums, multiples and multiplication by x, part by part
 --   fn-withoutZ, fn-withZ, interpolant-joined   the parts are functions on the curve, and two such make a Q
 --   below-withoutZ, below-withZ, below-joined   where the parts end, and where Q ends
@@ -80,9 +80,6 @@ module _ {F : Type 0} (K : Field F) where
         go k (no z) (no l) =
             let e : k ≡ 2 * (k / 2) + 1 = omega arith in
             ap c e ∙ g (k / 2) (omega arith) ∙ sym (h (k / 2) (omega arith)) ∙ ap d (sym e)
-
-    pub joined-parts : {c : ℕ → F} → Gap c → joined M (withoutZ c) (withZ M c) ≡ c
-    joined-parts {c} g = parts-ext (gap-joined (withoutZ c) (withZ M c)) g (without-joined _ _) (with-joined _ _)
 
     pub joined-plus : (a b c d : ℕ → F) → joined M (plus K a c) (plus K b d) ≡ plus K (joined M a b) (joined M c d)
     joined-plus a b c d =

@@ -7,20 +7,19 @@
 --   evaluation             so it is a functional in the sense of `algebra`, with multiplier x
 --   Through sample ps c    c is a Q that vanishes at sample p for each p of the list ps
 --   through-space, through-basis   they are a space, and it has a basis up to any limit
---   through-values, through-joined   what vanishing says of the two parts, and a Q made of two parts that vanishes
+--   through-joined         a Q made of two parts that vanishes
 --   least-term             the least Q in document 01's words: its highest term is before that of every other
---   least-Q-any-order      the least Q does not depend on the order of the samples
 use mathlib.Core.Path.{_≡_, refl, sym, ap, ap₂, _∙_, subst}
 use mathlib.Core.List.{List, List·Memᴰ}
 use mathlib.Core.Logic.{_⊎_, inl, inr, ⊎-elim}
 use Prim.Native.Nat.{ℕ, _*_, _≤_}
 use native.Mathlib.Nat.{eq-or-lt-of-le}
-use Rattle.algebra.specs.Field.{Field, add-cancel, add-self, ring}
+use Rattle.algebra.specs.Field.{Field, add-self, ring}
 use Rattle.algebra.specs.Coefficients.{plus, scale, shift, Lead, unit}
 use Rattle.algebra.specs.Weighted.{weighted-total, weighted-unique, weighted-plus, weighted-scale, weighted-by}
 use Rattle.algebra.specs.Subspace.{Space, Functional, Common, common-space}
 use Rattle.algebra.specs.Koetter.{Basis, koetter}
-use Rattle.algebra.specs.Least.{Least, least-any-order}
+use Rattle.algebra.specs.Least.{Least}
 use Rattle.hermitian.specs.Present.{Present}
 use Rattle.hermitian.specs.Ring.{Fn}
 use Rattle.hermitian.specs.Value.{Curve, Val, val-timesX}
@@ -80,14 +79,6 @@ module _ {F : Type 0} (K : Field F) (w : ℕ) where
         ∙ b .total
 
     module _ {P : Type 0} (sample : P → Sample) where
-      pub through-values : {ps : List P} {c : ℕ → F} (p : P) {u v : F} → Through sample ps c → List·Memᴰ p ps
-          → Val K w (sample p .x) (sample p .y) (withoutZ K c) u → Val K w (sample p .x) (sample p .y) (withZ K M c) v
-          → u ≡ sample p .z ⊗ v
-      through-values p {u} {v} h m a b =
-          let e = h .vanishes p m in
-          add-cancel K u (sample p .z ⊗ v)
-          (ap₂ (atZ (sample p .z)) (weighted-unique K a (e .value0)) (weighted-unique K b (e .value1)) ∙ e .total)
-
       pub through-joined : {ps : List P} {a b : ℕ → F} → Fn K w a → Fn K w b
           → ((p : P) → List·Memᴰ p ps → (v : F) × Val K w (sample p .x) (sample p .y) b v × Val K w (sample p .x) (sample p .y) a (sample p .z ⊗ v))
           → Through sample ps (joined K M a b)
@@ -185,9 +176,3 @@ module _ {F : Type 0} (K : Field F) (w : ℕ) where
         through-basis L ps =
             koetter K (2 * w) L (interpolant-space K w M two) (λ p. evaluation (sample p)) (λ r. unit K (first w M r)) (first w M)
             (interpolant-start K w M two L) ps
-
-        pub least-Q-any-order : {ps qs : List P} {c d : ℕ → F} {l m : ℕ} → ((p : P) → List·Memᴰ p ps → List·Memᴰ p qs)
-            → ((p : P) → List·Memᴰ p qs → List·Memᴰ p ps) → Least K (Through sample ps) c l → Least K (Through sample qs) d m
-            → (l ≡ m) × (c ≡ d)
-        least-Q-any-order there back a b =
-            least-any-order K (λ p. evaluation (sample p)) (interpolant-space K w M two) there back a b

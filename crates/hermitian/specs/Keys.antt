@@ -13,7 +13,6 @@
 --   firstTerm w M r     the power of y in class r, r < 2w, with or without z; `first w M r` is its key
 --   first-even, first-odd    which power of y it is
 --   first-key, first-class, first-least   it is a key, in class r, and no key of class r is smaller
---   keys-of-class       every key of class r is first r plus a multiple of 2w
 use mathlib.Core.Path.{_≡_, refl, sym, ap, _∙_, subst}
 use mathlib.Core.Logic.{_⊎_, inl, inr}
 use Prim.Native.Nat.{ℕ, suc, _+_, _-_, _*_, _/_, _%_, _<_, _≤_}
@@ -21,7 +20,6 @@ use native.Mathlib.Nat.{div-add-mod', mul-le-mul-right}
 use native.Mathlib.Decide.{decLe, ℕ-discrete}
 use native.Mathlib.Omega.{arith}
 use Rattle.algebra.specs.Coefficients.{choose, choose-yes, choose-no}
-use Rattle.lists.specs.Residue.{residue-multiple}
 use Rattle.hermitian.specs.Present.{Present, decPresent, divided, present-at, present-x, mod-below}
 
 pub data Term : Type 0 where
@@ -262,6 +260,3 @@ module _ (w : ℕ) (two : 2 ≤ w) (M : ℕ) where
         let j : r / 2 ≡ (o + M) % w = omega arith in
         let i : zPower w M (r / 2) ≡ o % w = ap (zPower w M) j ∙ zPower-residue o in
         omega (arith, ap (key M) (first-odd (omega arith)), ap (λ x. x * suc w) i, power-least o p)
-
-    pub keys-of-class : (k : ℕ) → IsKey w M k → k % (2 * w) ≡ r → (q : ℕ) × (k ≡ first w M r + q * (2 * w))
-    keys-of-class k p c = residue-multiple (2 * w) (omega arith) (first-least k p c) (first-class ∙ sym c)

@@ -245,15 +245,6 @@ module _ (w : ℕ) (two : 2 ≤ w) where
       let r : rank w (t + genus w) ≡ t = omega (arith, rank-large (t + genus w) large) in
       ap (orderOf w) (sym r) ∙ orderOf-rank (t + genus w) (present-large w two (t + genus w) large)
 
--- bench sheet C5 and C6: symbol 38 multiplies x^11, symbol 48 multiplies x^11 y^2
-pub symbol-38 : (orderOf 4 38 ≡ 44) × (xPower 4 44 ≡ 11) × (yPower 4 44 ≡ 0)
-unfolding orderOf genus presents isPresent
-symbol-38 = (refl, refl, refl)
-
-pub symbol-48 : (orderOf 4 48 ≡ 54) × (xPower 4 54 ≡ 11) × (yPower 4 54 ≡ 2)
-unfolding orderOf genus presents isPresent
-symbol-48 = (refl, refl, refl)
-
 -- document 01: '1, 2, 3, 6, 7 and 11 are missing'
 pub orders-below-12 : presents 4 12 ≡ 0 ∷ 4 ∷ 5 ∷ 8 ∷ 9 ∷ 10 ∷ []
 unfolding presents isPresent

@@ -3,7 +3,6 @@
 --   product n g f      g·f, for g that ends at n: the sum over o < n of g o times the monomial of order o times f
 --   product-nil, product-suc     the recursion on n, as equations
 --   product-more       any bound of g gives the same product
---   product-plus, product-scale, product-ext   linear in the left factor, and a function of its coefficients below n
 --   fn-product         it is a function on the curve
 --   val-product        its value at a point is the product of the values
 --   below-product      where it ends
@@ -15,7 +14,7 @@ use Prim.Native.Nat.{ℕ, zero, suc, _+_, _<_, _≤_}
 use native.Mathlib.Nat.{add-comm}
 use native.Mathlib.Omega.{arith}
 use Rattle.algebra.specs.Field.{Field, zero-add, zero-mul, mul-assoc, add-mul, mul-ne-zero}
-use Rattle.algebra.specs.Sum.{sum, sum-nil, sum-suc, sum-ext, sum-plus, sum-scale, sum-more}
+use Rattle.algebra.specs.Sum.{sum, sum-nil, sum-suc, sum-more}
 use Rattle.algebra.specs.Coefficients.{plus, scale, Below, Lead, below-mono, below-plus, below-scale, zero-or-lead}
 use Rattle.algebra.specs.Weighted.{weighted-of, weighted-plus, weighted-scale, weighted-zero, weighted-by, weighted-is}
 use Rattle.hermitian.specs.Present.{Present, decPresent}
@@ -36,24 +35,10 @@ module _ {F : Type 0} (K : Field F) (w : ℕ) where
   unfolding product
   product-suc n g f = fun-ext (λ k. sum-suc K n _)
 
-  pub product-ext : (n : ℕ) (g h f : ℕ → F) → ((o : ℕ) → o < n → g o ≡ h o) → product n g f ≡ product n h f
-  unfolding product
-  product-ext n g h f e = fun-ext (λ k. sum-ext K n _ _ (λ o l. ap (λ x. x ⊗ timesMonomial K w o f k) (e o l)))
-
   pub product-more : {g : ℕ → F} (m n : ℕ) (f : ℕ → F) → Below K g m → m ≤ n → product n g f ≡ product m g f
   unfolding product
   product-more m n f b l =
       fun-ext (λ k. sum-more K m n _ l (λ o h x. ap (λ x. x ⊗ timesMonomial K w o f k) (b .zero-from o h) ∙ zero-mul K _))
-
-  pub product-plus : (n : ℕ) (g h f : ℕ → F) → product n (plus K g h) f ≡ plus K (product n g f) (product n h f)
-  unfolding product
-  product-plus n g h f =
-      fun-ext (λ k. sum-ext K n _ _ (λ o l. add-mul K (g o) (h o) (timesMonomial K w o f k)) ∙ sum-plus K n _ _)
-
-  pub product-scale : (n : ℕ) (a : F) (g f : ℕ → F) → product n (scale K a g) f ≡ scale K a (product n g f)
-  unfolding product
-  product-scale n a g f =
-      fun-ext (λ k. sum-ext K n _ _ (λ o l. mul-assoc K a (g o) (timesMonomial K w o f k)) ∙ sum-scale K n a _)
 
   pub below-product : {g f : ℕ → F} {b : ℕ} (n : ℕ) → Fn K w g → Below K f (suc b) → Below K (product n g f) (n + b)
   below-product {g} {f} {b} zero p q =

@@ -4,8 +4,8 @@
 --   timesX, timesY   multiplication by x and by y; `descent` and `top` are its second term
 --   timesMonomial o  multiplication by the monomial of order o: y as often as it has y, then one shift for all its x
 --   fn-plus, fn-scale, fn-zero, fn-unit, fn-shift, fn-timesX, fn-timesY, fn-timesMonomial   they keep to Fn
---   lead-timesX, lead-timesY, lead-timesMonomial    the lead goes up by w, by w + 1, by o …
---   timesX-lead, timesY-lead, timesMonomial-lead    … and keeps its coefficient
+--   lead-timesY, lead-timesMonomial    the lead goes up by w + 1, by o …
+--   timesY-lead, timesMonomial-lead    … and keeps its coefficient
 use mathlib.Core.Path.{_≡_, refl, sym, ap, ap₂, _∙_, subst}
 use mathlib.Core.Logic.{_≢_}
 use Prim.Native.Nat.{ℕ, zero, suc, _+_, _-_, _*_, _/_, _%_, _≤_}
@@ -13,7 +13,7 @@ use native.Mathlib.Nat.{div-add-mod', sub-add-cancel}
 use native.Mathlib.Decide.{decLe, ℕ-discrete}
 use native.Mathlib.Omega.{arith}
 use Rattle.algebra.specs.Field.{Field, add-zero, mul-zero}
-use Rattle.algebra.specs.Coefficients.{choose, choose-yes, choose-no, plus, scale, unit, unit-off, lead-unit, shift, shift-at, shift-high, shift-low, Below, Lead, below-mono, below-plus, below-scale, below-shift, lead-shift}
+use Rattle.algebra.specs.Coefficients.{choose, choose-yes, choose-no, plus, scale, unit, unit-off, lead-unit, shift, shift-at, shift-high, shift-low, Below, Lead, below-mono, below-plus, below-scale, below-shift}
 use Rattle.hermitian.specs.Present.{Present, present-at, present-plus}
 
 -- y^w = x^(w+1) + y: as far as this below its source stands the second term of a product with y
@@ -99,12 +99,6 @@ module _ {F : Type 0} (K : Field F) (w : ℕ) where
         ends = below-scale K a (f .ends);
         absent = λ o h. ap (λ x. a ⊗ x) (f .absent o h) ∙ mul-zero K a;
       }
-
-  pub lead-timesX : {c : ℕ → F} {l : ℕ} → Lead K c l → Lead K (timesX c) (l + w)
-  lead-timesX h = lead-shift K w h
-
-  pub timesX-lead : (c : ℕ → F) (l : ℕ) → timesX c (l + w) ≡ c l
-  timesX-lead c l = shift-at K w l c
 
   pub below-timesY : {c : ℕ → F} {n : ℕ} → Below K c n → Below K (timesY c) (n + suc w)
   unfolding timesY

@@ -5,8 +5,6 @@
 --   size             more terms of key at most L than samples: some Q through them, not zero, has no key above L
 --   least-size       so the least Q has none,
 --   least-Q          and there is a least Q
---   least-Q-always   through any n samples there is one, of key at most 2(n + g)
---   least-parts      where its two parts end then
 use mathlib.Core.Path.{_≡_, refl, ap, _∙_}
 use mathlib.Core.List.{List}
 use Prim.Native.Nat.{ℕ, zero, suc, _+_, _-_, _*_, _/_, _%_, _<_, _≤_}
@@ -16,13 +14,13 @@ use native.Mathlib.Omega.{arith}
 use lib.ListN.{length}
 use Rattle.lists.specs.Chosen.{count, count-nil, count-suc, one-more-yes, one-more-no, Chosen, chosen}
 use Rattle.algebra.specs.Field.{Field}
-use Rattle.algebra.specs.Coefficients.{Below, Lead, below-mono, unit, lead-unit}
+use Rattle.algebra.specs.Coefficients.{Lead, unit, lead-unit}
 use Rattle.algebra.specs.Dimension.{Rising, vanishing-exists}
 use Rattle.algebra.specs.Least.{Least, least-exists}
 use Rattle.hermitian.specs.Present.{Present, decPresent, genus}
 use Rattle.hermitian.specs.Orders.{rank, isPresent, rank-nil, rank-yes, rank-no, rank-least}
 use Rattle.hermitian.specs.Keys.{IsKey, decKey, key-even, even-key, key-odd, odd-key}
-use Rattle.hermitian.specs.Interpolant.{Interpolant, withoutZ, withZ, interpolant-unit, interpolant-space, below-withoutZ, below-withZ}
+use Rattle.hermitian.specs.Interpolant.{Interpolant, interpolant-unit, interpolant-space}
 use Rattle.hermitian.specs.Interpolation.{Sample, Through, evaluation, through-basis, through-space}
 
 unfoldable pub terms : ℕ → ℕ → ℕ → ℕ
@@ -116,16 +114,6 @@ module _ {F : Type 0} (K : Field F) (w : ℕ) (two : 2 ≤ w) (M : ℕ) {P : Typ
   terms-enough n =
       let e : suc (suc (2 * (n + genus w))) / 2 ≡ suc (n + genus w) = omega arith in
       omega (arith, terms-rank w M (suc (2 * (n + genus w))), ap (rank w) e, rank-least w two (suc (n + genus w)))
-
-  pub least-Q-always : (ps : List P) → (c : ℕ → F) × (l : ℕ) × Least K (Through K w M sample ps) c l × (l ≤ 2 * (length ps + genus w))
-  least-Q-always ps = least-Q (2 * (length ps + genus w)) ps (terms-enough (length ps))
-
-  pub least-parts : {ps : List P} {c : ℕ → F} {l : ℕ} (L a b : ℕ) → Least K (Through K w M sample ps) c l → length ps < terms w M (suc L)
-      → L < 2 * a → L ≤ 2 * (b + M) → Below K (withoutZ K c) a × Below K (withZ K M c) b
-  least-parts {ps} {c} {l} L a b q h ha hb =
-      let le : l ≤ L = least-size L q h in
-      let e : Below K c (suc L) = below-mono K (omega arith) (q .leads .above) in
-      (below-withoutZ K w M a ha e, below-withZ K w M b (omega arith) e)
 
 -- with 64 samples: 66 terms have a key up to 121 at rate 39, 65 terms one up to 129 at rate 49
 pub terms-39 : terms 4 44 122 ≡ 66

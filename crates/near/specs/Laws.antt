@@ -6,20 +6,16 @@
 --   answer-append       the answer of two lists is the better of their answers
 --   answer-one          the answer of one test word is the message within T of it, whatever the costs
 --   answer-none, codeword-none   where no codeword is near
---   tests-leaf, tests-branch, answer-leaf, answer-branch   count and answer of the tree
 use mathlib.Core.Bool.{Bool, true, false, _||_}
-use mathlib.Core.Path.{_≡_, refl, sym, ap, ap₂, _∙_, subst}
+use mathlib.Core.Path.{_≡_, refl, sym, ap, _∙_, subst}
 use mathlib.Core.List.{List, [], _∷_, _++_, List·Memᴰ, List·Memᴰ·head, List·Memᴰ·tail}
 use mathlib.Core.Logic.{_↔_, _⊎_, inl, inr, ⊎-elim}
-use mathlib.Core.Option.{Option, some, none}
+use mathlib.Core.Option.{none}
 use Prim.Native.Nat.{ℕ, _+_}
 use native.Mathlib.Omega.{arith}
 use lib.Dec.{T}
-use lib.ListN.{set}
 use Rattle.lists.specs.Count.{bit}
-use Rattle.lists.specs.Answers.{Answers, Found, answers-unique, answers-iff, answers-single, nobody, better, better-answers, free, firstThat-words, firstThat-none, cheapest-words}
-use Rattle.soft.specs.TestWord.{bestAt, secondAt, expand}
-use Rattle.soft.specs.TestWordLaws.{expand-nil, expand-cons}
+use Rattle.lists.specs.Answers.{Answers, Found, answers-unique, answers-iff, answers-single, nobody, better, better-answers, free, firstThat-words, cheapest-words}
 use Rattle.near.specs.Near.{nearTo, codewordNear, near, isSome, testsNear, messageCost, answerOf}
 use Rattle.near.specs.Reach.{Workable}
 use Rattle.near.specs.Codeword.{near-one}
@@ -135,23 +131,3 @@ tests-none k [] h = tests-nil k
 tests-none k (t ∷ ts) h =
     omega
     (arith, tests-cons k t ts, ap (λ o. bit (isSome o)) (h t (List·Memᴰ·head refl)), tests-none k ts (λ u m. h u (List·Memᴰ·tail m)))
-
--- ---- the tree
-
-module _ (columns : ℕ → List ℕ) (word : List ℕ) where
-  pub tests-leaf : (k : ℕ) → testsNear k (expand columns word []) ≡ bit (isSome (codewordNear k word))
-  tests-leaf k = ap (testsNear k) (expand-nil columns word) ∙ tests-cons k word [] ∙ omega (arith, tests-nil k)
-
-  pub answer-leaf : {k : ℕ} → Workable k → answerOf k columns (expand columns word []) ≡ codewordNear k word
-  answer-leaf {k} rate = ap (answerOf k columns) (expand-nil columns word) ∙ answer-one rate columns word
-
-  pub tests-branch : (k p : ℕ) (ps : List ℕ)
-      → testsNear k (expand columns word (p ∷ ps))
-      ≡ testsNear k (expand columns (set word p (bestAt columns p)) ps) + testsNear k (expand columns (set word p (secondAt columns p)) ps)
-  tests-branch k p ps = ap (testsNear k) (expand-cons columns word p ps) ∙ tests-append k _ _
-
-  pub answer-branch : (k p : ℕ) (ps : List ℕ)
-      → answerOf k columns (expand columns word (p ∷ ps))
-      ≡ better (messageCost k columns) (answerOf k columns (expand columns (set word p (bestAt columns p)) ps))
-      (answerOf k columns (expand columns (set word p (secondAt columns p)) ps))
-  answer-branch k p ps = ap (answerOf k columns) (expand-cons columns word p ps) ∙ answer-append k columns _ _
