@@ -3,13 +3,11 @@
 --   Least K W c l        c is in W with lead l and coefficient 𝟙 there, and no element of W has a smaller lead
 --   least-unique         a space has at most one
 --   least-same           it depends on the elements of W alone
---   least-any-order      so two lists of functionals with the same members have one least element of their common kernels
 --   held-least           of a basis, the row of smallest lead among the classes that are not spent, divided by its leading coefficient, is least
 --   held-exists          where an element of W has a lead up to the limit, such a row exists,
 --   least-exists         and so does the least element
 --   all-spent            where every class is spent, every lead is above the limit
 use mathlib.Core.Path.{_≡_, refl, sym, ap, ap₂, _∙_, fun-ext, subst}
-use mathlib.Core.List.{List, List·Memᴰ}
 use mathlib.Core.Logic.{⊎-elim}
 use Prim.Native.Nat.{ℕ, _%_, _<_, _≤_}
 use native.Mathlib.Nat.{mod-lt, le-trans}
@@ -18,7 +16,7 @@ use native.Mathlib.Omega.{arith}
 use Rattle.lists.specs.Smallest.{Smallest, smallest-exists}
 use Rattle.algebra.specs.Field.{Field, add-self, add-cancel, inv-mul, inv-ne-zero}
 use Rattle.algebra.specs.Coefficients.{plus, scale, Below, Lead, below-plus, below-pred, zero-or-lead, lead-scale}
-use Rattle.algebra.specs.Subspace.{Space, Functional, Common, _⊆_, common-space, common-fewer, values}
+use Rattle.algebra.specs.Subspace.{Space, _⊆_}
 use Rattle.algebra.specs.Koetter.{Basis}
 
 module _ {F : Type 0} (K : Field F) where
@@ -51,13 +49,6 @@ module _ {F : Type 0} (K : Field F) where
       zero-sum =
           ⊎-elim (λ z. z) (λ t. absurd (omega (arith, t .1, p .least (plus K c d) (t .0) (S .sums (p .member) (q .member)) (t .2))))
           (zero-or-lead K l sum-ends)
-
-  -- the order of the functionals, and how often each is there, do not matter
-  pub least-any-order : {P : Type 0} {s : ℕ} {W : (ℕ → F) → Type 0} (D : P → Functional K s W) {ps qs : List P} {c d : ℕ → F} {l m : ℕ}
-      → Space K s W → ((p : P) → List·Memᴰ p ps → List·Memᴰ p qs) → ((p : P) → List·Memᴰ p qs → List·Memᴰ p ps)
-      → Least (Common K W (values K D) ps) c l → Least (Common K W (values K D) qs) d m → (l ≡ m) × (c ≡ d)
-  least-any-order D {ps} {qs} S there back p q =
-      least-unique (common-space K D S qs) (least-same (common-fewer K back) (common-fewer K there) p) q
 
   module _ {s L : ℕ} {W : (ℕ → F) → Type 0} {G : ℕ → ℕ → F} {l : ℕ → ℕ} (B : Basis K s L W G l) where
     pub held-least : {r : ℕ} → Space K s W → Smallest s (λ q. l q ≤ L) l r → Least W (scale K (inv (G r (l r))) (G r)) (l r)

@@ -3,11 +3,10 @@
 --   terms w M n      how many keys below n are keys of terms
 --   terms-rank       they are the present orders up to (n − 1)/2 without z, and up to n/2 − M − 1 with z
 --   size             more terms of key at most L than samples: some Q through them, not zero, has no key above L
---   least-size       so the least Q has none,
---   least-Q          and there is a least Q
+--   least-size       so the least Q has none
 use mathlib.Core.Path.{_≡_, refl, ap, _∙_}
 use mathlib.Core.List.{List}
-use Prim.Native.Nat.{ℕ, zero, suc, _+_, _-_, _*_, _/_, _%_, _<_, _≤_}
+use Prim.Native.Nat.{ℕ, zero, suc, _+_, _-_, _/_, _%_, _<_, _≤_}
 use native.Mathlib.Nat.{le-trans}
 use native.Mathlib.Decide.{decLe, ℕ-discrete}
 use native.Mathlib.Omega.{arith}
@@ -16,12 +15,12 @@ use Rattle.lists.specs.Chosen.{count, count-nil, count-suc, one-more-yes, one-m
 use Rattle.algebra.specs.Field.{Field}
 use Rattle.algebra.specs.Coefficients.{Lead, unit, lead-unit}
 use Rattle.algebra.specs.Dimension.{Rising, vanishing-exists}
-use Rattle.algebra.specs.Least.{Least, least-exists}
-use Rattle.hermitian.specs.Present.{Present, decPresent, genus}
-use Rattle.hermitian.specs.Orders.{rank, isPresent, rank-nil, rank-yes, rank-no, rank-least}
+use Rattle.algebra.specs.Least.{Least}
+use Rattle.hermitian.specs.Present.{Present, decPresent}
+use Rattle.hermitian.specs.Orders.{rank, isPresent, rank-nil, rank-yes, rank-no}
 use Rattle.hermitian.specs.Keys.{IsKey, decKey, key-even, even-key, key-odd, odd-key}
 use Rattle.hermitian.specs.Interpolant.{Interpolant, interpolant-unit, interpolant-space}
-use Rattle.hermitian.specs.Interpolation.{Sample, Through, evaluation, through-basis, through-space}
+use Rattle.hermitian.specs.Interpolation.{Sample, Through, evaluation}
 
 unfoldable pub terms : ℕ → ℕ → ℕ → ℕ
 terms w M n = count (decKey w M) n
@@ -100,20 +99,6 @@ module _ {F : Type 0} (K : Field F) (w : ℕ) (two : 2 ≤ w) (M : ℕ) {P : Typ
   least-size {ps} L q h =
       let t = size L ps h in
       le-trans (q .least (t .0) (t .1) (t .2) (t .3)) (t .4)
-
-  pub least-Q : (L : ℕ) (ps : List P) → length ps < terms w M (suc L)
-      → (c : ℕ → F) × (l : ℕ) × Least K (Through K w M sample ps) c l × (l ≤ L)
-  least-Q L ps h =
-      let t = size L ps h in
-      let b = through-basis K w M two sample L ps in
-      let q = least-exists K (b .2) (omega arith) (through-space K w M two sample ps) (t .2) (t .3) (t .4) in
-      (q .0, q .1, q .2, least-size L (q .2) h)
-
-  -- without z alone there are enough terms: all orders but g are present
-  pub terms-enough : (n : ℕ) → n < terms w M (suc (2 * (n + genus w)))
-  terms-enough n =
-      let e : suc (suc (2 * (n + genus w))) / 2 ≡ suc (n + genus w) = omega arith in
-      omega (arith, terms-rank w M (suc (2 * (n + genus w))), ap (rank w) e, rank-least w two (suc (n + genus w)))
 
 -- with 64 samples: 66 terms have a key up to 121 at rate 39, 65 terms one up to 129 at rate 49
 pub terms-39 : terms 4 44 122 ≡ 66
