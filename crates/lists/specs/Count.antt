@@ -4,7 +4,7 @@
 --   sumOf n f        f 0 + f 1 + … + f (n − 1)
 --   count n f        how many numbers below n pass the test f
 --   kept n f         the numbers below n that pass it, rising
---   Rising l         each entry of l is below every later one
+--   Rising l         each entry of l is below every later one; rising-steps: so it is if each is below the next
 --   sumOf-ext, sumOf-mono, sumOf-strict, sumOf-bound, sumOf-plus   equal, smaller, bounded and added terms
 --   count-ext, count-le, count-none, count-zero, count-mono, count-strict   the same of tests
 --   sumOf-turn, count-turn   one turn of a loop that adds up
@@ -208,6 +208,16 @@ rising-snoc l x r above = record { rises = rises }
     rises i j a b =
         ⊎-elim (last i j a) (before i j a)
         (eq-or-lt-of-le (le-of-suc-le-suc (subst (λ n. j < n) (length-append l (x ∷ []) ∙ add-one (length l)) b)))
+
+-- a list that rises at each step
+pub rising-steps : (l : List ℕ) → ((i : ℕ) → suc i < length l → getD l i 0 < getD l (suc i) 0) → Rising l
+rising-steps l step = record { rises = rises }
+  where
+    rises : (i j : ℕ) → i < j → j < length l → getD l i 0 < getD l j 0
+    rises i zero a b = absurd (omega arith)
+    rises i (suc j) a b =
+        ⊎-elim (λ (e : i ≡ j). subst (λ k. getD l k 0 < getD l (suc j) 0) (sym e) (step j b))
+        (λ c. omega (arith, rises i j c (omega arith), step j b)) (eq-or-lt-of-le (le-of-suc-le-suc a))
 
 pub kept-rising : (n : ℕ) (f : ℕ → Bool) → Rising (kept n f)
 kept-rising zero f = record { rises = λ i j a b. absurd (omega (arith, subst (λ l. j < length l) (kept-nil f) b)) }

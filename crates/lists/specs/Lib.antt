@@ -15,6 +15,7 @@ pub mod Same
 pub mod XorSum
 pub mod Summed
 pub mod Count
+pub mod Different
 pub mod Rank
 pub mod Padded
 pub mod Falling

@@ -1,0 +1,42 @@
+-- Lists, of whatever kind, in which no entry stands twice.
+--
+--   Different l          no entry of l stands in it twice
+--   different-append     two such lists with no entry in common, one after the other
+--   different-at         equal entries stand at one index
+--   rising-different     a rising list is such a list
+use mathlib.Core.Path.{_≡_, refl, sym, ap, subst}
+use mathlib.Core.List.{List, [], _∷_, _++_, List·Memᴰ, List·Memᴰ·head, List·Memᴰ·tail, List·Memᴰ·append-cases}
+use mathlib.Core.Logic.{⊎-elim}
+use Prim.Native.Nat.{ℕ, zero, suc, _<_}
+use native.Mathlib.Nat.{le-of-suc-le-suc}
+use native.Mathlib.Omega.{arith}
+use lib.ListN.{length, getD}
+use Rattle.lists.specs.Member.{member-at, at-member}
+use Rattle.lists.specs.Count.{Rising}
+
+module _ {A : Type 0} where
+  pub data Different : List A → Type 0 where
+    different-nil : Different []
+    different-cons : {a : A} {l : List A} → ¬ List·Memᴰ a l → Different l → Different (a ∷ l)
+
+  pub different-append : {l : List A} (m : List A) → Different l → Different m → ((a : A) → List·Memᴰ a l → ¬ List·Memᴰ a m) → Different (l ++ m)
+  different-append m different-nil e f = e
+  different-append m (different-cons {a = a} {l = l} h d) e f =
+      different-cons (λ t. ⊎-elim h (f a (List·Memᴰ·head refl)) (List·Memᴰ·append-cases l t))
+      (different-append m d e (λ b s t. f b (List·Memᴰ·tail s) t))
+
+  pub different-at : {l : List A} → Different l → (d : A) (i j : ℕ) → i < length l → j < length l → getD l i d ≡ getD l j d → i ≡ j
+  different-at different-nil d i j a b e = absurd (omega arith)
+  different-at (different-cons h r) d zero zero a b e = refl
+  different-at (different-cons {l = l} h r) d zero (suc j) a b e =
+      absurd (h (subst (λ y. List·Memᴰ y l) (sym e) (member-at l d j (le-of-suc-le-suc b))))
+  different-at (different-cons {l = l} h r) d (suc i) zero a b e =
+      absurd (h (subst (λ y. List·Memᴰ y l) e (member-at l d i (le-of-suc-le-suc a))))
+  different-at (different-cons h r) d (suc i) (suc j) a b e = ap suc (different-at r d i j (le-of-suc-le-suc a) (le-of-suc-le-suc b) e)
+
+pub rising-different : (l : List ℕ) → Rising l → Different l
+rising-different [] r = different-nil
+rising-different (x ∷ l) r =
+    different-cons {a = x} {l = l}
+    (λ m. let s = at-member 0 m in omega (arith, r .rises 0 (suc (s .0)) (omega arith) (omega (arith, s .1)), s .2))
+    (rising-different l (record { rises = λ i j a b. r .rises (suc i) (suc j) (omega arith) (omega arith) }))
