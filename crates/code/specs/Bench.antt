@@ -11,6 +11,7 @@ use Prim.Native.Nat.{ℕ, _<_}
 use lib.Dec.{T, eqb, lit<}
 use lib.ListN.{length, take}
 use borrow.Author.Tests.{eq-eqb, ne-eqb}
+use Rattle.lists.specs.Count.{kept}
 use Rattle.lists.specs.Every.{both, both-intro}
 use Rattle.lists.specs.Listed.{listed, listed-at, listed-ext}
 use Rattle.lists.specs.Same.{same}
@@ -20,7 +21,7 @@ use Rattle.galois.specs.Binary as Binary
 use Rattle.galois.specs.Field16.{times-comm, times-zero, times-one, times-lt}
 use Rattle.hermitian.specs.Present.{genus}
 use Rattle.hermitian.specs.Orders.{xPower, yPower, presents, isPresent, orderOf}
-use Rattle.curve.specs.Curve.{power, isOnCurve, fibreBelow, fibre, xOf, yOf}
+use Rattle.curve.specs.Curve.{power, isOnCurve, fibre, xOf, yOf}
 use Rattle.code.specs.Encoding.{monomial, term, valueAt, encodeOf}
 
 unfoldable pub oneAt : ℕ → ℕ → ℕ
@@ -91,11 +92,11 @@ unfoldable pub case8 : Bool
 case8 = both (starts 39 2 firstTwelve) (starts 49 2 firstTwelve)
 
 pub c3 : T case3
-unfolding case3 isPoint yOf fibre fibreBelow isOnCurve power times Binary.times Binary.shiftAdd Binary.xtime
+unfolding case3 isPoint yOf fibre kept isOnCurve power times Binary.times Binary.shiftAdd Binary.xtime
 c3 = tt
 
 pub c4 : T case4
-unfolding case4 isPoint yOf fibre fibreBelow isOnCurve power times Binary.times Binary.shiftAdd Binary.xtime
+unfolding case4 isPoint yOf fibre kept isOnCurve power times Binary.times Binary.shiftAdd Binary.xtime
 c4 = tt
 
 pub c5 : T case5
@@ -112,11 +113,11 @@ unfolding starts
 starts-by k s l h t = subst (λ w. T (same (take (length l) w) l)) (sym (alone-encodes k s h)) t
 
 x-word : T (same (take (length (listed 64 xOf)) (listed 64 (monomialOf 1))) (listed 64 xOf))
-unfolding same listed monomialOf orderOf presents isPresent genus monomial yOf fibre fibreBelow isOnCurve power times Binary.times Binary.shiftAdd Binary.xtime
+unfolding same listed monomialOf orderOf presents isPresent genus monomial yOf fibre kept isOnCurve power times Binary.times Binary.shiftAdd Binary.xtime
 x-word = tt
 
 y-word : T (same (take (length firstTwelve) (listed 64 (monomialOf 2))) firstTwelve)
-unfolding same listed firstTwelve monomialOf orderOf presents isPresent genus monomial yOf fibre fibreBelow isOnCurve power times Binary.times Binary.shiftAdd Binary.xtime
+unfolding same listed firstTwelve monomialOf orderOf presents isPresent genus monomial yOf fibre kept isOnCurve power times Binary.times Binary.shiftAdd Binary.xtime
 y-word = tt
 
 pub c7 : T case7

@@ -6,13 +6,15 @@
 --   ThroughNodes M ns   the Q that vanish at every node of the list ns
 --   sixteenth           a^16 = a: x^16 + x vanishes at every place
 use mathlib.Core.Bool.{Bool}
-use mathlib.Core.Path.{_≡_, refl, sym, ap, ap₂, _∙_, subst₂}
+use mathlib.Core.Path.{_≡_, sym, ap, ap₂, _∙_, subst₂}
 use mathlib.Core.List.{List}
 use Prim.Native.Nat.{ℕ, zero, suc, _/_, _%_, _<_}
 use native.Mathlib.Nat.{mod-mod}
 use native.Mathlib.Omega.{arith}
 use lib.Dec.{T, eqb, eqb→eq}
+use lib.Bits.{bitXor}
 use lib.ListN.{getD}
+use Rattle.lists.specs.Count.{kept-ext}
 use Rattle.lists.specs.Every.{every, every-at}
 use Rattle.algebra.specs.Field.{Field}
 use Rattle.algebra.specs.Power.{pow}
@@ -21,8 +23,8 @@ use Rattle.galois.specs.Binary as Binary
 use Rattle.galois.specs.Field16.{GF, K16, toF, value, toF-add, toF-mod, toF-value, value-lt, times-mod}
 use Rattle.hermitian.specs.Value.{Curve}
 use Rattle.hermitian.specs.Interpolation.{Sample, Through}
-use Rattle.curve.specs.Curve.{power, power-nil, power-suc, isOnCurve, fibreBelow, fibre, xOf, yOf}
-use Rattle.curve.specs.Points.{on-curve}
+use Rattle.curve.specs.Curve.{power, power-nil, power-suc, isOnCurve, fibre, xOf, yOf}
+use Rattle.curve.specs.Fibres.{on-curve}
 use Rattle.code.specs.Bridge.{px, py, toF-power}
 open Field K16 using (_⊕_)
 
@@ -41,14 +43,9 @@ power-mod : (a n : ℕ) → power (a % 16) n ≡ power a n
 power-mod a zero = power-nil (a % 16) ∙ sym (power-nil a)
 power-mod a (suc n) = power-suc (a % 16) n ∙ ap (λ x. times x (a % 16)) (power-mod a n) ∙ times-right (power a n) a ∙ sym (power-suc a n)
 
-fibreBelow-mod : (x n : ℕ) → fibreBelow (x % 16) n ≡ fibreBelow x n
-unfolding fibreBelow isOnCurve
-fibreBelow-mod x zero = refl
-fibreBelow-mod x (suc y) = cc (power-mod x 5, fibreBelow-mod x y)
-
 fibre-mod : (x : ℕ) → fibre (x % 16) ≡ fibre x
-unfolding fibre
-fibre-mod x = fibreBelow-mod x 16
+unfolding fibre isOnCurve
+fibre-mod x = kept-ext 16 (isOnCurve (x % 16)) (isOnCurve x) (λ y l. ap (eqb (bitXor (power y 4) y)) (power-mod x 5))
 
 xOf-mod : (p : ℕ) → xOf (p % 64) ≡ xOf p % 16
 xOf-mod p = omega arith

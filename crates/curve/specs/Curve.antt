@@ -4,13 +4,14 @@
 --   isOnCurve x y   the point (x, y) lies on the curve
 --   fibre x         the y of the points with this x, rising
 --   xOf p, yOf p    place 4X + r is the point with x = X and the r-th smallest y, r from 0 to 3
-use mathlib.Core.Bool.{Bool, true, false}
+use mathlib.Core.Bool.{Bool}
 use mathlib.Core.Path.{_≡_, refl}
-use mathlib.Core.List.{List, [], _∷_, _++_}
+use mathlib.Core.List.{List}
 use Prim.Native.Nat.{ℕ, zero, suc, _/_, _%_}
 use lib.Dec.{eqb}
 use lib.Bits.{bitXor}
 use lib.ListN.{getD}
+use Rattle.lists.specs.Count.{kept}
 use Rattle.galois.specs.Gf16.{times}
 
 unfoldable pub power : ℕ → ℕ → ℕ
@@ -28,18 +29,9 @@ power-suc a n = refl
 unfoldable pub isOnCurve : ℕ → ℕ → Bool
 isOnCurve x y = eqb (bitXor (power y 4) y) (power x 5)
 
--- the list with one more entry if the test passes
-abbrev kept : Bool → ℕ → List ℕ → List ℕ
-kept true y l = l ++ (y ∷ [])
-kept false y l = l
-
--- the y below n of the points with this x, rising
-unfoldable pub fibreBelow : ℕ → ℕ → List ℕ
-fibreBelow x zero = []
-fibreBelow x (suc y) = kept (isOnCurve x y) y (fibreBelow x y)
-
+-- of the elements 0 to 15 those that lie on the curve with x
 unfoldable pub fibre : ℕ → List ℕ
-fibre x = fibreBelow x 16
+fibre x = kept 16 (isOnCurve x)
 
 abbrev pub xOf : ℕ → ℕ
 xOf p = p / 4
