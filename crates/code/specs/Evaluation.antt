@@ -9,10 +9,11 @@
 --   coefficientOf m o    the coefficient of order o in the function of message m: symbol t at the t-th present order
 --   functionOf m         all 64 of them
 --   function-value       its value is that of the message's first 58 symbols (document 01's sum over message symbols)
---   encode-length        a codeword has 64 places
+--   encode-length        a codeword has 64 places,
+--   encode-at, encode-symbols   and a symbol below 16 at each
 --   encode-beyond        symbols that a message does not have add nothing: the codeword is the same for every k from its length on
 use mathlib.Core.Bool.{Bool, true, false}
-use mathlib.Core.Path.{_≡_, sym, ap, ap₂, _∙_}
+use mathlib.Core.Path.{_≡_, sym, ap, ap₂, _∙_, subst}
 use mathlib.Core.List.{List}
 use Prim.Native.Nat.{ℕ, zero, suc, _-_, _/_, _%_, _<_, _≤_}
 use native.Mathlib.Omega.{arith}
@@ -21,9 +22,11 @@ use lib.Bits.{bitXor, xor-zero-r}
 use lib.ListN.{length, getD, List·getD-eq-default}
 use borrow.Author.Tests.{le-leb, lt-leb}
 use Rattle.lists.specs.Listed.{listed, listed-length, listed-at, listed-ext}
-use Rattle.lists.specs.XorSum.{xorSum, xorSum-nil, xorSum-suc, xorSum-ext, xorSum-more}
+use Rattle.lists.specs.Every.{T-true}
+use Rattle.lists.specs.Words.{allBelow, allBelow-from}
+use Rattle.lists.specs.XorSum.{xorSum, xorSum-nil, xorSum-suc, xorSum-ext, xorSum-more, xorSum-below}
 use Rattle.galois.specs.Gf16.{times}
-use Rattle.galois.specs.Field16.{times-comm, times-zero}
+use Rattle.galois.specs.Field16.{times-comm, times-zero, times-lt}
 use Rattle.hermitian.specs.Present.{Present, decPresent, genus}
 use Rattle.hermitian.specs.Orders.{isPresent, rank, rank-nil, rank-yes, rank-no, rank-large, orderOf, orderOf-rank, orderOf-up-to}
 use Rattle.code.specs.Encoding.{monomial, term, valueAt, encodeOf}
@@ -98,6 +101,19 @@ function-value m p =
 pub encode-length : (k : ℕ) (m : List ℕ) → length (encodeOf k m) ≡ 64
 unfolding encodeOf
 encode-length k m = listed-length 64 (valueAt k m)
+
+-- a sum of products of the field is an element
+value-below : (k : ℕ) (m : List ℕ) (p : ℕ) → valueAt k m p < 16
+unfolding valueAt term
+value-below k m p = xorSum-below 4 k (term m p) (λ t l. times-lt (getD m t 0) (monomial (orderOf 4 t) p))
+
+pub encode-at : (k : ℕ) (m : List ℕ) (p : ℕ) → p < 64 → getD (encodeOf k m) p 0 < 16
+unfolding encodeOf
+encode-at k m p h = subst (λ s. s < 16) (sym (listed-at 64 p (valueAt k m) 0 h)) (value-below k m p)
+
+pub encode-symbols : (k : ℕ) (m : List ℕ) → allBelow 16 (encodeOf k m) ≡ true
+encode-symbols k m =
+    T-true (allBelow 16 (encodeOf k m)) (allBelow-from 16 (encodeOf k m) (λ p h. encode-at k m p (omega (arith, encode-length k m))))
 
 -- ---- a message that is shorter than the code takes
 term-beyond : (m : List ℕ) (p t : ℕ) → length m ≤ t → term m p t ≡ 0

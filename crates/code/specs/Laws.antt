@@ -3,6 +3,7 @@
 --   encoding-injective   two messages that encode to one word are one
 --   read-encoded         reading back an encoding gives the message
 --   read-accepted        what was read back encodes to the word
+--   read-none            a word to which no message encodes is not read
 --   read-by-extraction-some, -none   the message read back is the one extracted, if that encodes to the word; else there is none
 use mathlib.Core.Path.{_≡_, sym, ap, _∙_, subst}
 use mathlib.Core.List.{List}
@@ -45,3 +46,7 @@ unfolding readBackOf encodesTo
 read-accepted k w m e =
     let f : Found 16 k (encodesTo k w) m = answers-some (subst (Answers free (Found 16 k (encodesTo k w))) e (firstThat-words 16 k (encodesTo k w))) in
     (same-yes (encodeOf k m) w (f .passed), f .word)
+
+pub read-none : (k : ℕ) (w : List ℕ) → ((m : List ℕ) → Word 16 k m → encodeOf k m ≡ w → ⊥) → readBackOf k w ≡ none
+unfolding readBackOf encodesTo
+read-none k w other = firstThat-none 16 k (encodesTo k w) (λ m f. other m (f .word) (same-yes (encodeOf k m) w (f .passed)))

@@ -5,5 +5,6 @@ pub mod Evaluation
 pub mod Bridge
 pub mod Extraction
 pub mod Laws
+pub mod CallLaws
 pub mod Nodes
 pub mod Bench

@@ -1,5 +1,6 @@
 -- A message as a function on the curve: what nearness of words says in the theory.
 --
+--   codeword-symbol, codeword-cost   a codeword has a symbol at each place, so its cost there is one of the column's
 --   symbolsOf word       a word as elements of the field, by place
 --   functionOf k m       the function of a message
 --   functionOf-fn, functionOf-order, encode-val   it is a function of order at most M, and the codeword holds its values
@@ -10,20 +11,20 @@
 --   near-function        a near codeword's function is near in the theory's sense
 --   near-one             at most one message has its codeword within T of a word
 use mathlib.Core.Bool.{Bool, true, false, not, _&&_}
-use mathlib.Core.Path.{_≡_, refl, sym, ap, ap₂, _∙_, subst}
-use mathlib.Core.List.{List}
+use mathlib.Core.Path.{_≡_, refl, sym, ap, _∙_, subst}
+use mathlib.Core.List.{List, List·Memᴰ}
 use Prim.Native.Nat.{ℕ, zero, suc, _+_, _<_, _≤_}
 use native.Mathlib.Nat.{mod-eq-of-lt}
 use native.Mathlib.Omega.{arith}
 use lib.Dec.{T, leb→le, eqb, ltb}
 use lib.ListN.{length, getD}
 use borrow.Author.Tests.{eqb-true}
-use Rattle.lists.specs.Count.{bit, count, count-nil, count-suc}
+use Rattle.lists.specs.Count.{bit, count, count-suc}
 use Rattle.lists.specs.Distinct.{and-right}
 use Rattle.lists.specs.Listed.{listed, listed-length, listed-at, listed-ext, listed-getD}
+use Rattle.lists.specs.Member.{member-at}
 use Rattle.lists.specs.Words.{Word, allBelow-at, allBelow-from}
 use Rattle.lists.specs.Answers.{Found}
-use Rattle.algebra.specs.Field.{Field}
 use Rattle.algebra.specs.Coefficients.{Below}
 use Rattle.algebra.specs.Weighted.{weighted-is}
 use Rattle.algebra.specs.Distance as Distance
@@ -34,11 +35,21 @@ use Rattle.hermitian.specs.Decoding.{Near, near-unique}
 use Rattle.hermitian.specs.Orders.{orderOf}
 use Rattle.hermitian.specs.Message.{messageFn, message-at, message-fn, message-order, message-val}
 use Rattle.code.specs.Encoding.{encodeOf, valueAt}
+use Rattle.code.specs.Evaluation.{encode-at}
 use Rattle.code.specs.Bridge.{px, py, toF-value}
-use Rattle.soft.specs.Total.{agree, differAt, differing}
+use Rattle.soft.specs.Column.{places, symbols}
+use Rattle.soft.specs.Total.{symbolAt, costIn, agree, differAt, differing}
 use Rattle.near.specs.Near.{mOf, reachOf, nearTo}
 use Rattle.near.specs.Reach.{Workable, ranks, radius}
 use Rattle.near.specs.Places.{points}
+
+pub codeword-symbol : (k : ℕ) (m : List ℕ) (p : ℕ) → p < places → symbolAt (encodeOf k m) p < symbols
+codeword-symbol k m p h = encode-at k m p h
+
+-- so a total never counts the 0 that stands for the cost of what is no symbol
+pub codeword-cost : (k : ℕ) (m : List ℕ) (columns : ℕ → List ℕ) (p : ℕ) → p < places → length (columns p) ≡ symbols
+    → List·Memᴰ (costIn columns (encodeOf k m) p) (columns p)
+codeword-cost k m columns p h wide = member-at (columns p) 0 (symbolAt (encodeOf k m) p) (omega (arith, codeword-symbol k m p h))
 
 unfoldable pub symbolsOf : List ℕ → ℕ → GF
 symbolsOf word p = toF (getD word p 0)
