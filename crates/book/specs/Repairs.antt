@@ -1,7 +1,5 @@
 -- What closing and table decoding make of a message that was sent: when they give it back, and when they give nothing dearer.
 --
---   Offered columns p s  the symbol s is the best or the second symbol of place p
---   chosen-test          whichever of the two is chosen at each doubtful place, a test word has the chosen ones
 --   wrongOf n columns doubtful word   the wrong places: settled ones, of n, at which the word's symbol is not the best symbol
 --   FewWrong k columns doubtful T m   m is a message; at each doubtful place its codeword has the best or the second symbol, and at most T settled
 --                        places are wrong
@@ -22,28 +20,27 @@
 -- does (`Closes`), so also of closing after any list of calls.
 use mathlib.Core.Bool.{Bool, true, false, not, _&&_, _||_, true≢false, false≢true}
 use mathlib.Core.Path.{_≡_, refl, sym, ap, _∙_, subst}
-use mathlib.Core.List.{List, [], _∷_, List·Memᴰ, List·Memᴰ·head, List·Memᴰ·tail, List·Memᴰ·cases-cons, List·Memᴰ·not-nil, List·Memᴰ·eq-of-singleton, Memᴰ·append-left, Memᴰ·append-right}
+use mathlib.Core.List.{List, [], _∷_, List·Memᴰ, List·Memᴰ·head, List·Memᴰ·tail, List·Memᴰ·eq-of-singleton}
 use mathlib.Core.Logic.{_≢_, _⊎_, inl, inr, ⊎-elim}
 use Prim.Native.Nat.{ℕ, _<_, _≤_}
-use native.Mathlib.Decide.{ℕ-discrete}
 use native.Mathlib.Omega.{arith}
 use lib.Dec.{T as Holds, eqb, le→leb}
-use lib.ListN.{length, getD, set, length-set}
-use lib.Seq.{getD-set-same, getD-set-other}
+use lib.ListN.{length, getD}
 use borrow.Author.Tests.{eqb-true}
 use Rattle.refusals.specs.Refusal.{accepted}
 use Rattle.lists.specs.Count.{count, count-mono}
 use Rattle.lists.specs.Distinct.{among, among-member, below, distinct}
-use Rattle.lists.specs.Listed.{listed, listed-length}
+use Rattle.lists.specs.Listed.{listed}
 use Rattle.lists.specs.Words.{Word, Lex, lex-or, lex-asym}
 use Rattle.lists.specs.Answers.{Found}
-use Rattle.soft.specs.TestWord.{bestAt, secondAt, bestWord, expand, testWords}
-use Rattle.soft.specs.TestWordLaws.{expand-nil, expand-cons, testWords-length, testWords-settled, bestWord-length}
+use Rattle.soft.specs.TestWord.{bestAt, Offered, bestWord, expand, testWords}
+use Rattle.soft.specs.TestWordLaws.{expand-nil, testWords-length, testWords-settled, chosen-test}
 use Rattle.soft.specs.Total.{symbolAt, changedAt, changedOf, totalOf, differAt, differing}
 use Rattle.soft.specs.TotalLaws.{agree-true, changed-differing}
 use Rattle.soft.specs.Doubt.{mostDoubt}
 use Rattle.soft.specs.DoubtLaws.{doubtful-none}
-use Rattle.code.specs.Encoding.{encodeOf, valueAt}
+use Rattle.code.specs.Encoding.{encodeOf}
+use Rattle.code.specs.Evaluation.{encode-length}
 use Rattle.near.specs.Near.{reachOf, nearTo}
 use Rattle.near.specs.Reach.{Workable}
 use Rattle.near.specs.Codeword.{near-one}
@@ -54,59 +51,6 @@ use Rattle.book.specs.Closing.{reportLength, Closed, reportFor, closeOf}
 use Rattle.book.specs.OpeningLaws.{Rate, rate-39, rate-49, rate-known, rate-reach}
 use Rattle.book.specs.Sentences.{testsOf, totalFor, IsNear, Dearer, IsAnswer, Closes, closes}
 use Rattle.book.specs.Table.{tableLength, tableColumns, pickedOf, tableOf, Delivered, delivered-columns, delivered-none-missing, table-as-session, entriesOf, order-delivered}
-
--- ---- a test word by its symbols at the doubtful places
-
-abbrev pub Offered : (ℕ → List ℕ) → ℕ → ℕ → Type 0
-Offered columns p s = (s ≡ bestAt columns p) ⊎ (s ≡ secondAt columns p)
-
-module _ (columns : ℕ → List ℕ) (symbol : ℕ → ℕ) where
-  -- what is chosen already stays chosen
-  set-chosen : (word : List ℕ) (q p : ℕ) → p < length word → (p ≡ q) ⊎ (getD word p 0 ≡ symbol p) → getD (set word q (symbol q)) p 0 ≡ symbol p
-  set-chosen word q p l c = go (ℕ-discrete p q) c
-    where
-      go : Dec (p ≡ q) → (p ≡ q) ⊎ (getD word p 0 ≡ symbol p) → getD (set word q (symbol q)) p 0 ≡ symbol p
-      go (yes e) d =
-          ap (λ j. getD (set word q (symbol q)) j 0) e ∙ getD-set-same word q (symbol q) 0 (subst (λ j. j < length word) e l) ∙ ap symbol (sym e)
-      go (no e) (inl f) = absurd (e f)
-      go (no e) (inr f) = getD-set-other word q p (symbol q) 0 e ∙ f
-
-  -- one doubtful place more, in the first branch of the tree or in the second
-  branch : (word : List ℕ) (q : ℕ) (ps t : List ℕ) → Offered columns q (symbol q) → List·Memᴰ t (expand columns (set word q (symbol q)) ps)
-      → List·Memᴰ t (expand columns word (q ∷ ps))
-  branch word q ps t (inl e) m =
-      subst (List·Memᴰ t) (sym (expand-cons columns word q ps))
-      (Memᴰ·append-left (expand columns (set word q (secondAt columns q)) ps) (subst (λ x. List·Memᴰ t (expand columns (set word q x) ps)) e m))
-  branch word q ps t (inr e) m =
-      subst (List·Memᴰ t) (sym (expand-cons columns word q ps))
-      (Memᴰ·append-right (expand columns (set word q (bestAt columns q)) ps) (subst (λ x. List·Memᴰ t (expand columns (set word q x) ps)) e m))
-
-  expand-chosen : (word ps : List ℕ) → ((p : ℕ) → List·Memᴰ p ps → Offered columns p (symbol p))
-      → (t : List ℕ) × List·Memᴰ t (expand columns word ps)
-      × ((p : ℕ) → p < length word → List·Memᴰ p ps ⊎ (getD word p 0 ≡ symbol p) → getD t p 0 ≡ symbol p)
-  expand-chosen word [] h = (
-    word,
-    subst (List·Memᴰ word) (sym (expand-nil columns word)) (List·Memᴰ·head refl),
-    λ p l c. ⊎-elim (λ m. absurd (List·Memᴰ·not-nil m)) (λ e. e) c,
-  )
-  expand-chosen word (q ∷ ps) h =
-      let r = expand-chosen (set word q (symbol q)) ps (λ p m. h p (List·Memᴰ·tail m)) in (
-        r .0,
-        branch word q ps (r .0) (h q (List·Memᴰ·head refl)) (r .1),
-        λ p l c.
-            r .2 p (rw length-set l)
-            (⊎-elim
-            (λ m. ⊎-elim (λ e. inr (set-chosen word q p l (inl e))) (λ i. inl i) (List·Memᴰ·cases-cons m))
-            (λ e. inr (set-chosen word q p l (inr e)))
-            c),
-      )
-
-  pub chosen-test : (n : ℕ) (doubtful : List ℕ) → ((p : ℕ) → List·Memᴰ p doubtful → Offered columns p (symbol p))
-      → (t : List ℕ) × List·Memᴰ t (testWords n columns doubtful) × ((p : ℕ) → p < n → List·Memᴰ p doubtful → getD t p 0 ≡ symbol p)
-  unfolding testWords
-  chosen-test n doubtful h =
-      let r = expand-chosen (bestWord n columns) doubtful h in
-      (r .0, r .1, λ p l m. r .2 p (omega (arith, bestWord-length n columns)) (inl m))
 
 -- ---- few wrong places
 
@@ -151,10 +95,6 @@ module _ (n : ℕ) (columns : ℕ → List ℕ) (doubtful word t : List ℕ) (si
   differing-wrong : differing n word t ≤ wrongOf n columns doubtful word
   unfolding differing wrongOf
   differing-wrong = count-mono n (differAt word t) (wrongAt columns doubtful word) differ-wrong
-
-encode-length : (k : ℕ) (m : List ℕ) → length (encodeOf k m) ≡ places
-unfolding encodeOf
-encode-length k m = listed-length 64 (valueAt k m)
 
 abbrev pub FewWrongIn : Book → ℕ → List ℕ → Type 0
 FewWrongIn book = FewWrong (book .rate) (columnsOf (book .row)) (book .doubtful)

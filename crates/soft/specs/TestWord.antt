@@ -1,9 +1,14 @@
--- Test words: a tree in which each doubtful place, lowest first, doubles them, once with its best and once with its second symbol.
+-- Test words (Chase's test patterns): a tree in which each doubtful place, lowest first, doubles them, once with its best and once with its second
+-- symbol.
 --
 --   bestWord n columns           every place carries its best symbol
 --   expand columns word places   the word, doubled at each of the places in turn: first with the best symbol there, then with the second
---   testWords n columns doubtful the test words of a list of doubtful places; the other places are settled and carry their best symbol
+--   testWords n columns doubtful the test words of a list of doubtful places; the other places are settled (the hard decision is kept) and carry their
+--                                best symbol
+--   Offered columns p s          the symbol s is the best or the second symbol of place p
+use mathlib.Core.Path.{_≡_}
 use mathlib.Core.List.{List, [], _∷_, _++_}
+use mathlib.Core.Logic.{_⊎_}
 use Prim.Native.Nat.{ℕ}
 use lib.ListN.{set}
 use Rattle.lists.specs.Listed.{listed}
@@ -14,6 +19,9 @@ bestAt columns p = bestOf (columns p)
 
 abbrev pub secondAt : (ℕ → List ℕ) → ℕ → ℕ
 secondAt columns p = secondOf (columns p)
+
+abbrev pub Offered : (ℕ → List ℕ) → ℕ → ℕ → Type 0
+Offered columns p s = (s ≡ bestAt columns p) ⊎ (s ≡ secondAt columns p)
 
 unfoldable pub bestWord : ℕ → (ℕ → List ℕ) → List ℕ
 bestWord n columns = listed n (bestAt columns)

@@ -4,12 +4,14 @@
 --   expand-count, testWords-count     d doubtful places make 2 ^ d test words
 --   expand-length, testWords-length   each has as many places as the word that it is made of
 --   testWords-settled      each carries the best symbol at every settled place,
---   testWords-symbol     and the best or the second symbol at every place
+--   testWords-symbol       and the best or the second symbol at every place
 --   testWords-first        the first carries the best symbol everywhere
+--   testWords-different    no two are equal: different doubtful places, each with two symbols at least, make different words
+--   chosen-test            whichever of the two symbols is chosen at each doubtful place, a test word has the chosen ones
 --   bestWord-length, bestWord-at   the word of best symbols
 --   bestWord-ext, expand-ext, testWords-ext   only the columns of the places matter
 use mathlib.Core.Path.{_≡_, refl, sym, ap, ap₂, _∙_, subst}
-use mathlib.Core.List.{List, [], _∷_, _++_, List·Memᴰ, List·Memᴰ·head, List·Memᴰ·tail, List·Memᴰ·append-cases, List·Memᴰ·eq-of-singleton}
+use mathlib.Core.List.{List, [], _∷_, _++_, List·Memᴰ, List·Memᴰ·head, List·Memᴰ·tail, List·Memᴰ·cases-cons, List·Memᴰ·append-cases, List·Memᴰ·not-nil, List·Memᴰ·eq-of-singleton, Memᴰ·append-left, Memᴰ·append-right}
 use mathlib.Core.Logic.{_≢_, _⊎_, inl, inr, ⊎-elim}
 use Prim.Native.Nat.{ℕ, _+_, _^_, _<_, _≤_}
 use native.Mathlib.Nat.{pow-suc}
@@ -18,8 +20,10 @@ use native.Mathlib.Omega.{arith}
 use lib.ListN.{length, getD, set, length-append, length-set}
 use lib.Seq.{getD-set-same, getD-set-other, set-getD, set-out}
 use Rattle.lists.specs.Listed.{listed-length, listed-at, listed-ext}
+use Rattle.lists.specs.Different.{Different, different-nil, different-cons, different-append}
 use Rattle.soft.specs.Column.{bestOf, secondOf}
-use Rattle.soft.specs.TestWord.{bestAt, secondAt, bestWord, expand, testWords}
+use Rattle.soft.specs.TestWord.{bestAt, secondAt, Offered, bestWord, expand, testWords}
+use Rattle.soft.specs.ColumnLaws.{second-other}
 
 module _ (columns : ℕ → List ℕ) where
   pub expand-nil : (word : List ℕ) → expand columns word [] ≡ word ∷ []
@@ -66,22 +70,34 @@ module _ (columns : ℕ → List ℕ) where
       (λ a. expand-settled (set word p (secondAt columns p)) ps t a k rest ∙ getD-set-other word p k (secondAt columns p) 0 other)
       (expand-cases word p ps t m)
 
-  -- at each place below the length: what the word has there, or the best or the second symbol
-  Either : ℕ → ℕ → Type 0
-  Either k x = (x ≡ bestAt columns k) ⊎ (x ≡ secondAt columns k)
+  -- the words of the two branches of a place differ there
+  expand-different : (word : List ℕ) {ps : List ℕ} → Different ps → ((p : ℕ) → List·Memᴰ p ps → (p < length word) × (secondAt columns p ≢ bestAt columns p))
+      → Different (expand columns word ps)
+  expand-different word different-nil h = subst Different (sym (expand-nil word)) (different-cons List·Memᴰ·not-nil different-nil)
+  expand-different word (different-cons {a = p} {l = ps} fresh d) h =
+      subst Different (sym (expand-cons word p ps))
+      (different-append (expand columns (set word p (secondAt columns p)) ps)
+      (expand-different (set word p (bestAt columns p)) d (λ q m. (rw length-set (h q (List·Memᴰ·tail m) .0), h q (List·Memᴰ·tail m) .1)))
+      (expand-different (set word p (secondAt columns p)) d (λ q m. (rw length-set (h q (List·Memᴰ·tail m) .0), h q (List·Memᴰ·tail m) .1)))
+      (λ t a b. h p (List·Memᴰ·head refl) .1 (sym (there (secondAt columns p) t b) ∙ there (bestAt columns p) t a)))
+    where
+      there : (x : ℕ) (t : List ℕ) → List·Memᴰ t (expand columns (set word p x) ps) → getD t p 0 ≡ x
+      there x t m = expand-settled (set word p x) ps t m p fresh ∙ getD-set-same word p x 0 (h p (List·Memᴰ·head refl) .0)
 
-  set-either : (word : List ℕ) (p k x : ℕ) → k < length word → ((k ≡ p) → Either k x) → Either k (getD word k 0) → Either k (getD (set word p x) k 0)
+  -- at each place below the length: what the word has there, or the best or the second symbol
+  set-either : (word : List ℕ) (p k x : ℕ) → k < length word → ((k ≡ p) → Offered columns k x) → Offered columns k (getD word k 0)
+      → Offered columns k (getD (set word p x) k 0)
   set-either word p k x l new old = go (ℕ-discrete k p)
     where
-      go : Dec (k ≡ p) → Either k (getD (set word p x) k 0)
+      go : Dec (k ≡ p) → Offered columns k (getD (set word p x) k 0)
       go (yes e) =
-          subst (λ (y : ℕ). Either k y)
+          subst (λ (y : ℕ). Offered columns k y)
           (sym (ap (λ j. getD (set word p x) j 0) e ∙ getD-set-same word p x 0 (subst (λ j. j < length word) e l))) (new e)
-      go (no e) = subst (λ (y : ℕ). Either k y) (sym (getD-set-other word p k x 0 e)) old
+      go (no e) = subst (λ (y : ℕ). Offered columns k y) (sym (getD-set-other word p k x 0 e)) old
 
-  expand-either : (word ps t : List ℕ) → List·Memᴰ t (expand columns word ps) → (k : ℕ) → k < length word → Either k (getD word k 0) → Either k (getD t k 0)
-  unfolding Either
-  expand-either word [] t m k l e = subst (λ (w : List ℕ). Either k (getD w k 0)) (sym (expand-single word t m)) e
+  expand-either : (word ps t : List ℕ) → List·Memᴰ t (expand columns word ps) → (k : ℕ) → k < length word → Offered columns k (getD word k 0)
+      → Offered columns k (getD t k 0)
+  expand-either word [] t m k l e = subst (λ (w : List ℕ). Offered columns k (getD w k 0)) (sym (expand-single word t m)) e
   expand-either word (p ∷ ps) t m k l e =
       ⊎-elim
       (λ a.
@@ -140,10 +156,65 @@ module _ (n : ℕ) (columns : ℕ → List ℕ) (doubtful : List ℕ) where
     testWords-settled p l out =
         expand-settled columns (bestWord n columns) doubtful t m p out ∙ bestWord-at n columns p l
 
-    pub testWords-symbol : (p : ℕ) → p < n → (getD t p 0 ≡ bestAt columns p) ⊎ (getD t p 0 ≡ secondAt columns p)
-    unfolding testWords Either
+    pub testWords-symbol : (p : ℕ) → p < n → Offered columns p (getD t p 0)
+    unfolding testWords
     testWords-symbol p l =
         expand-either columns (bestWord n columns) doubtful t m p (omega (arith, bestWord-length n columns)) (inl (bestWord-at n columns p l))
+
+pub testWords-different : (n : ℕ) (columns : ℕ → List ℕ) {doubtful : List ℕ} → Different doubtful → ((p : ℕ) → List·Memᴰ p doubtful → p < n)
+    → ((p : ℕ) → List·Memᴰ p doubtful → 1 < length (columns p)) → Different (testWords n columns doubtful)
+unfolding testWords
+testWords-different n columns d b two =
+    expand-different columns (bestWord n columns) d
+    (λ p m. (omega (arith, bestWord-length n columns, b p m), second-other (columns p) (two p m)))
+
+module _ (columns : ℕ → List ℕ) (symbol : ℕ → ℕ) where
+  -- what is chosen already stays chosen
+  set-chosen : (word : List ℕ) (q p : ℕ) → p < length word → (p ≡ q) ⊎ (getD word p 0 ≡ symbol p) → getD (set word q (symbol q)) p 0 ≡ symbol p
+  set-chosen word q p l c = go (ℕ-discrete p q) c
+    where
+      go : Dec (p ≡ q) → (p ≡ q) ⊎ (getD word p 0 ≡ symbol p) → getD (set word q (symbol q)) p 0 ≡ symbol p
+      go (yes e) d =
+          ap (λ j. getD (set word q (symbol q)) j 0) e ∙ getD-set-same word q (symbol q) 0 (subst (λ j. j < length word) e l) ∙ ap symbol (sym e)
+      go (no e) (inl f) = absurd (e f)
+      go (no e) (inr f) = getD-set-other word q p (symbol q) 0 e ∙ f
+
+  -- one doubtful place more, in the first branch of the tree or in the second
+  branch : (word : List ℕ) (q : ℕ) (ps t : List ℕ) → Offered columns q (symbol q) → List·Memᴰ t (expand columns (set word q (symbol q)) ps)
+      → List·Memᴰ t (expand columns word (q ∷ ps))
+  branch word q ps t (inl e) m =
+      subst (List·Memᴰ t) (sym (expand-cons columns word q ps))
+      (Memᴰ·append-left (expand columns (set word q (secondAt columns q)) ps) (subst (λ x. List·Memᴰ t (expand columns (set word q x) ps)) e m))
+  branch word q ps t (inr e) m =
+      subst (List·Memᴰ t) (sym (expand-cons columns word q ps))
+      (Memᴰ·append-right (expand columns (set word q (bestAt columns q)) ps) (subst (λ x. List·Memᴰ t (expand columns (set word q x) ps)) e m))
+
+  expand-chosen : (word ps : List ℕ) → ((p : ℕ) → List·Memᴰ p ps → Offered columns p (symbol p))
+      → (t : List ℕ) × List·Memᴰ t (expand columns word ps)
+      × ((p : ℕ) → p < length word → List·Memᴰ p ps ⊎ (getD word p 0 ≡ symbol p) → getD t p 0 ≡ symbol p)
+  expand-chosen word [] h = (
+    word,
+    subst (List·Memᴰ word) (sym (expand-nil columns word)) (List·Memᴰ·head refl),
+    λ p l c. ⊎-elim (λ m. absurd (List·Memᴰ·not-nil m)) (λ e. e) c,
+  )
+  expand-chosen word (q ∷ ps) h =
+      let r = expand-chosen (set word q (symbol q)) ps (λ p m. h p (List·Memᴰ·tail m)) in (
+        r .0,
+        branch word q ps (r .0) (h q (List·Memᴰ·head refl)) (r .1),
+        λ p l c.
+            r .2 p (rw length-set l)
+            (⊎-elim
+            (λ m. ⊎-elim (λ e. inr (set-chosen word q p l (inl e))) (λ i. inl i) (List·Memᴰ·cases-cons m))
+            (λ e. inr (set-chosen word q p l (inr e)))
+            c),
+      )
+
+  pub chosen-test : (n : ℕ) (doubtful : List ℕ) → ((p : ℕ) → List·Memᴰ p doubtful → Offered columns p (symbol p))
+      → (t : List ℕ) × List·Memᴰ t (testWords n columns doubtful) × ((p : ℕ) → p < n → List·Memᴰ p doubtful → getD t p 0 ≡ symbol p)
+  unfolding testWords
+  chosen-test n doubtful h =
+      let r = expand-chosen (bestWord n columns) doubtful h in
+      (r .0, r .1, λ p l m. r .2 p (omega (arith, bestWord-length n columns)) (inl m))
 
 -- only the columns of the places matter
 pub bestWord-ext : (n : ℕ) (c e : ℕ → List ℕ) → ((p : ℕ) → p < n → c p ≡ e p) → bestWord n c ≡ bestWord n e
