@@ -1,10 +1,10 @@
--- A place's column: a list of costs, one for each symbol, and what document 01 reads off it.
+-- A place's column (the soft information of one position): a list of costs, one for each symbol, and what document 01 reads off it.
 --
 --   places, symbols, ceiling   64 places; 16 symbols; 65535, the largest cost, which reads 'at least' (a saturated cost)
 --   costOf column s        the cost of the symbol s
---   bestOf column          the best symbol: least cost, equal costs to the smaller symbol
+--   bestOf column          the best symbol (hard decision): least cost, equal costs to the smaller symbol
 --   secondOf column        the second symbol: the best of the others
---   gapOf column           the gap: second cost minus best cost
+--   gapOf column           the gap (reliability): second cost minus best cost
 --   bestBut column b n     the best of the first n symbols, b left out; step by step, firstBut and betterOf
 --   pairAt bytes i         the number in two bytes, high first
 --   costsFrom n bytes      n costs from their bytes, two each: a column, or the columns of a table one after the other

@@ -1,4 +1,4 @@
--- Which places are doubtful: the d places of smallest gap, equal gaps to the lower place.
+-- Which places are doubtful (the least reliable positions): the d places of smallest gap, equal gaps to the lower place.
 --
 --   mostDoubt              8, the largest doubt
 --   aheadBy g p h q        place p with gap g is ahead of place q with gap h: its gap is smaller, or equal and p is the lower place

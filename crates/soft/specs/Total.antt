@@ -4,7 +4,7 @@
 --   costIn columns word p      what the word's symbol costs at place p
 --   totalOf n columns word     the total: the sum of these costs over n places, a cost at the ceiling summed as it stands
 --   pinnedOf n columns word    the pinned places: how many of these costs are at the ceiling (saturated)
---   changedOf n columns word   the changed places: where the word's symbol is not the best symbol
+--   changedOf n columns word   the changed places (where the hard decision is overruled): where the word's symbol is not the best symbol
 --   agree u v p                the words have equal entries at place p, and neither lacks one
 --   differing n u v            in how many of n places two words differ; a missing entry differs
 --   bytesOf n v                v in n bytes, high byte first
