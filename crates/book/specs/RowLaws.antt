@@ -3,6 +3,7 @@
 --   placesOf row         the places of a row, in its order
 --   wide row             every column of the row has sixteen costs
 --   Proper book          what every book has that opening and deliveries lead to: a known rate, a fit list, distinct places below 64, columns of sixteen costs
+--   columns-wide         every column has sixteen costs, those of missing places too
 --   taken-among          a place is taken exactly if it is among the row's places
 --   column-append, column-one   the columns of one row after another, and of one entry
 --   missing-some, some-missing   a place is missing exactly if one of the 64 is not in the row
@@ -19,12 +20,13 @@ use native.Mathlib.Decide.{decLt}
 use native.Mathlib.Omega.{arith}
 use lib.Dec.{eqb, ltb, leb}
 use lib.ListN.{length}
-use borrow.Author.Tests.{lt-ltb, le-ltb, ltb-true, eq-eqb, not-true}
+use borrow.Author.Tests.{lt-ltb, le-ltb, ltb-true, eq-eqb, eqb-true, not-true}
 use Rattle.refusals.specs.Refusal.{accepted, noPlace, placeTaken, unknownRate, wrongDoubt}
 use Rattle.lists.specs.Every.{every, every-at, every-false, true-T, T-true}
 use Rattle.lists.specs.Distinct.{among, distinct, below, below-append, below-one, below-nil, distinct-nil, distinct-snoc, distinct-every, and-left, and-right, and-both}
 use Rattle.code.specs.Encoding.{knownRate}
 use Rattle.book.specs.Book.{places, width, Entry, Book, newBook, columnOf, present, taken, missing, someMissing}
+use Rattle.book.specs.Columns.{orZeros, columnsOf}
 use Rattle.book.specs.Opening.{fitDoubt, refusedOpening, openOf}
 use Rattle.book.specs.Delivery.{withEntry, deliverOf}
 
@@ -35,6 +37,15 @@ placesOf (e ∷ row) = e .place ∷ placesOf row
 unfoldable pub wide : List Entry → Bool
 wide [] = true
 wide (e ∷ row) = eqb (length (e .column)) width && wide row
+
+pub columns-wide : (row : List Entry) → wide row ≡ true → (p : ℕ) → length (columnsOf row p) ≡ width
+unfolding columnsOf columnOf wide
+columns-wide [] w p = refl
+columns-wide (e ∷ row) w p = go (eqb (e .place) p) (columns-wide row (and-right (eqb (length (e .column)) width) (wide row) w) p)
+  where
+    go : (b : Bool) → length (orZeros (columnOf row p)) ≡ width → length (orZeros (cond b (some (e .column)) (columnOf row p))) ≡ width
+    go true ih = eqb-true (length (e .column)) width (and-left (eqb (length (e .column)) width) (wide row) w)
+    go false ih = ih
 
 pub record Proper (book : Book) : Type 0 where
   pub rate-known : knownRate (book .rate) ≡ true

@@ -2,6 +2,7 @@
 --
 --   opening-accepts, opening-only   opening accepts rates 39 and 49 with every strictly rising list of at most 8 places, none above 63, and nothing else
 --   Reads book bytes, reading-least   reading into 82 bytes shows the least Q through the row's settled places
+--   testsOf book, tests-different   the test words; no two are equal, in every book that opening and deliveries lead to
 --   IsNear book T m      the codeword of the message m is near: it differs from some test word in at most T places
 --   Dearer book m n      the codeword of n has a larger total than that of m, or an equal total and n is the larger message
 --   IsAnswer book T c    the message of a near codeword, every other near codeword is dearer, and the report is that message's
@@ -29,9 +30,13 @@ use lib.Dec.{T as Holds, eqb, leb→le, le→leb}
 use lib.ListN.{length, getD}
 use borrow.Author.Tests.{eqb-true, eqb-false}
 use Rattle.refusals.specs.Refusal.{accepted, wrongSize, placeMissing, noneNear}
+use Rattle.lists.specs.Count.{rising-steps}
+use Rattle.lists.specs.Different.{Different, rising-different}
+use Rattle.lists.specs.Member.{at-member}
 use Rattle.lists.specs.Words.{Word, Lex}
 use Rattle.lists.specs.Answers.{Answers, nobody, best, cheaper, earlier, NoWorse, Found}
 use Rattle.soft.specs.TestWord.{testWords}
+use Rattle.soft.specs.TestWordLaws.{testWords-different}
 use Rattle.soft.specs.Total.{totalOf, differing}
 use Rattle.code.specs.Encoding.{encodeOf, knownRate}
 use Rattle.hermitian.specs.Keys.{Term, plain, timesZ, key}
@@ -54,7 +59,7 @@ use Rattle.book.specs.Closing.{reportLength, Closed, refusedClosing, rep
 use Rattle.book.specs.ClosingLaws.{refused-number, fits-both, fits-of, close-size, close-missing, close-decoded, close-kept, decode-none, decode-some}
 use Rattle.book.specs.CaptureOpening.{deliverRow, rateIn, listIn, recordsIn, openCaptureOf}
 use Rattle.book.specs.CaptureCases.{row-above, row-taken, row-next, row-none, open-checked, open-with, bookIn, capture-fit}
-use Rattle.book.specs.RowLaws.{deliver-above, deliver-taken, deliver-accepted, open-accepted, open-refused-rate, open-refused-list}
+use Rattle.book.specs.RowLaws.{Proper, columns-wide, deliver-above, deliver-taken, deliver-accepted, open-accepted, open-refused-rate, open-refused-list}
 use Rattle.book.specs.RoundTrip.{write-size, write-missing, write-accepted}
 use Rattle.book.specs.Calls.{Call, deliver, reading, writing, closing, Answer, firstLent, secondLent, answer, after, answers, afterAll}
 use Rattle.book.specs.OpeningLaws.{Rate, DoubtfulList, rate-known, known-rate, rate-reach, list-fits, fits-list}
@@ -127,6 +132,15 @@ module _ (book : Book) where
     pub near : IsNear T (c .message)
     pub others : (n : List ℕ) → IsNear T n → n ≢ c .message → Dearer (c .message) n
     pub report : c .report ≡ reportFor (book .rate) (columnsOf (book .row)) (book .doubtful) (c .message)
+
+-- different doubtful places make different test words
+pub tests-different : {book : Book} → Proper book → Different (testsOf book)
+unfolding testsOf
+tests-different {book} proper =
+    let d = fits-list (book .doubtful) (proper .list-fit) in
+    testWords-different places (columnsOf (book .row)) (rising-different (book .doubtful) (rising-steps (book .doubtful) (d .rises)))
+    (λ p m. let s = at-member 0 m in omega (arith, d .in-range (s .0) (s .1), s .2))
+    (λ p m. omega (arith, columns-wide (book .row) (proper .all-wide) p))
 
 -- near a member of a list is near the list
 member-near : (k : ℕ) (t : List ℕ) (ts : List (List ℕ)) (m : List ℕ) → List·Memᴰ t ts → Holds (nearTo k t m) → Holds (near k ts m)
