@@ -4,6 +4,7 @@
 --   DoubtfulList list    at most 8 places, none above 63, strictly rising: each smaller than the next
 --   rate-known, known-rate   the rates that pass the test
 --   rate-reach           T is document 01's
+--   rate-orders          M is at least 43, so that the 82 bytes of a reading have room for the least Q
 --   list-fits, fits-list the lists that pass the test
 use mathlib.Core.Bool.{true, _&&_}
 use mathlib.Core.Path.{_≡_, refl, sym, subst}
@@ -18,7 +19,7 @@ use borrow.Author.Tests.{lt-ltb, leb-true, le-leb}
 use Rattle.lists.specs.Distinct.{below, below-at, and-left, and-right, and-both}
 use Rattle.code.specs.Encoding.{knownRate}
 use Rattle.code.specs.Rates.{known-rates}
-use Rattle.near.specs.Near.{reachOf}
+use Rattle.near.specs.Near.{mOf, reachOf}
 use Rattle.near.specs.Reach.{reaches}
 use Rattle.book.specs.Book.{places}
 use Rattle.book.specs.Opening.{risingFrom, rising, fitPlaces, fitDoubt}
@@ -40,6 +41,10 @@ rate-known rate-49 = refl
 pub rate-reach : {rate T : ℕ} → Rate rate T → reachOf rate ≡ T
 rate-reach rate-39 = reaches .1
 rate-reach rate-49 = reaches .3
+
+pub rate-orders : {rate T : ℕ} → Rate rate T → 43 ≤ mOf rate
+rate-orders rate-39 = omega (arith, reaches .0)
+rate-orders rate-49 = omega (arith, reaches .2)
 
 pub known-rate : (rate : ℕ) → knownRate rate ≡ true → (T : ℕ) × Rate rate T
 known-rate rate e =

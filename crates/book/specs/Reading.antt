@@ -1,5 +1,6 @@
 -- Interpolant reading: size.
 --
+--   highestOrder book      M, the highest order that the book's rate uses
 --   isSettled book p       p is taken and not doubtful
 --   settledBelow book n    the settled places below n that are taken, each with its best symbol
 --   settledOf book         all of them: the row as a set decides, in whatever order its places were accepted
@@ -22,6 +23,9 @@ use Rattle.book.specs.Writing.{Filled}
 abbrev pub readingLength : ℕ
 readingLength = 82
 
+abbrev pub highestOrder : Book → ℕ
+highestOrder book = mOf (book .rate)
+
 unfoldable pub isSettled : Book → ℕ → Bool
 isSettled book p = taken (book .row) p && not (among p (book .doubtful))
 
@@ -39,5 +43,5 @@ settledOf book = settledBelow book places
 unfoldable pub readOf : Book → List ℕ → Filled
 readOf book out =
     cond (eqb (length out) readingLength)
-    (record { number = accepted; bytes = readingOf (mOf (book .rate)) (settledOf book) })
+    (record { number = accepted; bytes = readingOf (highestOrder book) (settledOf book) })
     (record { number = wrongSize; bytes = out })

@@ -2,6 +2,7 @@
 --
 --   settled-yes, settled-no        the settled places, place by place
 --   settled-there, settled-only    they are the places below 64 that are taken and not doubtful, each with its best symbol
+--   settled-few                    there are at most 64
 --   settledRow list row            the row's settled places in the row's own order
 --   reading-row                    they have the same reading: the order in which places were accepted does not matter
 --   read-size, read-accepted       the two cases of reading
@@ -11,7 +12,7 @@ use mathlib.Core.Bool.{Bool, true, false, cond, not, true≢false}
 use mathlib.Core.Path.{_≡_, refl, sym, ap, _∙_, subst}
 use mathlib.Core.List.{List, [], _∷_, List·Memᴰ, List·Memᴰ·head, List·Memᴰ·tail, List·Memᴰ·cases-cons, List·Memᴰ·not-nil}
 use mathlib.Core.Logic.{_⊎_, inl, inr, ⊎-elim}
-use Prim.Native.Nat.{ℕ, zero, suc, _<_}
+use Prim.Native.Nat.{ℕ, zero, suc, _<_, _≤_}
 use native.Mathlib.Omega.{arith}
 use native.Mathlib.Nat.{eq-or-lt-of-le, le-of-suc-le-suc, le-step, lt-suc-self}
 use lib.Dec.{eqb}
@@ -21,13 +22,12 @@ use Rattle.lists.specs.Distinct.{among, below-among, and-left, and-right, and-b
 use Rattle.refusals.specs.Refusal.{accepted, wrongSize}
 use Rattle.soft.specs.Column.{bestOf}
 use Rattle.code.specs.Nodes.{Node, node}
-use Rattle.near.specs.Near.{mOf}
 use Rattle.interpolant.specs.LeastQ.{readingOf}
 use Rattle.interpolant.specs.Reading.{reading-size, reading-any-order}
 use Rattle.book.specs.Book.{places, Entry, Book, taken}
 use Rattle.book.specs.Columns.{columns-taken, column-taken}
 use Rattle.book.specs.Writing.{Filled}
-use Rattle.book.specs.Reading.{readingLength, isSettled, settledAt, settledBelow, settledOf, readOf}
+use Rattle.book.specs.Reading.{readingLength, highestOrder, isSettled, settledAt, settledBelow, settledOf, readOf}
 use Rattle.book.specs.RowLaws.{placesOf, Proper, taken-among}
 use Rattle.book.specs.Entries.{place-among, entry-column, column-entry}
 
@@ -42,9 +42,21 @@ module _ (book : Book) where
   unfolding settledBelow
   settled-no p e = rw e
 
-  nothing : {n : Node} → List·Memᴰ n (settledBelow book 0) → ⊥
+  settled-nil : settledBelow book 0 ≡ []
   unfolding settledBelow
-  nothing m = List·Memᴰ·not-nil m
+  settled-nil = refl
+
+  few : (n : ℕ) → length (settledBelow book n) ≤ n
+  few zero = omega (arith, ap length settled-nil)
+  few (suc n) = go (isSettled book n) refl (few n)
+    where
+      go : (b : Bool) → isSettled book n ≡ b → length (settledBelow book n) ≤ n → length (settledBelow book (suc n)) ≤ suc n
+      go true e ih = omega (arith, ap length (settled-yes n e))
+      go false e ih = omega (arith, ap length (settled-no n e))
+
+  pub settled-few : length (settledOf book) ≤ 64
+  unfolding settledOf
+  settled-few = few places
 
   there : (n p : ℕ) → p < n → isSettled book p ≡ true → List·Memᴰ (settledAt book p) (settledBelow book n)
   there zero p h e = absurd (omega arith)
@@ -58,7 +70,7 @@ module _ (book : Book) where
       go false f (inr l) ih = rw (settled-no n f) (ih l)
 
   only : (n : ℕ) (s : Node) → List·Memᴰ s (settledBelow book n) → (p : ℕ) × (p < n) × (isSettled book p ≡ true) × (s ≡ settledAt book p)
-  only zero s m = absurd (nothing m)
+  only zero s m = absurd (List·Memᴰ·not-nil (rw settled-nil at m))
   only (suc n) s m = go (isSettled book n) refl m (only n s)
     where
       Some : ℕ → Type 0
@@ -158,7 +170,7 @@ module _ (book : Book) (out : List ℕ) where
   read-size h = rw (ne-eqb (length out) readingLength h)
 
   pub read-accepted : length out ≡ readingLength
-      → readOf book out ≡ record { number = accepted; bytes = readingOf (mOf (book .rate)) (settledOf book) }
+      → readOf book out ≡ record { number = accepted; bytes = readingOf (highestOrder book) (settledOf book) }
   unfolding readOf
   read-accepted h = rw (eq-eqb (length out) readingLength h)
 
@@ -175,5 +187,5 @@ module _ (book : Book) (out : List ℕ) where
       go : (b : Bool) → eqb (length out) readingLength ≡ b → length (readOf book out .bytes) ≡ length out
       go true e =
           let h : length out ≡ readingLength = eqb-true (length out) readingLength e in
-          ap (λ (f : Filled). length (f .bytes)) (read-accepted h) ∙ reading-size (mOf (book .rate)) (settledOf book) ∙ sym h
+          ap (λ (f : Filled). length (f .bytes)) (read-accepted h) ∙ reading-size (highestOrder book) (settledOf book) ∙ sym h
       go false e = ap (λ (f : Filled). length (f .bytes)) (read-size (eqb-false (length out) readingLength e))

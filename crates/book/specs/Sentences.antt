@@ -1,7 +1,8 @@
 -- Document 01's sentences about the book of a session, each a theorem of the book.
 --
 --   opening-accepts, opening-only   opening accepts rates 39 and 49 with every strictly rising list of at most 8 places, none above 63, and nothing else
---   Reads book bytes, reading-least   reading into 82 bytes shows the least Q through the row's settled places
+--   Reads book bytes, reading-least   reading into 82 bytes shows the least Q through the row's settled places: each coefficient in its byte, none
+--                        outside the bytes, and 0 for missing orders
 --   testsOf book, tests-different   the test words; no two are equal, in every book that opening and deliveries lead to
 --   IsNear book T m      the codeword of the message m is near: it differs from some test word in at most T places
 --   Dearer book m n      the codeword of n has a larger total than that of m, or an equal total and n is the larger message
@@ -39,13 +40,14 @@ use Rattle.soft.specs.TestWord.{testWords}
 use Rattle.soft.specs.TestWordLaws.{testWords-different}
 use Rattle.soft.specs.Total.{totalOf, differing}
 use Rattle.code.specs.Encoding.{encodeOf, knownRate}
+use Rattle.hermitian.specs.Present.{Present}
 use Rattle.hermitian.specs.Keys.{Term, plain, timesZ, key}
-use Rattle.near.specs.Near.{mOf, reachOf, nearTo, near, messageCost, answerOf}
+use Rattle.near.specs.Near.{reachOf, nearTo, near, messageCost, answerOf}
 use Rattle.near.specs.Laws.{near-cons, near-member, near-answers}
 use Rattle.interpolant.specs.LeastQ.{coefficient}
-use Rattle.interpolant.specs.Meaning.{IsLeastQ}
+use Rattle.interpolant.specs.Meaning.{IsLeastQ, Shown}
 use Rattle.interpolant.specs.Least.{leastQ-some}
-use Rattle.interpolant.specs.Reading.{reading-size, reading-plain, reading-z}
+use Rattle.interpolant.specs.Reading.{reading-size, reading-plain, reading-z, missing-plain, missing-z, all-shown}
 use Rattle.book.specs.Book.{places, Entry, Book, newBook, columnOf, taken, someMissing, Outcome}
 use Rattle.book.specs.Opening.{fitDoubt, refusedOpening, openOf}
 use Rattle.book.specs.Delivery.{withEntry, deliverOf}
@@ -53,8 +55,8 @@ use Rattle.book.specs.Capture.{captureLength}
 use Rattle.book.specs.Writing.{Filled, writeOf}
 use Rattle.book.specs.Columns.{columnsOf, taken-alike, missing-alike, columns-alike}
 use Rattle.book.specs.Entries.{Missing, missing-there, missing-none}
-use Rattle.book.specs.Reading.{readingLength, isSettled, settledAt, settledBelow, settledOf, readOf}
-use Rattle.book.specs.ReadingLaws.{read-accepted, read-kept}
+use Rattle.book.specs.Reading.{readingLength, highestOrder, isSettled, settledAt, settledBelow, settledOf, readOf}
+use Rattle.book.specs.ReadingLaws.{settled-few, read-accepted, read-kept}
 use Rattle.book.specs.Closing.{reportLength, Closed, refusedClosing, reportFor, decodeOf, closingFits, closeOf}
 use Rattle.book.specs.ClosingLaws.{refused-number, fits-both, fits-of, close-size, close-missing, close-decoded, close-kept, decode-none, decode-some}
 use Rattle.book.specs.CaptureOpening.{deliverRow, rateIn, listIn, recordsIn, openCaptureOf}
@@ -62,7 +64,7 @@ use Rattle.book.specs.CaptureCases.{row-above, row-taken, row-next, row-
 use Rattle.book.specs.RowLaws.{Proper, columns-wide, deliver-above, deliver-taken, deliver-accepted, open-accepted, open-refused-rate, open-refused-list}
 use Rattle.book.specs.RoundTrip.{write-size, write-missing, write-accepted}
 use Rattle.book.specs.Calls.{Call, deliver, reading, writing, closing, Answer, firstLent, secondLent, answer, after, answers, afterAll}
-use Rattle.book.specs.OpeningLaws.{Rate, DoubtfulList, rate-known, known-rate, rate-reach, list-fits, fits-list}
+use Rattle.book.specs.OpeningLaws.{Rate, DoubtfulList, rate-known, known-rate, rate-reach, rate-orders, list-fits, fits-list}
 
 -- ---- 'For every rate and every strictly rising list of up to 8 doubtful places, none above 63, opening accepts'
 
@@ -85,25 +87,36 @@ opening-only rate list n = go (knownRate rate) refl (fitDoubt list) refl
 pub record Reads (book : Book) (bytes : List ℕ) : Type 0 where
   pub q : List ℕ
   pub highest : Term
-  pub least : IsLeastQ (mOf (book .rate)) (settledOf book) q highest
+  pub least : IsLeastQ (highestOrder book) (settledOf book) q highest
   pub size : length bytes ≡ readingLength
-  pub without-z : (o : ℕ) → o ≤ 64 → getD bytes o 0 ≡ coefficient q (key (mOf (book .rate)) (plain o))
-  pub with-z : (o : ℕ) → o ≤ 16 → getD bytes (65 + o) 0 ≡ coefficient q (key (mOf (book .rate)) (timesZ o))
+  pub without-z : (o : ℕ) → o ≤ 64 → getD bytes o 0 ≡ coefficient q (key (highestOrder book) (plain o))
+  pub with-z : (o : ℕ) → o ≤ 16 → getD bytes (65 + o) 0 ≡ coefficient q (key (highestOrder book) (timesZ o))
+  -- 'It shows the least Q': all of it
+  pub all-there : (k : ℕ) → coefficient q k ≢ 0 → Shown (highestOrder book) k
+  -- 'missing orders hold 0'
+  pub missing-zero : (o : ℕ) → ¬ Present 4 o → (o ≤ 64 → getD bytes o 0 ≡ 0) × (o ≤ 16 → getD bytes (65 + o) 0 ≡ 0)
 
-pub reading-least : (book : Book) (out : List ℕ) → length out ≡ readingLength → (readOf book out .number ≡ accepted) × Reads book (readOf book out .bytes)
-reading-least book out h =
-    let M = mOf (book .rate) in
+pub reading-least : (book : Book) {T : ℕ} → Rate (book .rate) T → (out : List ℕ) → length out ≡ readingLength
+    → (readOf book out .number ≡ accepted) × Reads book (readOf book out .bytes)
+reading-least book rate out h =
+    let M = highestOrder book in
+    let ns = settledOf book in
     let a = read-accepted book out h in
-    let l = leastQ-some M (settledOf book) in (
+    let l = leastQ-some M ns in (
       ap (λ (f : Filled). f .number) a,
       subst (λ (f : Filled). Reads book (f .bytes)) (sym a)
           (record {
             q = l .0;
             highest = l .1;
             least = l .4;
-            size = reading-size M (settledOf book);
-            without-z = reading-plain M (settledOf book) (l .2);
-            with-z = reading-z M (settledOf book) (l .2);
+            size = reading-size M ns;
+            without-z = reading-plain M ns (l .2);
+            with-z = reading-z M ns (l .2);
+            all-there = all-shown M ns (l .2) (rate-orders rate) (settled-few book);
+            missing-zero = λ o n. (
+              λ h. reading-plain M ns (l .2) o h ∙ missing-plain M ns (l .2) o n,
+              λ h. reading-z M ns (l .2) o h ∙ missing-z M ns (l .2) o n,
+            );
           }),
     )
 

@@ -9,12 +9,10 @@
 --   reading-any-order   'the reading does not depend on the order in which places arrived'
 --   least-weight        with more terms of weight at most W than settled places, the highest term weighs at most W
 --   weight-39, weight-49   so with 64 settled places it weighs at most 60 at rate 39, and 64 at rate 49
---   outside-plain, outside-z, outside-bytes   from M = 43 on, nothing of the least Q lies outside the 82 bytes
+--   outside-plain, outside-z, all-shown   from M = 43 on, nothing of the least Q through at most 64 places lies outside the 82 bytes
 --   reading-determines  so they determine it
---   placesOf, settled-most   settled places that are distinct are at most 64
-use mathlib.Core.Bool.{true}
-use mathlib.Core.Path.{_≡_, refl, sym, ap, _∙_, subst}
-use mathlib.Core.List.{List, [], _∷_, List·Memᴰ}
+use mathlib.Core.Path.{_≡_, sym, ap, _∙_, subst}
+use mathlib.Core.List.{List, List·Memᴰ}
 use mathlib.Core.Logic.{_≢_, inl}
 use mathlib.Core.Option.{some}
 use Prim.Native.Nat.{ℕ, suc, _+_, _-_, _*_, _/_, _<_, _≤_}
@@ -24,7 +22,6 @@ use lib.Dec.{lit≤}
 use lib.ListN.{length, getD}
 use borrow.Author.Tests.{lt-ltb, le-ltb}
 use Rattle.lists.specs.Listed.{listed, listed-length, listed-at, listed-ext}
-use Rattle.lists.specs.Distinct.{distinct, below, distinct-bound}
 use Rattle.algebra.specs.Least.{Least}
 use Rattle.galois.specs.Field16.{GF, K16, value}
 use Rattle.hermitian.specs.Present.{Present, genus}
@@ -33,7 +30,7 @@ use Rattle.hermitian.specs.Keys.{Term, plain, timesZ, key, weight, IsKey, isKey
 use Rattle.hermitian.specs.Size.{terms, terms-rank, least-size, terms-39, terms-49}
 use Rattle.code.specs.Nodes.{Node, sampleAt, ThroughNodes}
 use Rattle.interpolant.specs.LeastQ.{coefficient, keys, leastQ, byteKey, byteAt, bytesOf, readingOf}
-use Rattle.interpolant.specs.Meaning.{IsLeastQ}
+use Rattle.interpolant.specs.Meaning.{IsLeastQ, Shown, of-Q0, of-Q1}
 use Rattle.interpolant.specs.OnKeys.{coefficient-beyond, coefficient-below, coefficient-wordOf, coefficient-ext}
 use Rattle.interpolant.specs.Least.{least-ends, least-first, isLeastQ-least, leastQ-some, leastQ-is, leastQ-any-order}
 
@@ -134,21 +131,21 @@ module _ (M : ℕ) (ns : List Node) {q : List ℕ} (e : leastQ M ns ≡ some q) 
         let l : weight M (t .0) ≤ 16 + M = least-weight M (16 + M) (omega (arith, terms-bytes M large)) (t .2) in
         t .2 .highest .none-higher (timesZ o) (inl (omega arith))
 
-    pub outside-bytes : (k : ℕ) → ((i : ℕ) → i < 82 → k ≢ byteKey M i) → coefficient q k ≡ 0
-    outside-bytes k n = go (decKey 4 M k)
+    pub all-shown : (k : ℕ) → coefficient q k ≢ 0 → Shown M k
+    all-shown k n = go (decKey 4 M k)
       where
-        at-plain : (o : ℕ) → k ≡ key M (plain o) → Dec (o ≤ 64) → coefficient q (key M (plain o)) ≡ 0
-        at-plain o f (yes h) = absurd (n o (omega arith) (f ∙ sym (byteKey-plain M o h)))
-        at-plain o f (no h) = outside-plain o (omega arith)
+        at-plain : (o : ℕ) → k ≡ key M (plain o) → Dec (o ≤ 64) → Shown M k
+        at-plain o f (yes h) = of-Q0 o h f
+        at-plain o f (no h) = absurd (n (ap (coefficient q) f ∙ outside-plain o (omega arith)))
 
-        at-z : (o : ℕ) → k ≡ key M (timesZ o) → Dec (o ≤ 16) → coefficient q (key M (timesZ o)) ≡ 0
-        at-z o f (yes h) = absurd (n (65 + o) (omega arith) (f ∙ sym (byteKey-z M o)))
-        at-z o f (no h) = outside-z o (omega arith)
+        at-z : (o : ℕ) → k ≡ key M (timesZ o) → Dec (o ≤ 16) → Shown M k
+        at-z o f (yes h) = of-Q1 o h f
+        at-z o f (no h) = absurd (n (ap (coefficient q) f ∙ outside-z o (omega arith)))
 
-        go : Dec (IsKey 4 M k) → coefficient q k ≡ 0
-        go (yes (isKey (plain o) p f)) = ap (coefficient q) f ∙ at-plain o f (decLe o 64)
-        go (yes (isKey (timesZ o) p f)) = ap (coefficient q) f ∙ at-z o f (decLe o 16)
-        go (no h) = leastQ-is M ns e .2 .through .terms k h
+        go : Dec (IsKey 4 M k) → Shown M k
+        go (yes (isKey (plain o) p f)) = at-plain o f (decLe o 64)
+        go (yes (isKey (timesZ o) p f)) = at-z o f (decLe o 16)
+        go (no h) = absurd (n (leastQ-is M ns e .2 .through .terms k h))
 
 -- ---- so the bytes determine the least Q
 pub reading-determines : (M : ℕ) (ns ms : List Node) → 43 ≤ M → length ns ≤ 64 → length ms ≤ 64 → readingOf M ns ≡ readingOf M ms
@@ -174,16 +171,3 @@ reading-determines M ns ms large few few′ e =
     go k (yes (isKey (plain o) p f)) = ap (coefficient (a .0)) f ∙ at-plain o (decLe o 64) ∙ ap (coefficient (b .0)) (sym f)
     go k (yes (isKey (timesZ o) p f)) = ap (coefficient (a .0)) f ∙ at-z o (decLe o 16) ∙ ap (coefficient (b .0)) (sym f)
     go k (no h) = a .4 .through .terms k h ∙ sym (b .4 .through .terms k h)
-
--- ---- settled places that are distinct are at most 64
-unfoldable pub placesOf : List Node → List ℕ
-placesOf [] = []
-placesOf (n ∷ ns) = n .place ∷ placesOf ns
-
-placesOf-length : (ns : List Node) → length (placesOf ns) ≡ length ns
-unfolding placesOf
-placesOf-length [] = refl
-placesOf-length (n ∷ ns) = ap suc (placesOf-length ns)
-
-pub settled-most : (ns : List Node) → distinct (placesOf ns) ≡ true → below 64 (placesOf ns) ≡ true → length ns ≤ 64
-settled-most ns d b = subst (λ n. n ≤ 64) (placesOf-length ns) (distinct-bound 64 (placesOf ns) d b)
