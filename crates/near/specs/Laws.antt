@@ -3,6 +3,7 @@
 --   near-answers        the answer in the sense of `lists`: it has a near codeword and beats every other such message; or there is none
 --   near-nil, near-cons, near-append, near-member     near some test word of a list
 --   tests-nil, tests-cons, tests-append, tests-none   the count of a list of test words
+--   tests-le            it is at most their number; tests-tree: d doubtful places have at most 2 ^ d
 --   answer-append       the answer of two lists is the better of their answers
 --   answer-one          the answer of one test word is the message within T of it, whatever the costs
 --   answer-none, codeword-none   where no codeword is near
@@ -11,11 +12,14 @@ use mathlib.Core.Path.{_≡_, refl, sym, ap, _∙_, subst}
 use mathlib.Core.List.{List, [], _∷_, _++_, List·Memᴰ, List·Memᴰ·head, List·Memᴰ·tail}
 use mathlib.Core.Logic.{_↔_, _⊎_, inl, inr, ⊎-elim}
 use mathlib.Core.Option.{none}
-use Prim.Native.Nat.{ℕ, _+_}
+use Prim.Native.Nat.{ℕ, _+_, _^_, _≤_}
 use native.Mathlib.Omega.{arith}
 use lib.Dec.{T}
-use Rattle.lists.specs.Count.{bit}
+use lib.ListN.{length}
+use Rattle.lists.specs.Count.{bit, bit-le}
 use Rattle.lists.specs.Answers.{Answers, Found, answers-unique, answers-iff, answers-single, nobody, better, better-answers, free, firstThat-words, cheapest-words}
+use Rattle.soft.specs.TestWord.{testWords}
+use Rattle.soft.specs.TestWordLaws.{testWords-count}
 use Rattle.near.specs.Near.{nearTo, codewordNear, near, isSome, testsNear, messageCost, answerOf}
 use Rattle.near.specs.Reach.{Workable}
 use Rattle.near.specs.Codeword.{near-one}
@@ -131,3 +135,10 @@ tests-none k [] h = tests-nil k
 tests-none k (t ∷ ts) h =
     omega
     (arith, tests-cons k t ts, ap (λ o. bit (isSome o)) (h t (List·Memᴰ·head refl)), tests-none k ts (λ u m. h u (List·Memᴰ·tail m)))
+
+pub tests-le : (k : ℕ) (ts : List (List ℕ)) → testsNear k ts ≤ length ts
+tests-le k [] = omega (arith, tests-nil k)
+tests-le k (t ∷ ts) = omega (arith, tests-cons k t ts, tests-le k ts, bit-le (isSome (codewordNear k t)))
+
+pub tests-tree : (k n : ℕ) (columns : ℕ → List ℕ) (doubtful : List ℕ) → testsNear k (testWords n columns doubtful) ≤ 2 ^ length doubtful
+tests-tree k n columns doubtful = omega (arith, tests-le k (testWords n columns doubtful), testWords-count n columns doubtful)
