@@ -10,7 +10,7 @@
 --   open-checked, open-with   the first three checks passed: opening with its rate and list, and then delivering its records in their order
 --   capture-refused      a refused capture hands back what a refused opening does: a new book of rate 39 with an empty list
 --   bookIn bytes         the rate, the list and the records that a capture holds, as a book
---   Fit bytes, capture-fit   an accepted capture passes every check, and its book is bookIn
+--   Fit bytes, capture-fit   an accepted capture passes every check, and its book is bookIn; capture-proper: so it opens as a proper book
 --   RowVerdict, Verdict  which check a row of records, or a capture, fails first, with the number that this gives; 0 if none
 --   verdict, verdict-only   every byte string has a verdict, and it has only one: the number that opening answers
 use mathlib.Core.Bool.{Bool, true, false}
@@ -300,6 +300,9 @@ capture-fit bytes n =
         (records-wide places _)
         (sym (ap (λ (x : Outcome). x .number) opened) ∙ n) in
         record { size-fits = s; version-fits = v; length-fits = l; opens = opened ∙ delivered .0; proper = delivered .1 }
+
+pub capture-proper : (bytes : List ℕ) → openCaptureOf bytes .number ≡ accepted → Proper (openCaptureOf bytes .book)
+capture-proper bytes n = let fit = capture-fit bytes n in subst (λ (o : Outcome). Proper (o .book)) (sym (fit .opens)) (fit .proper)
 
 -- ---- a refused capture hands back what a refused opening does
 

@@ -3,6 +3,7 @@
 --   fits-both, fits-of   the size check passes exactly if the message buffer has k bytes and the report 8
 --   close-size, close-missing, close-decoded   the three cases of closing
 --   decode-none, decode-some                   the two cases of decoding
+--   decode-report, close-report   an accepted call gives the report of the message that it gives
 --   Kept, decode-kept, close-kept   a refused call leaves its buffers as they were
 --   Sized, decode-sized, close-sized   no call changes a buffer's length
 use mathlib.Core.Bool.{Bool, true, false}
@@ -10,6 +11,7 @@ use mathlib.Core.Path.{_≡_, refl, sym, ap, _∙_}
 use mathlib.Core.List.{List}
 use mathlib.Core.Option.{Option, none, some}
 use Prim.Native.Nat.{ℕ}
+use native.Mathlib.Omega.{arith}
 use lib.Dec.{eqb}
 use lib.ListN.{length}
 use borrow.Author.Tests.{eqb-true, eq-eqb}
@@ -70,6 +72,16 @@ module _ (k : ℕ) (columns : ℕ → List ℕ) (doubtful message report : List 
       go none e = rw (decode-none e) (refused-kept noneNear message report)
       go (some m) e = absurd (n (ap (λ (c : Closed). c .number) (decode-some e)))
 
+  pub decode-report : decodeOf k columns doubtful message report .number ≡ accepted
+      → decodeOf k columns doubtful message report .report ≡ reportFor k columns doubtful (decodeOf k columns doubtful message report .message)
+  decode-report n = go (answerOf k columns (testWords places columns doubtful)) refl
+    where
+      go : (o : Option (List ℕ)) → answerOf k columns (testWords places columns doubtful) ≡ o
+          → decodeOf k columns doubtful message report .report ≡ reportFor k columns doubtful (decodeOf k columns doubtful message report .message)
+      go none e =
+          absurd (omega (arith, sym (refused-number noneNear message report) ∙ sym (ap (λ (c : Closed). c .number) (decode-none e)) ∙ n))
+      go (some m) e = rw (decode-some e)
+
   pub decode-sized : length message ≡ k → length report ≡ reportLength → Sized message report (decodeOf k columns doubtful message report)
   decode-sized long eight =
       go (answerOf k columns (testWords places columns doubtful)) refl (near-answers k columns (testWords places columns doubtful))
@@ -124,6 +136,24 @@ module _ (book : Book) (message report : List ℕ) where
           rw (close-decoded e m)
           (decode-kept (book .rate) (columnsOf (book .row)) (book .doubtful) message report
           (λ q. n (ap (λ (c : Closed). c .number) (close-decoded e m) ∙ q)))
+
+  pub close-report : closeOf book message report .number ≡ accepted
+      → closeOf book message report .report
+      ≡ reportFor (book .rate) (columnsOf (book .row)) (book .doubtful) (closeOf book message report .message)
+  close-report n = go (closingFits book message report) refl (someMissing (book .row)) refl
+    where
+      not-refused : (k : ℕ) → closeOf book message report ≡ refusedClosing k message report → k ≡ accepted
+      not-refused k e = sym (refused-number k message report) ∙ sym (ap (λ (c : Closed). c .number) e) ∙ n
+
+      go : (a : Bool) → closingFits book message report ≡ a → (b : Bool) → someMissing (book .row) ≡ b
+          → closeOf book message report .report
+          ≡ reportFor (book .rate) (columnsOf (book .row)) (book .doubtful) (closeOf book message report .message)
+      go false e b m = absurd (omega (arith, not-refused wrongSize (close-size e)))
+      go true e true m = absurd (omega (arith, not-refused placeMissing (close-missing e m)))
+      go true e false m =
+          rw (close-decoded e m)
+          (decode-report (book .rate) (columnsOf (book .row)) (book .doubtful) message report
+          (sym (ap (λ (c : Closed). c .number) (close-decoded e m)) ∙ n))
 
   pub close-sized : Sized message report (closeOf book message report)
   close-sized = go (closingFits book message report) refl (someMissing (book .row)) refl

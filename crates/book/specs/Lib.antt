@@ -20,4 +20,6 @@ pub mod Calls
 pub mod OpeningLaws
 pub mod Sentences
 pub mod Table
+pub mod Costs
+pub mod Report
 pub mod Repairs

@@ -7,6 +7,7 @@
 --   tableOf rate table doubt message report   1 if the rate is unknown, 2 if a buffer has the wrong size, 4 if the doubt is above 8;
 --                          else what decoding by the table's columns and the doubtful places picked answers
 --   table-rate, table-size, table-doubt, table-decoded   the four cases
+--   table-accepted         an accepted call has a doubt of at most 8 and answers as decoding does
 --   picked-fit, picked-opens   the places picked are a doubtful list that opening accepts
 --   Delivered table row    each of the 64 places is in the row with its column of the table, in whatever order, and nothing else is
 --   delivered-columns, delivered-none-missing   so the row's columns are the table's, and none is missing
@@ -18,23 +19,23 @@ use mathlib.Core.Path.{_≡_, refl, sym, ap, ap₂, _∙_, fun-ext}
 use mathlib.Core.List.{List, [], _∷_}
 use mathlib.Core.Logic.{_≢_, _⊎_, ⊎-elim}
 use mathlib.Core.Option.{none, some}
-use Prim.Native.Nat.{ℕ, suc, _+_, _*_, _<_, _≤_}
+use Prim.Native.Nat.{ℕ, suc, _*_, _<_, _≤_}
 use native.Mathlib.Decide.{decLt}
 use native.Mathlib.Omega.{arith}
-use lib.Dec.{eqb, ltb, leb}
+use lib.Dec.{eqb, leb}
 use lib.ListN.{length, getD, replicate, length-replicate, getD-replicate, List·getD-eq-default}
 use lib.Seq.{ext-getD}
-use borrow.Author.Tests.{eqb-true, eq-eqb, lt-ltb, le-ltb, le-leb, lt-leb}
+use borrow.Author.Tests.{eqb-true, eq-eqb, leb-true, le-leb, lt-leb}
 use Rattle.refusals.specs.Refusal.{accepted, unknownRate, wrongSize, wrongDoubt}
 use Rattle.lists.specs.Distinct.{among, below, distinct, below-among, distinct-all, and-left, and-right, and-both}
-use Rattle.lists.specs.Every.{every, every-true}
+use Rattle.lists.specs.Every.{every-true}
 use Rattle.lists.specs.Member.{member-at}
 use Rattle.soft.specs.Column as Soft
 use Rattle.soft.specs.ColumnLaws.{column-length, cost-column, costs-length}
 use Rattle.soft.specs.Doubt.{mostDoubt, doubtfulOf}
 use Rattle.soft.specs.DoubtLaws.{doubtful-length, doubtful-rising, doubtful-below}
 use Rattle.code.specs.Encoding.{knownRate}
-use Rattle.book.specs.Book.{places, width, Entry, Book, newBook, columnOf, taken, present, someMissing, Outcome}
+use Rattle.book.specs.Book.{places, width, Entry, Book, newBook, columnOf, taken, present, someMissing}
 use Rattle.book.specs.Opening.{fitDoubt, openOf}
 use Rattle.book.specs.OpeningLaws.{list-fits}
 use Rattle.book.specs.RowLaws.{placesOf, open-accepted}
@@ -42,7 +43,7 @@ use Rattle.book.specs.CaptureOpening.{deliverRow}
 use Rattle.book.specs.CaptureCases.{extended, row-delivered}
 use Rattle.book.specs.Columns.{columnsOf, columns-taken, columns-none}
 use Rattle.book.specs.Closing.{reportLength, Closed, refusedClosing, decodeOf, closingFits, closeOf}
-use Rattle.book.specs.ClosingLaws.{fits-both, close-size, close-decoded}
+use Rattle.book.specs.ClosingLaws.{refused-number, fits-both, close-size, close-decoded}
 
 abbrev pub tableLength : ℕ
 tableLength = 2048
@@ -118,6 +119,21 @@ module _ (rate : ℕ) (table : List ℕ) (doubt : ℕ) (message report : List �
           → tableOf rate table doubt message report ≡ decodeOf rate (tableColumns table) (pickedOf table doubt) message report
       unfolding tableOf
       table-decoded h = rw (known, fits, le-leb doubt mostDoubt h)
+
+  pub table-accepted : tableOf rate table doubt message report .number ≡ accepted
+      → (doubt ≤ mostDoubt) × (tableOf rate table doubt message report ≡ decodeOf rate (tableColumns table) (pickedOf table doubt) message report)
+  unfolding tableOf
+  table-accepted n = go (knownRate rate) refl (tableFits rate table message report) refl (leb doubt mostDoubt) refl
+    where
+      not-refused : (k : ℕ) → tableOf rate table doubt message report ≡ refusedClosing k message report → k ≡ accepted
+      not-refused k e = sym (refused-number k message report) ∙ sym (ap (λ (c : Closed). c .number) e) ∙ n
+
+      go : (a : Bool) → knownRate rate ≡ a → (b : Bool) → tableFits rate table message report ≡ b → (c : Bool) → leb doubt mostDoubt ≡ c
+          → (doubt ≤ mostDoubt) × (tableOf rate table doubt message report ≡ decodeOf rate (tableColumns table) (pickedOf table doubt) message report)
+      go false e b f c g = absurd (omega (arith, not-refused unknownRate (table-rate e)))
+      go true e false f c g = absurd (omega (arith, not-refused wrongSize (unfit e f)))
+      go true e true f false g = absurd (omega (arith, not-refused wrongDoubt (rw (e, f, g))))
+      go true e true f true g = (leb-true doubt mostDoubt g, rw (e, f, g))
 
 -- ---- the places picked
 
