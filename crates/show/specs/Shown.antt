@@ -1,16 +1,22 @@
 -- What the program prints for the bytes that it reads (document 01, 'The capture'), by the book.
 --
 --   answerLines book c   `rate d total tests pinned changed`, then the message; `refused N` if closing was refused
+--   closedOf book        what closing answers into buffers of zeros
 --   shownOf bytes        of the capture's book, closed; `refused N` if opening was refused
-use mathlib.Core.Bool.{cond}
+--   shown-answer         where both are accepted: the two lines, and the report that they are of shows the numbers of the answer
+use mathlib.Core.Bool.{true, cond}
+use mathlib.Core.Path.{_≡_}
 use mathlib.Core.List.{List, _++_}
 use Prim.Native.Nat.{ℕ}
 use lib.Dec.{eqb}
 use lib.ListN.{length, replicate}
+use borrow.Author.Tests.{eq-eqb}
+use Rattle.lists.specs.Distinct.{below}
 use Rattle.refusals.specs.Refusal.{accepted}
 use Rattle.book.specs.Book.{Book, Outcome}
 use Rattle.book.specs.CaptureOpening.{openCaptureOf}
 use Rattle.book.specs.Closing.{reportLength, Closed, closeOf}
+use Rattle.book.specs.Report.{ReportedIn, capture-shows}
 use Rattle.text.specs.Text.{headingOf, messageLine, refusedLine}
 
 unfoldable pub answerLines : Book → Closed → List ℕ
@@ -19,11 +25,28 @@ answerLines book c =
     (refusedLine (c .number))
 
 -- the buffers of a closing have a byte for each symbol and eight for the report; what they hold before it is left by none that is accepted
+abbrev pub closedOf : Book → Closed
+closedOf book = closeOf book (replicate (book .rate) 0) (replicate reportLength 0)
+
 unfoldable pub closedLines : Book → List ℕ
-closedLines book = answerLines book (closeOf book (replicate (book .rate) 0) (replicate reportLength 0))
+closedLines book = answerLines book (closedOf book)
 
 unfoldable pub openedLines : Outcome → List ℕ
 openedLines o = cond (eqb (o .number) accepted) (closedLines (o .book)) (refusedLine (o .number))
 
 unfoldable pub shownOf : List ℕ → List ℕ
 shownOf bytes = openedLines (openCaptureOf bytes)
+
+module _ (bytes : List ℕ) (small : below 256 bytes ≡ true) (opened : openCaptureOf bytes .number ≡ accepted) where
+  -- what the capture closes with
+  abbrev pub book : Book
+  book = openCaptureOf bytes .book
+
+  pub shown-answer : closedOf book .number ≡ accepted
+      → (shownOf bytes ≡ headingOf (book .rate) (length (book .doubtful)) (closedOf book .report) ++ messageLine (closedOf book .message))
+      × ReportedIn book (closedOf book)
+  unfolding shownOf openedLines closedLines answerLines
+  shown-answer n = (
+    rw (eq-eqb (openCaptureOf bytes .number) accepted opened, eq-eqb (closedOf (openCaptureOf bytes .book) .number) accepted n),
+    capture-shows bytes small opened _ _ n,
+  )

@@ -5,19 +5,16 @@
 --   hexOf s              a symbol as a lower-case hexadecimal digit
 --   numberLine n end     a number and the byte that ends it
 --   headingOf rate d report   the line `rate d total tests pinned changed`, with its last four from the report's eight bytes
---   totalIn, testsIn, pinnedIn, changedIn   the report's numbers
---   total-read, tests-read, pinned-read, changed-read   they are those that the report was made of
+--   heading-shows        so they are the numbers that the report shows
 --   messageLine m        the message from symbol 0 on, a digit each
 --   refusedLine n        the line `refused N`
 use mathlib.Core.Bool.{cond}
 use mathlib.Core.Path.{_≡_}
 use mathlib.Core.List.{List, [], _∷_, _++_, map}
-use Prim.Native.Nat.{ℕ, zero, suc, _+_, _*_, _/_, _%_, _<_}
-use native.Mathlib.Omega.{arith}
+use Prim.Native.Nat.{ℕ, zero, suc, _/_, _%_}
 use lib.Dec.{ltb}
-use Rattle.soft.specs.Total.{bytesOf, reportOf}
-use lib.ListN.{getD}
 use Rattle.io.specs.Digits.{glyph}
+use Rattle.book.specs.Report.{totalIn, testsIn, pinnedIn, changedIn, Shows}
 
 abbrev pub space : ℕ
 space = 32
@@ -39,39 +36,17 @@ hexOf symbol = glyph (symbol % 16)
 unfoldable pub numberLine : ℕ → ℕ → List ℕ
 numberLine n end = decimalOf n ++ (end ∷ [])
 
-abbrev pub totalIn : List ℕ → ℕ
-totalIn report = 16777216 * getD report 0 0 + 65536 * getD report 1 0 + 256 * getD report 2 0 + getD report 3 0
-
-abbrev pub testsIn : List ℕ → ℕ
-testsIn report = 256 * getD report 4 0 + getD report 5 0
-
-abbrev pub pinnedIn : List ℕ → ℕ
-pinnedIn report = getD report 6 0
-
-abbrev pub changedIn : List ℕ → ℕ
-changedIn report = getD report 7 0
-
-module _ (total tests pinned changed : ℕ) where
-  pub total-read : total < 4294967296 → totalIn (reportOf total tests pinned changed) ≡ total
-  unfolding reportOf bytesOf
-  total-read h = omega arith
-
-  pub tests-read : tests < 65536 → testsIn (reportOf total tests pinned changed) ≡ tests
-  unfolding reportOf bytesOf
-  tests-read h = omega arith
-
-  pub pinned-read : pinned < 256 → pinnedIn (reportOf total tests pinned changed) ≡ pinned
-  unfolding reportOf bytesOf
-  pinned-read h = omega arith
-
-  pub changed-read : changed < 256 → changedIn (reportOf total tests pinned changed) ≡ changed
-  unfolding reportOf bytesOf
-  changed-read h = omega arith
-
 unfoldable pub headingOf : ℕ → ℕ → List ℕ → List ℕ
 headingOf rate d report =
     numberLine rate space ++ numberLine d space ++ numberLine (totalIn report) space ++ numberLine (testsIn report) space
     ++ numberLine (pinnedIn report) space ++ numberLine (changedIn report) newline
+
+pub heading-shows : (rate d : ℕ) {report : List ℕ} {total tests pinned changed : ℕ} → Shows report total tests pinned changed
+    → headingOf rate d report
+    ≡ numberLine rate space ++ numberLine d space ++ numberLine total space ++ numberLine tests space ++ numberLine pinned space
+    ++ numberLine changed newline
+unfolding headingOf
+heading-shows rate d s = cc (s .total-there, s .tests-there, s .pinned-there, s .changed-there)
 
 unfoldable pub messageLine : List ℕ → List ℕ
 messageLine m = map hexOf m ++ (newline ∷ [])

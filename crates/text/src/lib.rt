@@ -4,7 +4,8 @@ ghost use mathlib.Core.Path.{_≡_};
 ghost use mathlib.Core.List.{map, _++_};
 ghost use Prim.Native.Nat.{_+_, _*_, _≤_, _<_};
 ghost use lib.ListN.{length};
-ghost use Rattle.text.specs.Text.{space, decimalOf, hexOf, numberLine, totalIn, testsIn, headingOf, messageLine, refusedLine};
+ghost use Rattle.book.specs.Report.{totalIn, testsIn};
+ghost use Rattle.text.specs.Text.{space, decimalOf, hexOf, numberLine, headingOf, messageLine, refusedLine};
 ghost use Rattle.text.specs.Appended.{Appended};
 
 fn put_bytes(bytes: &[u8], out: &mut [u8], at: usize) -> usize
