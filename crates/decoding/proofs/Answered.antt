@@ -6,20 +6,18 @@
 --   answered-near      somebody near: the message, and the report with its total, the count, and the pinned and changed places of its codeword
 --   decoded-near       the same from the steps of the code
 use mathlib.Core.Path.{_≡_, sym, ap, ap₂, _∙_}
-use mathlib.Core.List.{List, [], _∷_}
+use mathlib.Core.List.{List}
 use Prim.Native.Nat.{ℕ, _^_, _≤_}
 use native.Mathlib.Omega.{arith}
 use lib.ListN.{length, take, length-take}
 use lib.Pow.{pow-mono}
 use Rattle.refusals.specs.Refusal.{accepted, noneNear}
-use Rattle.lists.specs.Count.{bit-le}
 use Rattle.lists.specs.Over.{over, over-short}
 use Rattle.soft.specs.TestWord.{testWords}
-use Rattle.soft.specs.TestWordLaws.{testWords-count}
 use Rattle.soft.specs.Total.{pinnedOf, changedOf, reportOf}
 use Rattle.code.specs.Encoding.{encodeOf}
-use Rattle.near.specs.Near.{isSome, codewordNear, testsNear, messageCost}
-use Rattle.near.specs.Laws.{tests-nil, tests-cons}
+use Rattle.near.specs.Near.{messageCost}
+use Rattle.near.specs.Laws.{tests-tree}
 use Rattle.book.specs.Closing.{refusedClosing, reportFor, decodeOf}
 use Rattle.book.specs.ClosingLaws.{decode-none, decode-some}
 use Rattle.book.specs.Table.{closed}
@@ -31,15 +29,11 @@ use Rattle.chase.specs.Call.{Asked}
 pub list-few : {rate doubt : ℕ} {costs doubtful : List ℕ} → Asked rate costs doubtful doubt → length (take doubt doubtful) ≤ 8
 list-few {rate} {doubt} {costs} {doubtful} asked = omega (arith, length-take doubt doubtful, asked .few)
 
-tests-le : (k : ℕ) (ts : List (List ℕ)) → testsNear k ts ≤ length ts
-tests-le k [] = omega (arith, tests-nil k)
-tests-le k (t ∷ ts) = omega (arith, tests-cons k t ts, tests-le k ts, bit-le (isSome (codewordNear k t)))
-
 module _ (rate : ℕ) (columns : ℕ → List ℕ) (doubtful : List ℕ) (f : Found) (near : Nearest rate columns (testWords 64 columns doubtful) f) where
   pub tests-few : length doubtful ≤ 8 → f .tests ≤ 256
   tests-few h =
       let p : 2 ^ length doubtful ≤ 256 = pow-mono h in
-      omega (arith, near .count, tests-le rate (testWords 64 columns doubtful), testWords-count 64 columns doubtful)
+      omega (arith, near .count, tests-tree rate 64 columns doubtful)
 
   module _ (message report : List ℕ) where
     pub answered-none : f .answer ≡ NoneNear → closed noneNear message report ≡ decodeOf rate columns doubtful message report
