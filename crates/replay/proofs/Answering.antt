@@ -1,12 +1,12 @@
 -- From the contracts of the library's calls to the change that a call of the stream makes.
 --
 --   leaves-as                what is left by a change is left by one equal to it
---   leaves-opened, leaves-delivery   the session that opening leaves, and the one that delivery leaves
+--   leaves-step              the session that a call leaves that was made by its kind
+--   delivered-as             a delivery by its kind, of a column that is the one delivered
+--   kept-same                no change leaves the session as it was
 --   numbered-open, numbered-deliver, numbered-kept   the change of a call with a number: at `O`, at `D`, and at any other letter
---   numbered-lent            none at the letters of the calls that are lent one buffer, `R` and `W`
 --   change-capture, change-short, change-numbered   the change of a call: at `C`, with arguments too short for a number, and with a number
-use mathlib.Core.Logic.{_⊎_, inl, inr}
-use mathlib.Core.Path.{_≡_, sym, ap, ap₂, _∙_, subst}
+use mathlib.Core.Path.{_≡_, refl, sym, ap, ap₂, subst}
 use mathlib.Core.List.{List}
 use Prim.Native.Nat.{ℕ, _-_, _<_, _≤_}
 use native.Mathlib.Omega.{arith}
@@ -16,25 +16,33 @@ use borrow.Author.Tests.{eq-eqb, ne-eqb, lt-ltb, le-ltb}
 use Rattle.soft.specs.Column.{symbols, costsFrom}
 use Rattle.book.specs.Opening.{openOf}
 use Rattle.book.specs.CaptureOpening.{openCaptureOf}
+use Rattle.book.specs.Calls.{after}
 use Rattle.session.specs.declared.Session.{Session}
-use Rattle.session.specs.declared.Delivered.{Delivered}
-use Rattle.session.specs.View.{bookOf, Good}
-use Rattle.session.specs.Calls.{openedOf, Delivery}
-use Rattle.session.specs.Laws.{opens}
-use Rattle.replay.specs.Changes.{Change, renewed, delivered, kept, openLetter, captureLetter, deliverLetter, numberIn, numberedChange, changeOf, Leaves, leaves-renewed, leaves-delivered}
+use Rattle.runs.specs.declared.Kind.{Kind}
+use Rattle.runs.specs.declared.Kind.the-variants.{Deliver, Read, Write, Close}
+use Rattle.runs.specs.declared.Stepped.{Stepped}
+use Rattle.runs.specs.Step.{delivers}
+use Rattle.runs.specs.Stepping.{Stepping, callOf}
+use Rattle.replay.specs.Changes.{Change, renewed, delivered, kept, changeBy, openLetter, captureLetter, deliverLetter, numberIn, numberedChange, changeOf, Leaves, leaves-delivered, leaves-kept}
 
 pub leaves-as : {s t : Session} {change other : Change} → change ≡ other → Leaves s other t → Leaves s change t
 leaves-as {s} {t} e = subst (λ c. Leaves s c t) (sym e)
 
-pub leaves-opened : {s t : Session} (rate : ℕ) (list : List ℕ) → t ≡ openedOf rate list .session → Leaves s (renewed (openOf rate list .book)) t
-leaves-opened rate list e =
-    let o = opens rate list in
-    leaves-renewed (record { good = subst Good (sym e) (o .good); same = ap bookOf e ∙ o .book })
+pub leaves-step : {kind : Kind} {s : Session} {place : ℕ} {column first second first′ second′ : List ℕ} {r : Stepped}
+    → Stepping kind s place column first second r first′ second′ → Leaves s (changeBy kind place column) (r .session)
+unfolding changeBy callOf delivers after
+leaves-step {kind = Deliver} step = leaves-delivered (λ good. record { good = step .made .good good; same = step .made .book good })
+leaves-step {kind = Read} step = leaves-kept (step .made .kept refl)
+leaves-step {kind = Write} step = leaves-kept (step .made .kept refl)
+leaves-step {kind = Close} step = leaves-kept (step .made .kept refl)
 
-pub leaves-delivery : {s : Session} {p : ℕ} {column costs : List ℕ} {r : Delivered} → Delivery s p column r → column ≡ costs
-    → Leaves s (delivered p costs) (r .session)
-leaves-delivery {p = p} d e =
-    leaves-as (ap (delivered p) (sym e)) (leaves-delivered (λ good. record { good = d .good good; same = d .book good }))
+pub delivered-as : {s t : Session} {p : ℕ} {column costs : List ℕ} → Leaves s (changeBy Deliver p column) t → column ≡ costs
+    → Leaves s (delivered p costs) t
+unfolding changeBy
+delivered-as {p = p} l e = leaves-as (ap (delivered p) (sym e)) l
+
+pub kept-same : {s t : Session} → Leaves s kept t → t ≡ s
+kept-same (leaves-kept e) = e
 
 module _ (letter number : ℕ) (rest : List ℕ) where
   pub numbered-open : letter ≡ openLetter → numberedChange letter number rest ≡ renewed (openOf number rest .book)
@@ -48,10 +56,6 @@ module _ (letter number : ℕ) (rest : List ℕ) where
   pub numbered-kept : (letter ≡ openLetter → ⊥) → (letter ≡ deliverLetter → ⊥) → numberedChange letter number rest ≡ kept
   unfolding numberedChange
   numbered-kept o d = rw (ne-eqb letter openLetter o, ne-eqb letter deliverLetter d)
-
-  pub numbered-lent : (letter ≡ 82) ⊎ (letter ≡ 87) → numberedChange letter number rest ≡ kept
-  numbered-lent (inl e) = numbered-kept (λ o. omega arith) (λ d. omega arith)
-  numbered-lent (inr e) = numbered-kept (λ o. omega arith) (λ d. omega arith)
 
 module _ (letter : ℕ) (arguments : List ℕ) where
   pub change-capture : letter ≡ captureLetter → changeOf letter arguments ≡ renewed (openCaptureOf arguments .book)

@@ -1,6 +1,7 @@
 -- Which session each call of the stream leaves, by its letter and its arguments.
 --
 --   Change                   what a call does to the session: a new one for a book, a delivery of a place and its column, or nothing
+--   changeBy kind place column   the change of a call that is made by its kind: only a delivery makes one
 --   openLetter, captureLetter, deliverLetter   the letters of the calls that may change it: `O`, `C` and `D`
 --   numberIn bytes           the number in the first two bytes, high first
 --   numberedChange letter number rest   of a call whose arguments are a number and the rest
@@ -8,7 +9,7 @@
 --   StandsFor book t         the session t is good, and its book is that one
 --   Leaves s change t        the change leaves the session t where s was the session
 --
--- Nothing is said of a delivery to a session record that was built by hand, as `deliver` of `session` says nothing of it where it is accepted.
+-- Nothing is said of a delivery to a session record that was built by hand, as a step (`runs` Step) says nothing of it where it is accepted.
 use mathlib.Core.Bool.{cond}
 use mathlib.Core.Path.{_≡_}
 use mathlib.Core.List.{List}
@@ -22,11 +23,19 @@ use Rattle.book.specs.Delivery.{deliverOf}
 use Rattle.book.specs.CaptureOpening.{openCaptureOf}
 use Rattle.session.specs.declared.Session.{Session}
 use Rattle.session.specs.View.{bookOf, Good}
+use Rattle.runs.specs.declared.Kind.{Kind}
+use Rattle.runs.specs.declared.Kind.the-variants.{Deliver, Read, Write, Close}
 
 pub data Change : Type 0 where
   renewed : Book → Change
   delivered : ℕ → List ℕ → Change
   kept : Change
+
+unfoldable pub changeBy : Kind → ℕ → List ℕ → Change
+changeBy Deliver place column = delivered place column
+changeBy Read place column = kept
+changeBy Write place column = kept
+changeBy Close place column = kept
 
 abbrev pub openLetter : ℕ
 openLetter = 79

@@ -1,14 +1,17 @@
 // The answer to each call: the refusal's number or 0, then all bytes of the lent buffers; to a look-up, the part's length and the part.
-// Each call takes the session and hands back the one that it leaves.
+// Each call takes the session and hands back the one that it leaves. The calls themselves are made by `runs`.
 use crate::stream;
+use columns::costs::SYMBOLS;
 use libc::STDOUT_FILENO;
+use runs::Kind;
 use session::Session;
 ghost use mathlib.Core.Path.{_≡_};
+ghost use Prim.Native.Nat.{_≤_};
 ghost use lib.ListN.{length};
 ghost use Rattle.soft.specs.Column.{symbols, costsFrom};
+ghost use Rattle.book.specs.Opening.{openOf};
 ghost use Rattle.book.specs.CaptureOpening.{openCaptureOf};
-ghost use Rattle.session.specs.Calls.{openedOf};
-ghost use Rattle.replay.specs.Changes.{delivered, numberedChange, changeOf, StandsFor, Leaves};
+ghost use Rattle.replay.specs.Changes.{delivered, changeBy, numberedChange, changeOf, StandsFor, Leaves};
 
 // What lent buffers hold before a call.
 const LENT: u8 = 0xEE;
@@ -35,9 +38,9 @@ fn write_number(number: usize) {
 }
 
 fn open(rate: usize, doubtful: &[u8]) -> Session
-    ensures { λ r. ⌜ r ≡ openedOf rate (now (doubtful .entry)) .session ⌝ }
+    ensures { λ r. ⌜ StandsFor (openOf rate (now (doubtful .entry)) .book) r ⌝ }
 {
-    let opened = session::open(rate, doubtful);
+    let opened = runs::open(rate, doubtful);
     write_byte(opened.refusal);
     opened.session
 }
@@ -45,52 +48,81 @@ fn open(rate: usize, doubtful: &[u8]) -> Session
 fn open_capture(bytes: &[u8]) -> Session
     ensures { λ r. ⌜ StandsFor (openCaptureOf (now (bytes .entry)) .book) r ⌝ }
 {
-    let opened = opening::open_capture(bytes);
+    let opened = runs::open_capture(bytes);
     write_byte(opened.refusal);
     opened.session
+}
+
+// Makes a call and writes its answer.
+fn make(
+    kind: Kind,
+    current: Session,
+    place: usize,
+    column: [u16; SYMBOLS],
+    first: &mut [u8],
+    second: &mut [u8],
+) -> Session
+    ensures { λ r. ⌜ Leaves current (changeBy kind place column) r ⌝ }
+{
+    let made = runs::step(kind, current, place, column, first, second);
+    write_byte(made.refusal);
+    write(first);
+    write(second);
+    made.session
+}
+
+// Makes a call that is lent buffers of these sizes: none for a size of 0.
+fn lend(
+    kind: Kind,
+    current: Session,
+    place: usize,
+    column: [u16; SYMBOLS],
+    size: usize,
+    other: usize,
+) -> Session
+    requires { ⌜ (size ≤ 4096) × (other ≤ 4096) ⌝ }
+    ensures { λ r. ⌜ Leaves current (changeBy kind place column) r ⌝ }
+{
+    let mut first = lent();
+    let mut second = lent();
+    make(
+        kind,
+        current,
+        place,
+        column,
+        &mut first[..size],
+        &mut second[..other],
+    )
 }
 
 fn deliver(current: Session, place: usize, column: &[u8]) -> Session
     ensures { λ r. ⌜ Leaves current (delivered place (costsFrom symbols (now (column .entry)))) r ⌝ }
 {
-    let delivered = session::deliver(current, place, columns::costs::column_from(column));
-    write_byte(delivered.refusal);
-    delivered.session
+    let costs = columns::costs::column_from(column);
+    lend(Kind::Deliver, current, place, costs, 0, 0)
 }
 
-// The calls that are lent one buffer.
-fn call_with(current: Session, letter: u8, out: &mut [u8]) -> u8 {
-    match letter {
-        b'R' => reading::read_interpolant(current, out),
-        _ => writing::write_capture(current, out),
-    }
-}
-
-fn answer_with(current: Session, letter: u8, out: &mut [u8]) {
-    let refusal = call_with(current, letter, out);
-    write_byte(refusal);
-    write(out);
-}
-
-fn lend(current: Session, letter: u8, size: usize) -> Session
+fn read(current: Session, size: usize) -> Session
     ensures { λ r. ⌜ r ≡ current ⌝ }
 {
     if stream::MOST_BYTES < size {
         return current;
     }
-    let mut space = lent();
-    answer_with(current, letter, &mut space[..size]);
-    current
+    let none = [0u16; SYMBOLS];
+    lend(Kind::Read, current, 0, none, size, 0)
 }
 
-fn close_with(current: Session, message: &mut [u8], report: &mut [u8]) {
-    let refusal = closing::close(current, message, report);
-    write_byte(refusal);
-    write(message);
-    write(report);
+fn write_capture(current: Session, size: usize) -> Session
+    ensures { λ r. ⌜ r ≡ current ⌝ }
+{
+    if stream::MOST_BYTES < size {
+        return current;
+    }
+    let none = [0u16; SYMBOLS];
+    lend(Kind::Write, current, 0, none, size, 0)
 }
 
-fn lend_two(current: Session, size: usize, report_size: usize) -> Session
+fn close_into(current: Session, size: usize, report_size: usize) -> Session
     ensures { λ r. ⌜ r ≡ current ⌝ }
 {
     if stream::MOST_BYTES < size {
@@ -99,10 +131,8 @@ fn lend_two(current: Session, size: usize, report_size: usize) -> Session
     if stream::MOST_BYTES < report_size {
         return current;
     }
-    let mut message = lent();
-    let mut report = lent();
-    close_with(current, &mut message[..size], &mut report[..report_size]);
-    current
+    let none = [0u16; SYMBOLS];
+    lend(Kind::Close, current, 0, none, size, report_size)
 }
 
 fn close(current: Session, size: usize, rest: &[u8]) -> Session
@@ -111,7 +141,7 @@ fn close(current: Session, size: usize, rest: &[u8]) -> Session
     if rest.len() < 2 {
         return current;
     }
-    lend_two(current, size, stream::number(rest[0], rest[1]))
+    close_into(current, size, stream::number(rest[0], rest[1]))
 }
 
 fn look_up(current: Session, place: usize, bytes: &[u8]) -> Session
@@ -130,7 +160,8 @@ fn answer_numbered(current: Session, letter: u8, number: usize, rest: &[u8]) -> 
     match letter {
         b'O' => open(number, rest),
         b'D' => deliver(current, number, rest),
-        b'R' | b'W' => lend(current, letter, number),
+        b'R' => read(current, number),
+        b'W' => write_capture(current, number),
         b'X' => close(current, number, rest),
         b'L' => look_up(current, number, rest),
         _ => current,

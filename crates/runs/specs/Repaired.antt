@@ -1,6 +1,6 @@
 -- The message sent, after every list of calls: what `book` Repairs says of closing, said of the session that the calls left.
 --
---   follows-repaired, follows-found   of a session that follows a book: an opened one, or one opened by an accepted capture (Demand3)
+--   follows-repaired, follows-found   of a session that follows a book: an opened one, or one opened by an accepted capture (Follows)
 --   Full rate list calls   no place is missing in the book that the calls leave, from one opened with that rate and list
 --   columnsAfter rate list calls   that book's columns by place
 --   run-repaired           opened with no doubtful places: if none is missing and at most T places have a best symbol that is not the sent one, closing
@@ -14,40 +14,42 @@ use native.Mathlib.Omega.{arith}
 use lib.ListN.{length}
 use Rattle.lists.specs.Words.{Word}
 use Rattle.book.specs.Book.{Book, newBook}
+use Rattle.book.specs.Opening.{openOf}
 use Rattle.book.specs.Columns.{columnsOf}
 use Rattle.book.specs.Entries.{Missing}
 use Rattle.book.specs.Closing.{reportLength}
 use Rattle.book.specs.OpeningLaws.{Rate, DoubtfulList}
-use Rattle.book.specs.Calls.{Call, Answer, afterAll}
+use Rattle.book.specs.Calls.{Call, closing, Answer, afterAll}
 use Rattle.book.specs.Sentences.{rate-held, list-held}
 use Rattle.book.specs.Repairs.{FewWrong, notBest, Repaired, NoDearer, closes-repaired, closes-found}
 use Rattle.session.specs.declared.Session.{Session}
-use Rattle.session.specs.Calls.{openedOf}
-use Rattle.session.specs.Answering.{Closing}
+use Rattle.session.specs.declared.Opened.{Opened}
+use Rattle.session.specs.Calls.{Opening}
+use Rattle.runs.specs.Step.{Step}
 use Rattle.runs.specs.Runs.{Run}
-use Rattle.runs.specs.Demand3.{Follows, demand-3}
+use Rattle.runs.specs.Follows.{closedBy, Follows, by-opening, start-follows}
 
 module _ {T : ℕ} {s : Session} {book : Book} (follows : Follows T s book) {calls : List Call} {given : List Answer} {t : Session}
-    (run : Run s calls given t) {message report message′ report′ : List ℕ} {n : ℕ} (call : Closing t message report n message′ report′)
+    (run : Run s calls given t) {message report : List ℕ} {a : Answer} {u : Session} (step : Step t (closing message report) a u)
     (long : length message ≡ book .rate) (eight : length report ≡ reportLength) (full : (p : ℕ) → Missing (afterAll book calls .row) p → ⊥)
     (m : List ℕ) where
   pub follows-repaired : Rate (book .rate) T → book .doubtful ≡ [] → Word 16 (book .rate) m
       → notBest (book .rate) (columnsOf (afterAll book calls .row)) m ≤ T
-      → Repaired (book .rate) (columnsOf (afterAll book calls .row)) (book .doubtful) m (record { number = n; message = message′; report = report′ })
+      → Repaired (book .rate) (columnsOf (afterAll book calls .row)) (book .doubtful) m (closedBy a)
   follows-repaired rate none-doubtful word few =
       let k = sym (rate-held book calls) in
-      subst₂ (λ r l. Repaired r (columnsOf (afterAll book calls .row)) l m (record { number = n; message = message′; report = report′ }))
+      subst₂ (λ r l. Repaired r (columnsOf (afterAll book calls .row)) l m (closedBy a))
       (rate-held book calls) (list-held book calls)
-      (closes-repaired (follows .closing run call long eight) full (subst (λ r. Rate r T) k rate) (list-held book calls ∙ none-doubtful) m
+      (closes-repaired (follows .closed run step long eight) full (subst (λ r. Rate r T) k rate) (list-held book calls ∙ none-doubtful) m
       (subst (λ r. Word 16 r m) k word)
       (subst (λ r. notBest r (columnsOf (afterAll book calls .row)) m ≤ T) k few))
 
   pub follows-found : FewWrong (book .rate) (columnsOf (afterAll book calls .row)) (book .doubtful) T m
-      → NoDearer (book .rate) (columnsOf (afterAll book calls .row)) (book .doubtful) m (record { number = n; message = message′; report = report′ })
+      → NoDearer (book .rate) (columnsOf (afterAll book calls .row)) (book .doubtful) m (closedBy a)
   follows-found few =
-      subst₂ (λ r l. NoDearer r (columnsOf (afterAll book calls .row)) l m (record { number = n; message = message′; report = report′ }))
+      subst₂ (λ r l. NoDearer r (columnsOf (afterAll book calls .row)) l m (closedBy a))
       (rate-held book calls) (list-held book calls)
-      (closes-found (follows .closing run call long eight) full m
+      (closes-found (follows .closed run step long eight) full m
       (subst₂ (λ r l. FewWrong r (columnsOf (afterAll book calls .row)) l T m) (sym (rate-held book calls)) (sym (list-held book calls)) few))
 
 -- ---- an opened session
@@ -61,16 +63,16 @@ columnsAfter rate list calls = columnsOf (afterAll (newBook rate list) calls .ro
 no-places : DoubtfulList []
 no-places = record { short = omega arith; in-range = λ i l. absurd (omega arith); rises = λ i l. absurd (omega arith) }
 
-module _ {rate T : ℕ} (known : Rate rate T) {calls : List Call} {given : List Answer} {t : Session} {message report message′ report′ : List ℕ} {n : ℕ}
-    (call : Closing t message report n message′ report′) (long : length message ≡ rate) (eight : length report ≡ reportLength) (m : List ℕ) where
-  pub run-repaired : Run (openedOf rate [] .session) calls given t → Full rate [] calls → Word 16 rate m
-      → notBest rate (columnsAfter rate [] calls) m ≤ T
-      → Repaired rate (columnsAfter rate [] calls) [] m (record { number = n; message = message′; report = report′ })
+module _ {rate T : ℕ} (known : Rate rate T) {r : Opened} {calls : List Call} {given : List Answer} {t : Session} {message report : List ℕ}
+    {a : Answer} {u : Session} (step : Step t (closing message report) a u) (long : length message ≡ rate) (eight : length report ≡ reportLength)
+    (m : List ℕ) where
+  pub run-repaired : Opening (openOf rate []) r → Run (r .session) calls given t → Full rate [] calls → Word 16 rate m
+      → notBest rate (columnsAfter rate [] calls) m ≤ T → Repaired rate (columnsAfter rate [] calls) [] m (closedBy a)
   unfolding newBook
-  run-repaired run full word few = follows-repaired (demand-3 known no-places .1) run call long eight full m known refl word few
+  run-repaired opened run full word few =
+      follows-repaired (start-follows (by-opening known no-places opened)) run step long eight full m known refl word few
 
-  pub run-found : {list : List ℕ} → DoubtfulList list → Run (openedOf rate list .session) calls given t → Full rate list calls
-      → FewWrong rate (columnsAfter rate list calls) list T m
-      → NoDearer rate (columnsAfter rate list calls) list m (record { number = n; message = message′; report = report′ })
+  pub run-found : {list : List ℕ} → DoubtfulList list → Opening (openOf rate list) r → Run (r .session) calls given t → Full rate list calls
+      → FewWrong rate (columnsAfter rate list calls) list T m → NoDearer rate (columnsAfter rate list calls) list m (closedBy a)
   unfolding newBook
-  run-found d run full few = follows-found (demand-3 known d .1) run call long eight full m few
+  run-found d opened run full few = follows-found (start-follows (by-opening known d opened)) run step long eight full m few

@@ -2,8 +2,8 @@
 use mathlib.Core.Path.{refl}
 use native.Mathlib.Omega.{arith}
 use borrow.Author.Needs.{needs}
-use Rattle.replay.specs.Changes.{leaves-kept}
-use Rattle.replay.proofs.Answering.{leaves-as, leaves-opened, numbered-open, numbered-deliver, numbered-kept, numbered-lent}
+use Rattle.replay.specs.Changes.{leaves-renewed, leaves-kept}
+use Rattle.replay.proofs.Answering.{leaves-as, numbered-open, numbered-deliver, numbered-kept}
 use Rattle.replay.proofs.answers.answer_numbered.Statement.{statement}
 use Rattle.replay.proofs.answers.answer_numbered.Tie as tie
 
@@ -13,8 +13,11 @@ open-requires c κs = search needs
 deliver-requires : tie.Need-deliver-requires
 deliver-requires c κs = search needs
 
-lend-requires : tie.Need-lend-requires
-lend-requires c κs = search needs
+read-requires : tie.Need-read-requires
+read-requires c κs = search needs
+
+write-capture-requires : tie.Need-write-capture-requires
+write-capture-requires c κs = search needs
 
 close-requires : tie.Need-close-requires
 close-requires c κs = search needs
@@ -25,8 +28,7 @@ look-up-requires c κs = search needs
 returns : tie.Need-returns
 returns c =
     let a = c .before .before .before .args in
-    leaves-as (numbered-open (a .letter) (a .number) (a .rest .now) (c .before .match .keys1))
-    (leaves-opened (a .number) (a .rest .now) (c .open .ensures))
+    leaves-as (numbered-open (a .letter) (a .number) (a .rest .now) (c .before .match .keys1)) (leaves-renewed (c .«open» .ensures))
 
 returns-2 : tie.Need-returns-2
 returns-2 c =
@@ -36,24 +38,27 @@ returns-2 c =
 returns-3 : tie.Need-returns-3
 returns-3 c =
     let a = c .before .before .before .args in
-    leaves-as (numbered-lent (a .letter) (a .number) (a .rest .now) (c .before .match .keys3)) (leaves-kept (c .lend .ensures))
+    leaves-as (numbered-kept (a .letter) (a .number) (a .rest .now) (λ e. omega arith) (λ e. omega arith)) (leaves-kept (c .read .ensures))
 
 returns-4 : tie.Need-returns-4
 returns-4 c =
     let a = c .before .before .before .args in
-    leaves-as (numbered-kept (a .letter) (a .number) (a .rest .now) (λ e. omega arith) (λ e. omega arith))
-    (leaves-kept (c .close .ensures))
+    leaves-as (numbered-kept (a .letter) (a .number) (a .rest .now) (λ e. omega arith) (λ e. omega arith)) (leaves-kept (c .write-capture .ensures))
 
 returns-5 : tie.Need-returns-5
 returns-5 c =
     let a = c .before .before .before .args in
-    leaves-as (numbered-kept (a .letter) (a .number) (a .rest .now) (λ e. omega arith) (λ e. omega arith))
-    (leaves-kept (c .look-up .ensures))
+    leaves-as (numbered-kept (a .letter) (a .number) (a .rest .now) (λ e. omega arith) (λ e. omega arith)) (leaves-kept (c .close .ensures))
 
 returns-6 : tie.Need-returns-6
 returns-6 c =
+    let a = c .before .before .before .args in
+    leaves-as (numbered-kept (a .letter) (a .number) (a .rest .now) (λ e. omega arith) (λ e. omega arith)) (leaves-kept (c .look-up .ensures))
+
+returns-7 : tie.Need-returns-7
+returns-7 c =
     let a = c .before .before .args in
-    leaves-as (numbered-kept (a .letter) (a .number) (a .rest .now) (c .match .rest .0 .0 .0 .0 .1) (c .match .rest .0 .0 .0 .1)) (leaves-kept refl)
+    leaves-as (numbered-kept (a .letter) (a .number) (a .rest .now) (c .match .rest .0 .0 .0 .0 .0 .1) (c .match .rest .0 .0 .0 .0 .1)) (leaves-kept refl)
 
 pub answer-numbered-spec : {M : Type 1} → statement M
 answer-numbered-spec =
@@ -61,7 +66,8 @@ answer-numbered-spec =
     (tie.spec
     open-requires
     deliver-requires
-    lend-requires
+    read-requires
+    write-capture-requires
     close-requires
     look-up-requires
     returns
@@ -69,4 +75,5 @@ answer-numbered-spec =
     returns-3
     returns-4
     returns-5
-    returns-6)
+    returns-6
+    returns-7)

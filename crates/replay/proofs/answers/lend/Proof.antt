@@ -1,4 +1,4 @@
--- The lent buffer is a part of the space, as long as the call asks for and at most 4,096 bytes.
+-- The lent buffers are parts of their spaces, as long as the call asks for and at most 4,096 bytes.
 use mathlib.Core.Path.{sym}
 use native.Mathlib.Omega.{arith}
 use lib.Seq.{length-take-le}
@@ -6,31 +6,39 @@ use borrow.Author.Needs.{needs}
 use Rattle.replay.proofs.answers.lend.Statement.{statement}
 use Rattle.replay.proofs.answers.lend.Tie as tie
 
-returns : tie.Need-returns
-returns c = search needs
-
 lent-requires : tie.Need-lent-requires
 lent-requires c κs = search needs
 
-array-borrow-prefix-space : tie.Need-array-borrow-prefix-space
-array-borrow-prefix-space c = search needs
+lent-requires-2 : tie.Need-lent-requires-2
+lent-requires-2 c κs = search needs
 
-slice-aggregate-answer-with : tie.Need-slice-aggregate-answer-with
-slice-aggregate-answer-with c = sym (length-take-le (c .before .before .before .args .size) (c .before .lent .result) (omega arith))
+array-borrow-prefix-first : tie.Need-array-borrow-prefix-first
+array-borrow-prefix-first c = search needs
 
-answer-with-requires : tie.Need-answer-with-requires
-answer-with-requires c κs = search needs
+slice-aggregate-make : tie.Need-slice-aggregate-make
+slice-aggregate-make c = sym (length-take-le (c .before .before .before .args .size) (c .before .before .lent .result) (omega arith))
 
-returns-2 : tie.Need-returns-2
-returns-2 c = search needs
+array-borrow-prefix-second : tie.Need-array-borrow-prefix-second
+array-borrow-prefix-second c = search needs
+
+slice-aggregate-make-2 : tie.Need-slice-aggregate-make-2
+slice-aggregate-make-2 c = sym (length-take-le (c .before .before .before .before .args .other) (c .before .before .lent2 .result) (omega arith))
+
+make-requires : tie.Need-make-requires
+make-requires c κs = search needs
+
+returns : tie.Need-returns
+returns c = search needs
 
 pub lend-spec : {M : Type 1} → statement M
 lend-spec =
     tie.close
     (tie.spec
-    returns
     lent-requires
-    array-borrow-prefix-space
-    slice-aggregate-answer-with
-    answer-with-requires
-    returns-2)
+    lent-requires-2
+    array-borrow-prefix-first
+    slice-aggregate-make
+    array-borrow-prefix-second
+    slice-aggregate-make-2
+    make-requires
+    returns)

@@ -1,0 +1,19 @@
+-- A buffer of more than 4,096 bytes is not lent; the call leaves the session as it was.
+use borrow.Author.Needs.{needs}
+use Rattle.replay.specs.Changes.{changeBy}
+use Rattle.replay.proofs.Answering.{kept-same}
+use Rattle.replay.proofs.answers.read.Statement.{statement}
+use Rattle.replay.proofs.answers.read.Tie as tie
+
+returns : tie.Need-returns
+returns c = search needs
+
+lend-requires : tie.Need-lend-requires
+lend-requires c κs = search needs
+
+returns-2 : tie.Need-returns-2
+unfolding changeBy
+returns-2 c = kept-same (c .lend .ensures)
+
+pub read-spec : {M : Type 1} → statement M
+read-spec = tie.close (tie.spec returns lend-requires returns-2)

@@ -1,0 +1,123 @@
+-- Sessions that follow a book, and the sessions that an accepted opening returns.
+--
+--   closedBy a           an answer to closing: its number, and the message and the report afterwards
+--   Follows T s book     in every run from the session s each answer and each lent buffer afterwards are those of the book; the session left is good
+--                        and stands for the book after the calls, and the calls determine it; closing after the calls, into buffers of the right
+--                        sizes, is early, 'none near' or the answer as document 01 says; and every list of calls has a run
+--   good-follows         a good session follows its book
+--   opening-accepted     an opening with a rate and a doubtful list accepts
+--   captureBook bytes    the book that opening with a capture's rate and list and then delivering its records in their order gives
+--   Start T book s       an accepted opening returned the session s: by a rate of reach T and a doubtful list, with a new book, or by a capture, with its
+--                        book
+--   start-follows        such a session follows that book
+--   CaptureStarts bytes r, capture-starts   every accepted capture is such an opening: its rate and list are ones that opening accepts, and each of its
+--                        records is accepted
+use mathlib.Core.Path.{_≡_, refl, sym, ap, _∙_, subst}
+use mathlib.Core.List.{List, List·Memᴰ}
+use Prim.Native.Nat.{ℕ}
+use lib.ListN.{length}
+use Rattle.refusals.specs.Refusal.{accepted}
+use Rattle.book.specs.Book.{Book, newBook, Outcome}
+use Rattle.book.specs.Opening.{openOf}
+use Rattle.book.specs.CaptureOpening.{rateIn, listIn, recordsIn, openCaptureOf}
+use Rattle.book.specs.Closing.{reportLength, Closed}
+use Rattle.book.specs.OpeningLaws.{Rate, DoubtfulList}
+use Rattle.book.specs.Calls.{Call, closing, Answer, answer, answers, afterAll}
+use Rattle.book.specs.Sentences.{opening-accepts, opening-only, Closes, closes, rate-held, deliveries, capture-opens}
+use Rattle.session.specs.declared.Session.{Session}
+use Rattle.session.specs.declared.Opened.{Opened}
+use Rattle.session.specs.View.{bookOf, Good}
+use Rattle.session.specs.Calls.{Opening}
+use Rattle.runs.specs.Step.{Step}
+use Rattle.runs.specs.Runs.{Run, every-run, run-good, run-book, one-end, AllFit, some-run}
+
+abbrev pub closedBy : Answer → Closed
+closedBy a = record { number = a .number; message = a .first; report = a .second }
+
+pub record Follows (T : ℕ) (s : Session) (book : Book) : Type 0 where
+  pub answered : {calls : List Call} {given : List Answer} {t : Session} → Run s calls given t → given ≡ answers book calls
+  pub left : {calls : List Call} {given : List Answer} {t : Session} → Run s calls given t → Good t × (bookOf t ≡ afterAll book calls)
+  pub one-left : {calls : List Call} {given other : List Answer} {t u : Session} → Run s calls given t → Run s calls other u → t ≡ u
+  pub closed : {calls : List Call} {given : List Answer} {t : Session} → Run s calls given t
+      → {message report : List ℕ} {a : Answer} {u : Session} → Step t (closing message report) a u
+      → length message ≡ book .rate → length report ≡ reportLength → Closes (afterAll book calls) T (closedBy a)
+  pub not-empty : {calls : List Call} → AllFit calls → (given : List Answer) × (t : Session) × Run s calls given t
+
+module _ {T : ℕ} (s : Session) (good : Good s) (rate : Rate (bookOf s .rate) T) where
+  closed-after : {calls : List Call} {given : List Answer} {t : Session} → Run s calls given t
+      → {message report : List ℕ} {a : Answer} {u : Session} → Step t (closing message report) a u
+      → length message ≡ bookOf s .rate → length report ≡ reportLength → Closes (afterAll (bookOf s) calls) T (closedBy a)
+  unfolding answer
+  closed-after {calls} {given} {t} run {message} {report} {a} step long eight =
+      let e : bookOf t ≡ afterAll (bookOf s) calls = run-book run good in
+      let r : bookOf t .rate ≡ bookOf s .rate = ap (λ (b : Book). b .rate) e ∙ rate-held (bookOf s) calls in
+      subst (λ (b : Book). Closes b T (closedBy a)) e
+      (subst (λ (x : Answer). Closes (bookOf t) T (closedBy x)) (sym (step .answered (run-good run good)))
+      (closes (subst (λ k. Rate k T) (sym r) rate) message report (long ∙ sym r) eight))
+
+  pub good-follows : Follows T s (bookOf s)
+  good-follows =
+      record {
+        answered = λ run. every-run run good;
+        left = λ run. (run-good run good, run-book run good);
+        one-left = λ a b. one-end good a b;
+        closed = λ run step long eight. closed-after run step long eight;
+        not-empty = λ fit. some-run fit s good;
+      }
+
+-- ---- accepted openings
+
+pub opening-accepted : {rate T : ℕ} {list : List ℕ} {r : Opened} → Rate rate T → DoubtfulList list → Opening (openOf rate list) r
+    → r .refusal ≡ accepted
+opening-accepted known fit opened = opened .number ∙ ap (λ (x : Outcome). x .number) (opening-accepts known fit)
+
+abbrev pub captureBook : List ℕ → Book
+captureBook bytes = afterAll (newBook (rateIn bytes) (listIn bytes)) (deliveries (recordsIn bytes))
+
+pub data Start : ℕ → Book → Session → Type 0 where
+  by-opening : {rate T : ℕ} {list : List ℕ} {r : Opened} → Rate rate T → DoubtfulList list → Opening (openOf rate list) r
+      → Start T (newBook rate list) (r .session)
+  by-capture : {T : ℕ} {r : Opened} (bytes : List ℕ) → Rate (rateIn bytes) T → Opening (openCaptureOf bytes) r → r .refusal ≡ accepted
+      → Start T (captureBook bytes) (r .session)
+
+new-rate : (rate : ℕ) (list : List ℕ) → newBook rate list .rate ≡ rate
+unfolding newBook
+new-rate rate list = refl
+
+pub start-good : {T : ℕ} {book : Book} {s : Session} → Start T book s → Good s
+start-good (by-opening known fit opened) = opened .good
+start-good (by-capture bytes known opened n) = opened .good
+
+start-book : {T : ℕ} {book : Book} {s : Session} → Start T book s → bookOf s ≡ book
+start-book (by-opening known fit opened) = opened .book ∙ ap (λ (x : Outcome). x .book) (opening-accepts known fit)
+start-book (by-capture bytes known opened n) = opened .book ∙ capture-opens bytes (sym (opened .number) ∙ n) .delivered
+
+start-rate : {T : ℕ} {book : Book} {s : Session} → Start T book s → Rate (book .rate) T
+start-rate (by-opening {rate = rate} {T = T} {list = list} known fit opened) = subst (λ k. Rate k T) (sym (new-rate rate list)) known
+start-rate (by-capture {T = T} bytes known opened n) =
+    subst (λ k. Rate k T)
+    (sym (rate-held (newBook (rateIn bytes) (listIn bytes)) (deliveries (recordsIn bytes)) ∙ new-rate (rateIn bytes) (listIn bytes))) known
+
+pub start-follows : {T : ℕ} {book : Book} {s : Session} → Start T book s → Follows T s book
+start-follows {T} {book} {s} start =
+    let e : bookOf s ≡ book = start-book start in
+    subst (Follows T s) e (good-follows s (start-good start) (subst (λ (b : Book). Rate (b .rate) T) (sym e) (start-rate start)))
+
+pub record CaptureStarts (bytes : List ℕ) (r : Opened) : Type 0 where
+  pub reach : ℕ
+  pub rate : Rate (rateIn bytes) reach
+  pub list : DoubtfulList (listIn bytes)
+  pub records : (a : Answer) → List·Memᴰ a (answers (newBook (rateIn bytes) (listIn bytes)) (deliveries (recordsIn bytes))) → a .number ≡ accepted
+  pub start : Start reach (captureBook bytes) (r .session)
+
+pub capture-starts : {bytes : List ℕ} {r : Opened} → Opening (openCaptureOf bytes) r → r .refusal ≡ accepted → CaptureStarts bytes r
+capture-starts {bytes} {r} opened n =
+    let c = capture-opens bytes (sym (opened .number) ∙ n) in
+    let k = opening-only (rateIn bytes) (listIn bytes) (c .opened) in
+    record {
+      reach = k .0 .0;
+      rate = k .0 .1;
+      list = k .1;
+      records = c .all-accepted;
+      start = by-capture bytes (k .0 .1) opened n;
+    }

@@ -1,0 +1,84 @@
+-- A step: one call, made on a session.
+--
+--   delivers call        it is a delivery, the one call that may change a session
+--   Step s call a t      the call, made on the session s, is given the answer a and leaves the session t: of a good session the answer is the book's,
+--                        and the session left is good and stands for the book after the call. Whatever the session, a refused call leaves the session
+--                        and the lent buffers as they were, every call but a delivery leaves the session as it was, and no buffer changes its length
+--   answerWith n first second   a number and what the lent buffers hold afterwards
+--   kept-step            a call that leaves the session as it was
+--   delivery-step, reading-step, writing-step, closing-step   what the contract of each call says is such a step
+use mathlib.Core.Bool.{Bool, true, false, true≢false}
+use mathlib.Core.Path.{_≡_, refl, sym}
+use mathlib.Core.List.{List, []}
+use mathlib.Core.Logic.{_≢_}
+use Prim.Native.Nat.{ℕ}
+use lib.ListN.{length}
+use Rattle.refusals.specs.Refusal.{accepted}
+use Rattle.book.specs.Calls.{Call, deliver, reading, writing, closing, Answer, firstLent, secondLent, answer, after}
+use Rattle.session.specs.declared.Session.{Session}
+use Rattle.session.specs.declared.Delivered.{Delivered}
+use Rattle.session.specs.View.{bookOf, Good}
+use Rattle.session.specs.Calls.{Delivery}
+use Rattle.session.specs.Answering.{Reading, Closing}
+use Rattle.capture.specs.Calls.{Writing}
+
+unfoldable pub delivers : Call → Bool
+delivers (deliver p column) = true
+delivers (reading out) = false
+delivers (writing out) = false
+delivers (closing message report) = false
+
+pub record Step (s : Session) (call : Call) (a : Answer) (t : Session) : Type 0 where
+  pub answered : Good s → a ≡ answer (bookOf s) call
+  pub good : Good s → Good t
+  pub book : Good s → bookOf t ≡ after (bookOf s) call
+  pub refused : a .number ≢ accepted → (t ≡ s) × (a .first ≡ firstLent call) × (a .second ≡ secondLent call)
+  pub kept : delivers call ≡ false → t ≡ s
+  pub sized : (length (a .first) ≡ length (firstLent call)) × (length (a .second) ≡ length (secondLent call))
+
+abbrev pub answerWith : ℕ → List ℕ → List ℕ → Answer
+answerWith n first second = record { number = n; first = first; second = second }
+
+answer-path : {n m : ℕ} {a b c d : List ℕ} → n ≡ m → a ≡ b → c ≡ d → answerWith n a c ≡ answerWith m b d
+answer-path e f g = λ i. answerWith (e i) (f i) (g i)
+
+pub delivery-step : {s : Session} {p : ℕ} {column : List ℕ} {r : Delivered} → Delivery s p column r
+    → Step s (deliver p column) (answerWith (r .refusal) [] []) (r .session)
+unfolding delivers firstLent secondLent answer after
+delivery-step d =
+    record {
+      answered = λ good. answer-path (d .number good) refl refl;
+      good = d .good;
+      book = d .book;
+      refused = λ n. (d .kept n, refl, refl);
+      kept = λ e. absurd (true≢false e);
+      sized = (refl, refl);
+    }
+
+pub kept-step : {s : Session} {call : Call} {a : Answer} → (Good s → a ≡ answer (bookOf s) call) → after (bookOf s) call ≡ bookOf s
+    → (a .number ≢ accepted → (a .first ≡ firstLent call) × (a .second ≡ secondLent call))
+    → (length (a .first) ≡ length (firstLent call)) × (length (a .second) ≡ length (secondLent call)) → Step s call a s
+kept-step answered same refused sized =
+    record {
+      answered = answered;
+      good = λ good. good;
+      book = λ good. sym same;
+      refused = λ n. (refl, refused n .0, refused n .1);
+      kept = λ e. refl;
+      sized = sized;
+    }
+
+pub reading-step : {s : Session} {out out′ : List ℕ} {n : ℕ} → Reading s out n out′ → Step s (reading out) (answerWith n out′ []) s
+unfolding firstLent secondLent answer after
+reading-step r = kept-step (λ good. answer-path (r .number good) (r .bytes good) refl) refl (λ n. (r .kept n, refl)) (r .size, refl)
+
+pub writing-step : {s : Session} {out out′ : List ℕ} {n : ℕ} → Writing s out n out′ → Step s (writing out) (answerWith n out′ []) s
+unfolding firstLent secondLent answer after
+writing-step w = kept-step (λ good. answer-path (w .number good) (w .bytes good) refl) refl (λ n. (w .kept n, refl)) (w .size, refl)
+
+pub closing-step : {s : Session} {message report message′ report′ : List ℕ} {n : ℕ} → Closing s message report n message′ report′
+    → Step s (closing message report) (answerWith n message′ report′) s
+unfolding firstLent secondLent answer after
+closing-step c =
+    kept-step (λ good. answer-path (c .number good) (c .message-bytes good) (c .report-bytes good)) refl
+    (λ n. (c .message-kept n, c .report-kept n)) (c .message-size, c .report-size)
