@@ -1,56 +1,93 @@
 -- Demand 3, whole: 'No sequence of calls can lose, add or change an answer.'
 --
+--   ClosedAfter T book calls a   closing after those calls, into buffers of the right sizes, is given the answer a; the calls are made on a session that an
+--                        accepted opening returned, with that book and reach
 --   Demand3              the claim, sentence by sentence
 --   whole                it holds
 --
--- It speaks of runs, whose steps are what the contract of `step` says of every call that it makes (Step, Stepping), and of openings, which are what the
--- contracts of `open` and `open_capture` say. The four calls are the deliveries, readings, writings and closings of a list; `Follows` is said of a
--- session and the book that its opening gives.
+-- It speaks of runs, whose steps are what the contract of `step` says of every call that it makes (Step, Stepping), and of openings (Start), which are what
+-- the contracts of `open` and `open_capture` say. A book with its reach T is one of rate 39 with T = 6 or of rate 49 with T = 1.
 use mathlib.Core.Path.{_≡_}
 use mathlib.Core.List.{List}
-use mathlib.Core.Logic.{_≢_, _⊎_}
+use mathlib.Core.Logic.{_↔_, _≢_, _⊎_}
 use Prim.Native.Nat.{ℕ}
-use Rattle.refusals.specs.Refusal.{accepted}
+use lib.ListN.{length}
+use Rattle.refusals.specs.Refusal.{accepted, placeMissing, noneNear}
 use Rattle.book.specs.Book.{Book}
 use Rattle.book.specs.Opening.{openOf}
 use Rattle.book.specs.Delivery.{withEntry}
 use Rattle.book.specs.CaptureOpening.{openCaptureOf}
+use Rattle.book.specs.Closing.{reportLength}
+use Rattle.book.specs.Entries.{Missing}
 use Rattle.book.specs.OpeningLaws.{Rate, DoubtfulList}
-use Rattle.book.specs.Calls.{Call, deliver, firstLent, secondLent, answer, after}
+use Rattle.book.specs.Calls.{Call, deliver, closing, Answer, firstLent, secondLent, answer, after, answers, afterAll}
 use Rattle.book.specs.Sentences as sentences
+use Rattle.book.specs.Sentences.{IsNear, IsAnswer, Closes}
 use Rattle.session.specs.declared.Session.{Session}
 use Rattle.session.specs.declared.Opened.{Opened}
+use Rattle.session.specs.View.{bookOf, Good}
 use Rattle.session.specs.Calls.{Opening}
-use Rattle.runs.specs.Follows.{Follows, Start, opening-accepted, start-follows, CaptureStarts, capture-starts}
+use Rattle.runs.specs.Step.{Step}
+use Rattle.runs.specs.Runs.{Run, AllFit}
+use Rattle.runs.specs.Follows.{closedBy, Start, opening-accepted, start-follows, CaptureStarts, capture-starts}
 use Rattle.runs.specs.Alike as agreeing
 use Rattle.runs.specs.Alike.{Reached, SameHeld, Alike}
 
+pub data ClosedAfter (T : ℕ) (book : Book) (calls : List Call) (a : Answer) : Type 0 where
+  closed-after : {s t u : Session} {given : List Answer} {message report : List ℕ} → Start T book s → Run s calls given t
+      → Step t (closing message report) a u → length message ≡ book .rate → length report ≡ reportLength → ClosedAfter T book calls a
+
 pub record Demand3 : Type 0 where
   -- 'For every rate and every strictly rising list of up to 8 doubtful places, none above 63, opening accepts;'
-  pub accepts : {rate T : ℕ} {list : List ℕ} {r : Opened} → Rate rate T → DoubtfulList list → Opening (openOf rate list) r → r .refusal ≡ accepted
+  pub opening-accepts : {rate T : ℕ} {list : List ℕ} {r : Opened} → Rate rate T → DoubtfulList list → Opening (openOf rate list) r
+      → r .refusal ≡ accepted
   -- 'and in every list of deliveries, interpolant readings, capture writings and closings from the session so opened, refused ones included and in
-  -- whatever order, each answer and each lent buffer afterwards are those of document 01's book' (answered, left, one-left, not-empty). 'Closing after
-  -- such a list, into buffers of the right sizes, is refused as early exactly when a place is missing. With none missing it says 'none near' exactly when
-  -- no codeword differs from some test word in at most 6 places (rate 39) or 1 place (rate 49); otherwise it gives the message of such a codeword, and
-  -- every other such codeword has a larger total cost, or an equal total and a larger message' (closed: early, none-near, otherwise).
-  pub follows : {T : ℕ} {book : Book} {s : Session} → Start T book s → Follows T s book
-  -- document 01: 'opening an accepted capture counts as opening with its rate and list and then delivering its records in their order'
+  -- whatever order, each answer and each lent buffer afterwards are those of document 01's book.'
+  pub answered : {T : ℕ} {book : Book} {s t : Session} {calls : List Call} {given : List Answer} → Start T book s → Run s calls given t
+      → given ≡ answers book calls
+  -- so is the session left: it is good and stands for the book after the calls, and the calls determine it
+  pub left : {T : ℕ} {book : Book} {s t : Session} {calls : List Call} {given : List Answer} → Start T book s → Run s calls given t
+      → Good t × (bookOf t ≡ afterAll book calls)
+  pub one-left : {T : ℕ} {book : Book} {s t u : Session} {calls : List Call} {given other : List Answer} → Start T book s → Run s calls given t
+      → Run s calls other u → t ≡ u
+  -- and every list of calls can be made
+  pub some-run : {T : ℕ} {book : Book} {s : Session} {calls : List Call} → Start T book s → AllFit calls
+      → (given : List Answer) × (t : Session) × Run s calls given t
+  -- 'Closing after such a list, into buffers of the right sizes, is refused as early exactly when a place is missing.'
+  pub early : {T : ℕ} {book : Book} {calls : List Call} {a : Answer} → ClosedAfter T book calls a
+      → (a .number ≡ placeMissing) ↔ ((p : ℕ) × Missing (afterAll book calls .row) p)
+  -- 'With none missing it says 'none near' exactly when no codeword differs from some test word in at most 6 places (rate 39) or 1 place (rate 49);'
+  pub none-near : {T : ℕ} {book : Book} {calls : List Call} {a : Answer} → ClosedAfter T book calls a
+      → ((p : ℕ) → Missing (afterAll book calls .row) p → ⊥) → (a .number ≡ noneNear) ↔ ((m : List ℕ) → IsNear (afterAll book calls) T m → ⊥)
+  -- 'otherwise it gives the message of such a codeword, and every other such codeword has a larger total cost, or an equal total and a larger message.'
+  pub otherwise : {T : ℕ} {book : Book} {calls : List Call} {a : Answer} → ClosedAfter T book calls a
+      → ((p : ℕ) → Missing (afterAll book calls .row) p → ⊥) → a .number ≢ noneNear → IsAnswer (afterAll book calls) T (closedBy a)
+  -- document 01: 'opening an accepted capture counts as opening with its rate and list and then delivering its records in their order': it is one of
+  -- the openings (Start) of which all of this is said
   pub captures : {bytes : List ℕ} {r : Opened} → Opening (openCaptureOf bytes) r → r .refusal ≡ accepted → CaptureStarts bytes r
-  -- document 01: 'Only an accepted delivery changes the book.'
+  -- document 01: 'Only an accepted delivery changes the book. A refused call leaves its buffers as they were.'
   pub only-delivery : (book : Book) (call : Call)
       → (after book call ≡ book)
       ⊎ ((p : ℕ) × (column : List ℕ) × (call ≡ deliver p column) × (answer book call .number ≡ accepted) × (after book call ≡ withEntry book p column))
-  -- document 01: 'A refused call leaves its buffers as they were.'
   pub refused-kept : (book : Book) (call : Call) → answer book call .number ≢ accepted
       → (answer book call .first ≡ firstLent call) × (answer book call .second ≡ secondLent call)
   -- 'Two sessions so reached that agree in rate, doubtful list, places taken and the columns held for these read and close alike.'
   pub alike : {s t : Session} → Reached s → Reached t → SameHeld s t → Alike s t
 
+closes-after : {T : ℕ} {book : Book} {calls : List Call} {a : Answer} → ClosedAfter T book calls a → Closes (afterAll book calls) T (closedBy a)
+closes-after (closed-after start run step long eight) = start-follows start .closed run step long eight
+
 pub whole : Demand3
 whole =
     record {
-      accepts = λ known fit opened. opening-accepted known fit opened;
-      follows = λ start. start-follows start;
+      opening-accepts = λ known fit opened. opening-accepted known fit opened;
+      answered = λ start run. start-follows start .answered run;
+      left = λ start run. start-follows start .left run;
+      one-left = λ start run other. start-follows start .one-left run other;
+      some-run = λ start fit. start-follows start .not-empty fit;
+      early = λ c. closes-after c .early;
+      none-near = λ c full. closes-after c .none-near full;
+      otherwise = λ c full n. closes-after c .otherwise full n;
       captures = λ opened n. capture-starts opened n;
       only-delivery = sentences.only-delivery;
       refused-kept = sentences.refused-lent;
