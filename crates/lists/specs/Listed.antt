@@ -7,7 +7,7 @@
 --   listed-length, listed-at, listed-ext    its length, its entries, equal rules
 --   listed-cons      from the front
 --   take-listed      the first k of them; listed-take: a list's first entries are listed by its entries
---   listed-getD      every list is listed by its entries
+--   listed-getD      every list is listed by its entries; listed-by: a list whose entries a rule gives
 --   sets-all         stores written out one after the other, of all entries
 use mathlib.Core.Path.{_≡_, refl, sym, ap, ap₂, _∙_}
 use mathlib.Core.List.{List, [], _∷_, _++_, append-assoc, append-nil}
@@ -17,7 +17,7 @@ use native.Mathlib.Nat.{le-step, lt-suc-self, eq-or-lt-of-le, le-of-suc-le-suc}
 use native.Mathlib.Numerals.{add-one}
 use native.Mathlib.Omega.{arith}
 use lib.ListN.{length, getD, set, take, drop, length-append, List·getD-append, drop-of-length-le}
-use lib.Seq.{drop-cons, set-at, getD-at, take-suc, take-length, sets, sets-eq}
+use lib.Seq.{drop-cons, set-at, getD-at, take-suc, take-length, ext-getD, sets, sets-eq}
 
 module _ {ℓ} {A : Type ℓ} where
   unfoldable pub listed : ℕ → (ℕ → A) → List A
@@ -75,6 +75,10 @@ module _ {ℓ} {A : Type ℓ} where
 
   pub listed-getD : (l : List A) (d : A) → listed (length l) (λ k. getD l k d) ≡ l
   listed-getD l d = listed-take (length l) l d (omega arith) ∙ take-length l
+
+  pub listed-by : (d : A) (n : ℕ) (l : List A) (f : ℕ → A) → length l ≡ n → ((k : ℕ) → k < n → getD l k d ≡ f k) → l ≡ listed n f
+  listed-by d n l f e h =
+      ext-getD d l (listed n f) (e ∙ sym (listed-length n f)) (λ k b. let q : k < n = omega arith in h k q ∙ sym (listed-at n k f d q))
 
   -- a loop that stores f i at i: what the array holds before it,
   pub listed-start : (l : List A) (f : ℕ → A) → l ≡ listed 0 f ++ drop 0 l
