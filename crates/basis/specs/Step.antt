@@ -5,23 +5,30 @@
 --   discrepancyAt           that of class r, as a byte
 --   discrepancyOf L l row planes   the same from the planes of weights, for any four planes: 0 for a spent class
 --   discrepancyOf-planes    by the planes of a row that is the byte of its discrepancy
---   raisedRow, clearedRow   what a step makes of the pivot's row, and of another
---   NextRows at a ds rows out   out holds the rows after a step at class at, with discrepancies ds and multiplier a
-use mathlib.Core.Path.{_≡_, sym, ap, _∙_}
+--   classes                 8: one row for each remainder of a key
+--   cleared at ds rows r    the bytes of row r after a step at class at, with discrepancies ds, where r is another class
+--   nextRow at a ds rows r  those of any row, a the multiplier: the pivot's is raised, another is cleared
+--   nextRows at a ds rows   the rows after the step; where there is no class at, nothing changes
+--   raisedRow, clearedRow   the coefficients of the pivot's row, and of another
+--   NextRows at a ds rows out   out holds these, as far as a row goes
+--   next-rows               so do the rows after a step
+use mathlib.Core.Path.{_≡_, refl, sym, ap, _∙_}
 use mathlib.Core.List.{List, []}
 use mathlib.Core.Logic.{_≢_}
 use mathlib.Core.Bool.{cond}
 use Prim.Native.Nat.{ℕ, _<_, _≤_}
 use native.Mathlib.Decide.{decLe}
 use native.Mathlib.Omega.{arith}
-use lib.Dec.{ltb}
+use lib.Dec.{ltb, eqb}
 use lib.ListN.{getD}
-use borrow.Author.Tests.{lt-ltb, le-ltb}
+use borrow.Author.Tests.{lt-ltb, le-ltb, eq-eqb, ne-eqb}
+use Rattle.lists.specs.Listed.{listed, listed-at}
 use Rattle.algebra.specs.Field.{Field}
 use Rattle.algebra.specs.Coefficients.{choose, choose-yes, choose-no, plus, scale}
 use Rattle.galois.specs.Gf16.{times, inverse}
 use Rattle.galois.specs.Field16.{GF, K16, toF, value, value-zero}
-use Rattle.rows.specs.Rows.{coef, dot, raise}
+use Rattle.rows.specs.Rows.{rowWidth, coef, dot, raise}
+use Rattle.rows.specs.Bytes.{addedAt, raisedAt, coef-added, coef-raised}
 use Rattle.rows.specs.Planes.{planesOf, dotOf, dotOf-planes}
 use Rattle.basis.specs.Choice.{leadAt}
 open Field K16 using (𝟘)
@@ -60,7 +67,21 @@ discrepancyOf-planes L l row weights = go (decLe l L)
         ap (λ t. cond t 0 (dotOf row (planesOf weights))) (lt-ltb L l g)
         ∙ sym (ap value (discrepancy-spent L l (coef row) (coef weights) g) ∙ value-zero)
 
--- x + a times the row of the pivot
+-- ---- the rows after a step, by bytes
+abbrev pub classes : ℕ
+classes = 8
+
+-- the row and the multiple of the pivot's row that takes its discrepancy away
+unfoldable pub cleared : ℕ → List ℕ → List (List ℕ) → ℕ → List ℕ
+cleared at ds rows r = listed rowWidth (addedAt (getD rows r []) (times (getD ds r 0) (inverse (getD ds at 0))) (getD rows at []))
+
+unfoldable pub nextRow : ℕ → ℕ → List ℕ → List (List ℕ) → ℕ → List ℕ
+nextRow at a ds rows r = cond (eqb r at) (listed rowWidth (raisedAt (getD rows at []) a)) (cleared at ds rows r)
+
+unfoldable pub nextRows : ℕ → ℕ → List ℕ → List (List ℕ) → List (List ℕ)
+nextRows at a ds rows = cond (ltb at classes) (listed classes (nextRow at a ds rows)) rows
+
+-- ---- and by coefficients: x + a times the row of the pivot
 abbrev pub raisedRow : ℕ → GF → List (List ℕ) → ℕ → GF
 raisedRow at a rows = plus K16 (raise (rowAt rows at)) (scale K16 a (rowAt rows at))
 
@@ -69,5 +90,24 @@ abbrev pub clearedRow : ℕ → List ℕ → List (List ℕ) → ℕ → ℕ →
 clearedRow at ds rows r = plus K16 (rowAt rows r) (scale K16 (toF (times (getD ds r 0) (inverse (getD ds at 0)))) (rowAt rows at))
 
 pub record NextRows (at : ℕ) (a : GF) (ds : List ℕ) (rows out : List (List ℕ)) : Type 0 where
-  pub pivot : rowAt out at ≡ raisedRow at a rows
-  pub other : (r : ℕ) → r < 8 → r ≢ at → rowAt out r ≡ clearedRow at ds rows r
+  pub pivot : (k : ℕ) → k < rowWidth → rowAt out at k ≡ raisedRow at a rows k
+  pub other : (r : ℕ) → r < classes → r ≢ at → (k : ℕ) → k < rowWidth → rowAt out r k ≡ clearedRow at ds rows r k
+
+module _ (at a : ℕ) (ds : List ℕ) (rows out : List (List ℕ)) (h : at < classes) (e : out ≡ nextRows at a ds rows) where
+  row-is : (r : ℕ) → r < classes → getD out r [] ≡ nextRow at a ds rows r
+  unfolding nextRows
+  row-is r l =
+      ap (λ o. getD o r []) (e ∙ ap (λ b. cond b (listed classes (nextRow at a ds rows)) rows) (lt-ltb at classes h))
+      ∙ listed-at classes r (nextRow at a ds rows) [] l
+
+  pub next-rows : NextRows at (toF a) ds rows out
+  unfolding rowAt nextRow cleared
+  next-rows =
+      record {
+        pivot =
+            coef-raised (getD rows at []) a
+            (row-is at h ∙ ap (λ b. cond b (listed rowWidth (raisedAt (getD rows at []) a)) (cleared at ds rows at)) (eq-eqb at at refl));
+        other = λ r l n.
+            coef-added (getD rows r []) _ (getD rows at [])
+            (row-is r l ∙ ap (λ b. cond b (listed rowWidth (raisedAt (getD rows at []) a)) (cleared at ds rows r)) (ne-eqb r at n));
+      }

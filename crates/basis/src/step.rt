@@ -1,13 +1,12 @@
 // One step of Kötter's algorithm on the eight rows and their leads.
 ghost use mathlib.Core.Path.{_≡_};
-ghost use Prim.Native.Nat.{_<_, _≤_};
-ghost use Rattle.algebra.specs.Coefficients.{plus, scale};
+ghost use Prim.Native.Nat.{_<_};
 ghost use Rattle.lists.specs.Listed.{listed};
 ghost use Rattle.galois.specs.Gf16.{times};
-ghost use Rattle.galois.specs.Field16.{K16, toF};
-ghost use Rattle.rows.specs.Rows.{coef};
+ghost use Rattle.rows.specs.Rows.{rowWidth};
+ghost use Rattle.rows.specs.Bytes.{addedAt};
 ghost use Rattle.basis.specs.Choice.{Chosen, betterOf};
-ghost use Rattle.basis.specs.Step.{discrepancyOf, discrepancyAt, NextRows};
+ghost use Rattle.basis.specs.Step.{discrepancyOf, discrepancyAt, nextRows};
 use crate::CLASSES;
 use crate::Leads;
 use crate::Rows;
@@ -71,7 +70,7 @@ pub fn choice(ds: [u8; CLASSES], leads: Leads) -> usize
 
 // A row and the multiple of the pivot's row that takes its discrepancy d away; by is the inverse of the pivot's.
 fn next_row(row: Row, d: u8, by: u8, pivot: Row) -> Row
-    ensures { λ r. ⌜ coef r ≡ plus K16 (coef row) (scale K16 (toF (times d by)) (coef pivot)) ⌝ }
+    ensures { λ r. ⌜ r ≡ listed rowWidth (addedAt row (times d by) pivot) ⌝ }
 {
     if d == 0 {
         return row;
@@ -81,7 +80,7 @@ fn next_row(row: Row, d: u8, by: u8, pivot: Row) -> Row
 
 // The rows after a step at class `at`, where the point's x is a; with no such class they stay.
 pub fn next_rows(rows: Rows, ds: [u8; CLASSES], at: usize, a: u8) -> Rows
-    ensures { λ r. ⌜ (at < 8 → NextRows at (toF a) ds rows r) × (8 ≤ at → r ≡ rows) ⌝ }
+    ensures { λ r. ⌜ r ≡ nextRows at a ds rows ⌝ }
 {
     if CLASSES <= at {
         return rows;

@@ -8,7 +8,7 @@ use Rattle.algebra.specs.Field.{Field, add-zero, mul-zero}
 use Rattle.algebra.specs.Coefficients.{plus, scale, shift, shift-high, shift-low, Below, unit, unit-at, unit-off}
 use Rattle.galois.specs.Field16.{GF, K16}
 use Rattle.hermitian.specs.Interpolant.{withoutZ, withZ, joined, without-joined, with-joined, parts-ext, joined-plus, joined-scale, joined-shift, below-withoutZ, below-withZ}
-use Rattle.rows.specs.Rows.{raise, raise-first, raise-plain, raise-seam, raise-z}
+use Rattle.rows.specs.Rows.{rowWidth, raise, raise-first, raise-plain, raise-seam, raise-z}
 use Rattle.interpolation.specs.Polynomial.{part, polynomial, part-in, part-out, polynomial-plain, polynomial-z, gap-polynomial}
 open Field K16 using (_⊕_, _⊗_, 𝟘, 𝟙)
 
@@ -20,6 +20,10 @@ module _ (from n : ℕ) where
       go : (o : ℕ) → Dec (o < n) → part from n c o ≡ f o
       go o (yes h) = part-in from n c o h ∙ p o h
       go o (no h) = part-out from n c o (omega arith) ∙ sym (q o (omega arith))
+
+  -- what stands elsewhere does not count
+  pub part-same : (c d : ℕ → GF) → ((o : ℕ) → o < n → c (from + o) ≡ d (from + o)) → part from n c ≡ part from n d
+  part-same c d h = part-ext c (part from n d) (λ o l. h o l ∙ sym (part-in from n d o l)) (λ o l. part-out from n d o l)
 
   pub part-plus-scale : (c d : ℕ → GF) (a : GF) → part from n (plus K16 c (scale K16 a d)) ≡ plus K16 (part from n c) (scale K16 a (part from n d))
   part-plus-scale c d a =
@@ -46,6 +50,11 @@ module _ (from n : ℕ) where
           go (no l) = shift-low K16 4 o (part from n c) (omega arith)
 
 module _ (M : ℕ) where
+  pub polynomial-ext : (c d : ℕ → GF) → ((k : ℕ) → k < rowWidth → c k ≡ d k) → polynomial M c ≡ polynomial M d
+  unfolding polynomial
+  polynomial-ext c d h =
+      ap₂ (joined K16 M) (part-same 0 64 c d (λ o l. h (0 + o) (omega arith))) (part-same 64 32 c d (λ o l. h (64 + o) (omega arith)))
+
   pub polynomial-plus-scale : (c d : ℕ → GF) (a : GF)
       → polynomial M (plus K16 c (scale K16 a d)) ≡ plus K16 (polynomial M c) (scale K16 a (polynomial M d))
   unfolding polynomial

@@ -22,7 +22,7 @@ use Rattle.rows.specs.Rows.{coef, dot, raise, weighed}
 use Rattle.basis.specs.Choice.{leadAt, Nonzero}
 use Rattle.basis.specs.Step.{rowAt, discrepancy, discrepancy-live, discrepancy-spent, discrepancyAt, NextRows}
 use Rattle.interpolation.specs.Polynomial.{polynomial, polynomials}
-use Rattle.interpolation.proofs.Combining.{polynomial-plus-scale, polynomial-raise}
+use Rattle.interpolation.proofs.Combining.{polynomial-ext, polynomial-plus-scale, polynomial-raise}
 use Rattle.interpolation.proofs.Evaluating.{Monomials, polynomial-value}
 open Field K16 using (_⊗_, 𝟘)
 
@@ -116,10 +116,10 @@ module _ (L : ℕ) (rows : List (List ℕ)) (leads weights : List ℕ) where
             lead-pivot = lead-here;
             lead-other = λ r b n. lead-there r n;
             row-pivot = λ v.
-                ap (polynomial M) (next .pivot) ∙ polynomial-plus-scale M (raise (rowAt rows at)) (rowAt rows at) (p .x)
+                polynomial-ext M _ _ (next .pivot) ∙ polynomial-plus-scale M (raise (rowAt rows at)) (rowAt rows at) (p .x)
                 ∙ ap (λ f. plus K16 f (scale K16 (p .x) (polynomial M (rowAt rows at)))) (polynomial-raise M large (rowAt rows at) (room v));
             row-other = λ r b n v.
-                ap (polynomial M) (next .other r b n) ∙ polynomial-plus-scale M (rowAt rows r) (rowAt rows at) _
+                polynomial-ext M _ _ (next .other r b n) ∙ polynomial-plus-scale M (rowAt rows r) (rowAt rows at) _
                 ∙ ap (λ x. plus K16 (polynomial M (rowAt rows r)) (scale K16 x (polynomial M (rowAt rows at))))
                 (toF-times (getD ds r 0) (inverse (getD ds at 0)) ∙ ap (λ x. Δ r ⊗ x) (toF-inverse (getD ds at 0)));
           }

@@ -1,38 +1,30 @@
--- A row whose two parts are moved up by four positions, each by a loop, is x times the row.
-use mathlib.Core.Path.{_≡_, sym, ap, _∙_, fun-ext}
+-- A row whose two parts are moved up by the order of x, each by a loop, holds x times the row.
+use mathlib.Core.Path.{_≡_, sym, _∙_}
 use mathlib.Core.List.{List}
-use Prim.Native.Nat.{ℕ, _-_, _<_}
+use Prim.Native.Nat.{ℕ, _+_, _-_, _<_}
 use native.Mathlib.Decide.{decLt}
 use native.Mathlib.Omega.{arith}
-use lib.ListN.{length, getD, replicate, getD-replicate}
+use lib.ListN.{getD, replicate, getD-replicate}
+use Rattle.lists.specs.Listed.{listed, listed-by}
 use Rattle.lists.specs.Passed.{Passed}
-use Rattle.galois.specs.Field16.{toF, toF-zero}
-use Rattle.rows.specs.Rows.{coef, coef-at, coef-beyond, raise, raise-first, raise-plain, raise-seam, raise-z, raise-beyond}
+use Rattle.rows.specs.Rows.{rowWidth, plainWidth, xOrder}
+use Rattle.rows.specs.Bytes.{movedAt, movedAt-first, movedAt-plain, movedAt-seam, movedAt-z}
 
--- what is stored at k: the entry four positions below
+-- what is stored at k: the entry of the order below by that of x
 abbrev pub Lower : List ℕ → ℕ → ℕ → Type 0
-Lower row k v = v ≡ getD row (k - 4) 0
+Lower row k v = v ≡ getD row (k - xOrder) 0
 
-pub moved-is : (row mid out : List ℕ) → Passed 0 (Lower row) 4 64 (replicate 96 0) mid → Passed 0 (Lower row) 68 96 mid out
-    → coef out ≡ raise (coef row)
-moved-is row mid out p q = fun-ext (λ k. go k (decLt k 4) (decLt k 64) (decLt k 68) (decLt k 96))
+pub moved-is : (row mid out : List ℕ) → Passed 0 (Lower row) xOrder plainWidth (replicate rowWidth 0) mid
+    → Passed 0 (Lower row) (plainWidth + xOrder) rowWidth mid out → out ≡ listed rowWidth (movedAt row)
+moved-is row mid out p q =
+    listed-by 0 rowWidth out (movedAt row) (q .as-long ∙ p .as-long)
+    (λ k h. go k h (decLt k xOrder) (decLt k plainWidth) (decLt k (plainWidth + xOrder)))
   where
-    zero-at : (k : ℕ) → getD out k 0 ≡ 0 → coef out k ≡ toF 0
-    zero-at k e = coef-at out k ∙ ap toF e
-
-    copied : (k : ℕ) → getD out k 0 ≡ getD row (k - 4) 0 → coef out k ≡ coef row (k - 4)
-    copied k e = coef-at out k ∙ ap toF e ∙ sym (coef-at row (k - 4))
-
-    go : (k : ℕ) → Dec (k < 4) → Dec (k < 64) → Dec (k < 68) → Dec (k < 96) → coef out k ≡ raise (coef row) k
-    go k (yes a) b c d =
-        zero-at k (q .earlier k (omega arith) ∙ p .earlier k a ∙ getD-replicate 96 k 0 0 (omega arith))
-        ∙ toF-zero ∙ sym (raise-first (coef row) k a)
-    go k (no a) (yes b) c d =
-        copied k (q .earlier k (omega arith) ∙ p .stored k (omega arith) b) ∙ sym (raise-plain (coef row) k (omega arith) b)
-    go k (no a) (no b) (yes c) d =
-        zero-at k (q .earlier k c ∙ p .later k (omega arith) ∙ getD-replicate 96 k 0 0 (omega arith))
-        ∙ toF-zero ∙ sym (raise-seam (coef row) k (omega arith) c)
-    go k (no a) (no b) (no c) (yes d) = copied k (q .stored k (omega arith) d) ∙ sym (raise-z (coef row) k (omega arith) d)
-    go k (no a) (no b) (no c) (no d) =
-        let l : length out ≡ 96 = q .as-long ∙ p .as-long in
-        coef-beyond out k (omega arith) ∙ sym (raise-beyond (coef row) k (omega arith))
+    go : (k : ℕ) → k < rowWidth → Dec (k < xOrder) → Dec (k < plainWidth) → Dec (k < plainWidth + xOrder) → getD out k 0 ≡ movedAt row k
+    go k h (yes a) b c =
+        q .earlier k (omega arith) ∙ p .earlier k a ∙ getD-replicate rowWidth k 0 0 h ∙ sym (movedAt-first row k a)
+    go k h (no a) (yes b) c =
+        q .earlier k (omega arith) ∙ p .stored k (omega arith) b ∙ sym (movedAt-plain row k (omega arith) b)
+    go k h (no a) (no b) (yes c) =
+        q .earlier k c ∙ p .later k (omega arith) ∙ getD-replicate rowWidth k 0 0 h ∙ sym (movedAt-seam row k (omega arith) c)
+    go k h (no a) (no b) (no c) = q .stored k (omega arith) h ∙ sym (movedAt-z row k (omega arith))

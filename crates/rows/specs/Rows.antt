@@ -1,11 +1,12 @@
 -- A row of 96 bytes holds a polynomial Q0 + Q1 z by position: 64 coefficients without z by order, then 32 with z by order.
 --
---   coef row      the coefficient function of a row, by position; zero beyond its end
+--   rowWidth, plainWidth, xOrder   96 and 64: the entries of a row, and those without z; 4, the order of x
+--   coef row      the coefficient function of a row, by position; zero beyond its end (coef-beyond)
 --   dot c d       the sum of the products, position by position
 --   raise c       x times a row of coefficients: each part moves up by four orders, and what leaves its part is lost
 --   weighed e z   the values of the terms by position: e by order, then z times e by order
---   coef-beyond, coef-below   beyond the end of a row; two functions are one if they are the same up to 96 and zero beyond
---   coef-sum, coef-product    coefficients of stored sums and products
+--   raise-…, weighed-…   these two, part by part
+--   value-times-toF      the byte of a product
 use mathlib.Core.Path.{_≡_, refl, sym, ap, _∙_}
 use mathlib.Core.List.{List}
 use Prim.Native.Nat.{ℕ, suc, _-_, _<_, _≤_}
@@ -19,6 +20,15 @@ use Rattle.algebra.specs.Coefficients.{choose, choose-yes, choose-no}
 use Rattle.galois.specs.Gf16.{times}
 use Rattle.galois.specs.Field16.{GF, K16, toF, value, value-toF, toF-times, toF-zero, times-lt}
 open Field K16 using (_⊕_, _⊗_, 𝟘)
+
+abbrev pub rowWidth : ℕ
+rowWidth = 96
+
+abbrev pub plainWidth : ℕ
+plainWidth = 64
+
+abbrev pub xOrder : ℕ
+xOrder = 4
 
 unfoldable pub coef : List ℕ → ℕ → GF
 coef row i = toF (getD row i 0)
@@ -86,6 +96,5 @@ pub dot-suc : (c d : ℕ → GF) (n : ℕ) → dot c d (suc n) ≡ dot c d n ⊕
 unfolding dot
 dot-suc c d n = sum-suc K16 n _
 
--- the byte of a product
 pub value-times-toF : (a b : ℕ) → value (toF a ⊗ toF b) ≡ times a b
 value-times-toF a b = ap value (sym (toF-times a b)) ∙ value-toF (times a b) ∙ mod-eq-of-lt (times-lt a b)

@@ -2,10 +2,9 @@
 // ends is needed and the compiler can take sixteen positions at a time.
 ghost use mathlib.Core.Path.{_≡_};
 ghost use Prim.Native.Nat.{_<_};
-ghost use Rattle.algebra.specs.Coefficients.{plus, scale};
-ghost use Rattle.galois.specs.Field16.{K16, toF};
 ghost use Rattle.lists.specs.Listed.{listed};
-ghost use Rattle.rows.specs.Rows.{coef, raise, weighed};
+ghost use Rattle.rows.specs.Rows.{rowWidth};
+ghost use Rattle.rows.specs.Bytes.{weighedAt, addedAt, movedAt, raisedAt};
 ghost use Rattle.rows.specs.Planes.{planeAt, planesOf, pickedOf, summedOf, dotOf};
 use galois::product;
 use galois::reduced;
@@ -19,7 +18,7 @@ pub type Row = [u8; ROW];
 
 // The values of the terms at a point with z: the monomials there by order, then z times them.
 pub fn weights(monomials: [u8; PLAIN], z: u8) -> Row
-    ensures { λ r. ⌜ coef r ≡ weighed (coef monomials) (toF z) ⌝ }
+    ensures { λ r. ⌜ r ≡ listed rowWidth (weighedAt monomials z) ⌝ }
 {
     let mut out = [0u8; ROW];
     let mut i = 0;
@@ -95,7 +94,7 @@ pub fn dot(row: Row, weights: Planes) -> u8
 
 // The row and a multiple of another.
 pub fn added(row: Row, by: u8, other: Row) -> Row
-    ensures { λ r. ⌜ coef r ≡ plus K16 (coef row) (scale K16 (toF by) (coef other)) ⌝ }
+    ensures { λ r. ⌜ r ≡ listed rowWidth (addedAt row by other) ⌝ }
 {
     let mut out = [0u8; ROW];
     let mut i = 0;
@@ -113,7 +112,7 @@ const X_TIMES_Z: usize = PLAIN + X;
 
 // x times a row; what leaves its part is lost.
 fn moved(row: Row) -> Row
-    ensures { λ r. ⌜ coef r ≡ raise (coef row) ⌝ }
+    ensures { λ r. ⌜ r ≡ listed rowWidth (movedAt row) ⌝ }
 {
     let mut out = [0u8; ROW];
     let mut i = X;
@@ -131,7 +130,7 @@ fn moved(row: Row) -> Row
 
 // x + a times a row: it vanishes where x is a.
 pub fn raised(row: Row, a: u8) -> Row
-    ensures { λ r. ⌜ coef r ≡ plus K16 (raise (coef row)) (scale K16 (toF a) (coef row)) ⌝ }
+    ensures { λ r. ⌜ r ≡ listed rowWidth (raisedAt row a) ⌝ }
 {
     added(moved(row), a, row)
 }

@@ -1,25 +1,23 @@
--- Each position passed holds the sum of the two coefficients there.
-use mathlib.Core.Path.{_≡_, refl}
-use Prim.Native.Nat.{_≤_, _-_}
-use lib.ListN.{length, replicate}
+-- Each position passed holds the sum of the entry there and the multiple of the other's.
+use mathlib.Core.Path.{refl}
+use Prim.Native.Nat.{_-_}
+use lib.ListN.{replicate}
 use borrow.Author.Needs.{needs}
-use Rattle.lists.specs.Passed.{Passed, passed-start, passed-turn, passed-end}
-use Rattle.algebra.specs.Coefficients.{plus, scale}
-use Rattle.galois.specs.Field16.{K16, toF}
-use Rattle.rows.specs.Rows.{coef}
-use Rattle.rows.proofs.Stored.{Is, stored-coef, is-sum, sum-beyond}
+use Rattle.lists.specs.Filled.{Filled, filled-start, filled-turn, filled-end}
+use Rattle.rows.specs.Rows.{rowWidth}
+use Rattle.rows.specs.Bytes.{addedAt}
+use Rattle.rows.proofs.Stored.{is-sum}
 use Rattle.rows.proofs.added.Statement.{statement}
 use Rattle.rows.proofs.added.Tie as tie
 
 abbrev Inv-loop : tie.InvT-loop
-Inv-loop by row other out₀ i₀ out i =
-    (i ≤ 96) × (length row ≡ 96) × (length other ≡ 96) × Passed 0 (Is (plus K16 (coef row) (scale K16 (toF by) (coef other)))) 0 i (replicate 96 0) out
+Inv-loop by row other out₀ i₀ out i = Filled (replicate rowWidth 0) (addedAt row by other) i out
 
 abbrev μ-loop : tie.MeasureT-loop
-μ-loop by row other out₀ i₀ out i = 96 - i
+μ-loop by row other out₀ i₀ out i = rowWidth - i
 
 loop-holds : tie.Need-loop-holds Inv-loop μ-loop
-loop-holds c = (search needs, search needs, search needs, passed-start _ _ _ _)
+loop-holds c = filled-start _ _
 
 array-read-out : tie.Need-array-read-out Inv-loop μ-loop
 array-read-out c = search needs
@@ -40,17 +38,10 @@ loop-less : tie.Need-loop-less Inv-loop μ-loop
 loop-less c = search needs
 
 loop-again : tie.Need-loop-again Inv-loop μ-loop
-loop-again c = (
-  search needs,
-  search needs,
-  search needs,
-  passed-turn 0 _ _ (search needs) (search needs) (is-sum _ _ _ _ _ (c .product .ensures)) (c .before .before .loop .inv .3),
-)
+loop-again c = filled-turn 0 (c .before .before .loop .inv) _ (search needs) (is-sum _ _ _ _ _ (c .product .ensures))
 
 returns : tie.Need-returns Inv-loop μ-loop
-returns c =
-    stored-coef _ _ _ refl (sum-beyond _ _ _ (c .before .loop .inv .1) (c .before .loop .inv .2))
-    (passed-end _ _ 96 (search needs) (search needs) (c .before .loop .inv .3))
+returns c = filled-end 0 (c .before .loop .inv) rowWidth refl (c .loop-test .left)
 
 pub added-spec : {M : Type 1} → statement M
 added-spec =

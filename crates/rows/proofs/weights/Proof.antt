@@ -1,30 +1,29 @@
--- Two loops store the monomials and z times them; joined, they have passed the whole row.
-use mathlib.Core.Path.{_≡_, refl, sym, _∙_}
+-- Two loops store the monomials and z times them, one after the other.
+use mathlib.Core.Path.{_≡_, refl, _∙_}
 use Prim.Native.Nat.{_≤_, _-_}
-use lib.ListN.{length, replicate}
+use native.Mathlib.Omega.{arith}
+use lib.ListN.{replicate}
 use borrow.Author.Needs.{needs}
-use Rattle.lists.specs.Passed.{Passed, passed-start, passed-turn, passed-end, passed-join}
-use Rattle.galois.specs.Field16.{toF}
-use Rattle.rows.specs.Rows.{coef, coef-at, weighed, weighed-plain, weighed-z, weighed-beyond}
-use Rattle.rows.proofs.Stored.{Is, stored-coef, is-product}
+use Rattle.lists.specs.Filled.{Filled, filled-start, filled-turn, filled-end}
+use Rattle.rows.specs.Rows.{rowWidth, plainWidth}
+use Rattle.rows.specs.Bytes.{weighedAt, weighedAt-plain, weighedAt-z}
 use Rattle.rows.proofs.weights.Statement.{statement}
 use Rattle.rows.proofs.weights.Tie as tie
 
 abbrev Inv-loop : tie.InvT-loop
-Inv-loop z monomials out₀ i₀ out i = (i ≤ 64) × Passed 0 (Is (weighed (coef monomials) (toF z))) 0 i (replicate 96 0) out
+Inv-loop z monomials out₀ i₀ out i = (i ≤ plainWidth) × Filled (replicate rowWidth 0) (weighedAt monomials z) i out
 
 abbrev μ-loop : tie.MeasureT-loop
-μ-loop z monomials out₀ i₀ out i = 64 - i
+μ-loop z monomials out₀ i₀ out i = plainWidth - i
 
 abbrev Inv-loop2 : tie.InvT-loop2
-Inv-loop2 z monomials out₀ i k₀ out k =
-    (64 ≤ k) × (k ≤ 96) × (length out₀ ≡ 96) × Passed 0 (Is (weighed (coef monomials) (toF z))) 64 k out₀ out
+Inv-loop2 z monomials out₀ i k₀ out k = (plainWidth ≤ k) × Filled (replicate rowWidth 0) (weighedAt monomials z) k out
 
 abbrev μ-loop2 : tie.MeasureT-loop2
-μ-loop2 z monomials out₀ i k₀ out k = 96 - k
+μ-loop2 z monomials out₀ i k₀ out k = rowWidth - k
 
 loop-holds : tie.Need-loop-holds Inv-loop μ-loop Inv-loop2 μ-loop2
-loop-holds c = (search needs, passed-start _ _ _ _)
+loop-holds c = (search needs, filled-start _ _)
 
 array-read-out : tie.Need-array-read-out Inv-loop μ-loop Inv-loop2 μ-loop2
 array-read-out c = search needs
@@ -39,13 +38,12 @@ loop-less : tie.Need-loop-less Inv-loop μ-loop Inv-loop2 μ-loop2
 loop-less c = search needs
 
 loop-again : tie.Need-loop-again Inv-loop μ-loop Inv-loop2 μ-loop2
-loop-again c = (
-  search needs,
-  passed-turn 0 _ _ (search needs) (search needs) (sym (coef-at _ _) ∙ sym (weighed-plain _ _ _ (search needs))) (c .before .loop .inv .1),
-)
+loop-again c = (search needs, filled-turn 0 (c .before .loop .inv .1) _ (search needs) (weighedAt-plain _ _ _ (search needs)))
 
 loop2-holds : tie.Need-loop2-holds Inv-loop μ-loop Inv-loop2 μ-loop2
-loop2-holds c = (search needs, search needs, c .before .loop .inv .1 .as-long, passed-start _ _ _ _)
+loop2-holds c =
+    let e : c .before .loop .i ≡ plainWidth = omega arith in
+    (search needs, rw e at (c .before .loop .inv .1))
 
 sub-product : tie.Need-sub-product Inv-loop μ-loop Inv-loop2 μ-loop2
 sub-product c = search needs
@@ -66,19 +64,12 @@ loop2-less : tie.Need-loop2-less Inv-loop μ-loop Inv-loop2 μ-loop2
 loop2-less c = search needs
 
 loop2-again : tie.Need-loop2-again Inv-loop μ-loop Inv-loop2 μ-loop2
-loop2-again c = (
-  search needs,
-  search needs,
-  search needs,
-  passed-turn 0 _ _ (search needs) (search needs) (is-product _ _ _ _ (c .product .ensures) ∙ sym (weighed-z _ _ _ (search needs) (search needs)))
-      (c .before .before .loop2 .inv .3),
-)
+loop2-again c =
+    let i = c .before .before .loop2 .inv in
+    (search needs, filled-turn 0 (i .1) _ (search needs) (c .product .ensures ∙ weighedAt-z _ _ _ (i .0)))
 
 returns : tie.Need-returns Inv-loop μ-loop Inv-loop2 μ-loop2
-returns c =
-    stored-coef _ _ _ refl (λ k h. weighed-beyond _ _ k h)
-    (passed-join _ _ (search needs) (search needs) (passed-end _ _ 64 (search needs) (search needs) (c .before .before .before .loop .inv .1))
-    (passed-end _ _ 96 (search needs) (search needs) (c .before .loop2 .inv .3)))
+returns c = filled-end 0 (c .before .loop2 .inv .1) rowWidth refl (c .loop2-test .left)
 
 pub weights-spec : {M : Type 1} → statement M
 weights-spec =

@@ -1,24 +1,23 @@
 -- Beyond the classes nothing changes. Else each row passed is cleared, and the row of the pivot is then replaced by the raised one.
-use mathlib.Core.Path.{_≡_, refl}
+use mathlib.Core.Path.{_≡_}
 use mathlib.Core.List.{[]}
-use Prim.Native.Nat.{_≤_, _-_}
-use native.Mathlib.Omega.{arith}
+use Prim.Native.Nat.{_-_}
 use lib.ListN.{length}
 use borrow.Author.Needs.{needs}
-use Rattle.lists.specs.Passed.{Passed, passed-start, passed-turn, passed-end}
-use Rattle.galois.specs.Gf16.{inverse}
-use Rattle.basis.proofs.Rowwise.{Cleared, cleared-is, next-rows-are}
+use Rattle.lists.specs.Filled.{Filled, filled-start, filled-turn, filled-end}
+use Rattle.basis.specs.Step.{classes, cleared}
+use Rattle.basis.proofs.Rowwise.{cleared-is, no-step, step-stored}
 use Rattle.basis.proofs.step.next_rows.Statement.{statement}
 use Rattle.basis.proofs.step.next_rows.Tie as tie
 
 abbrev Inv-loop : tie.InvT-loop
-Inv-loop at a rows ds pivot by out₀ r₀ out r = (r ≤ 8) × (length rows ≡ 8) × Passed [] (Cleared at ds rows) 0 r rows out
+Inv-loop at a rows ds pivot by out₀ r₀ out r = (length rows ≡ classes) × Filled rows (cleared at ds rows) r out
 
 abbrev μ-loop : tie.MeasureT-loop
-μ-loop at a rows ds pivot by out₀ r₀ out r = 8 - r
+μ-loop at a rows ds pivot by out₀ r₀ out r = classes - r
 
 returns : tie.Need-returns Inv-loop μ-loop
-returns c = (λ h. absurd (omega arith), λ h. refl)
+returns c = no-step _ _ _ _ (c .if1 .taken)
 
 mul-pivot : tie.Need-mul-pivot Inv-loop μ-loop
 mul-pivot c = search needs
@@ -33,7 +32,7 @@ inverse-requires : tie.Need-inverse-requires Inv-loop μ-loop
 inverse-requires c κs = search needs
 
 loop-holds : tie.Need-loop-holds Inv-loop μ-loop
-loop-holds c = (search needs, search needs, passed-start _ _ _ _)
+loop-holds c = (search needs, filled-start _ _)
 
 mul-next-row : tie.Need-mul-next-row Inv-loop μ-loop
 mul-next-row c = search needs
@@ -61,11 +60,9 @@ loop-less c = search needs
 
 loop-again : tie.Need-loop-again Inv-loop μ-loop
 loop-again c =
-    let a = c .before .before .before .before .before .before .before .args in (
-      search needs,
-      search needs,
-      passed-turn [] _ _ (search needs) (search needs) (cleared-is (a .at) (a .t2) (a .t1) _ _ _ (c .before .before .before .before .inverse .ensures) (c .next-row .ensures)) (c .before .before .before .loop .inv .2),
-    )
+    let a = c .before .before .before .before .before .before .before .args in
+    let i = c .before .before .before .loop .inv in
+    (i .0, filled-turn [] (i .1) _ (search needs) (cleared-is (a .at) (a .t2) (a .t1) _ _ _ (c .before .before .before .before .inverse .ensures) (c .next-row .ensures)))
 
 raised-requires : tie.Need-raised-requires Inv-loop μ-loop
 raised-requires c κs = search needs
@@ -77,10 +74,9 @@ array-set-from-out-2 : tie.Need-array-set-from-out-2 Inv-loop μ-loop
 array-set-from-out-2 c = search needs
 
 returns-2 : tie.Need-returns-2 Inv-loop μ-loop
-returns-2 c = (
-  λ h. next-rows-are _ _ _ _ _ _ h (search needs) (passed-end _ _ 8 (search needs) (search needs) (c .before .before .loop .inv .2)) (c .raised .ensures),
-  λ h. absurd (omega arith),
-)
+returns-2 c =
+    let i = c .before .before .loop .inv in
+    step-stored _ _ _ _ _ _ (search needs) (filled-end [] (i .1) classes (i .0) (c .before .loop-test .left)) (c .raised .ensures)
 
 pub next-rows-spec : {M : Type 1} → statement M
 next-rows-spec =

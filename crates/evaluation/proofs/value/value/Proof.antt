@@ -1,4 +1,5 @@
 -- `value` meets its contract: of two rows without z the dot product is the sum over the orders.
+use Rattle.rows.specs.Bytes.{coef-weights}
 use Rattle.evaluation.proofs.Evaluating.{value-by-dot, value-swapped}
 use borrow.Author.Needs.{needs}
 use Rattle.evaluation.proofs.value.value.Statement.{statement}
@@ -19,7 +20,7 @@ dot-requires c κs = search needs
 returns : tie.Need-returns
 returns c =
     value-swapped _ _
-    (value-by-dot _ _ _ _ (c .before .before .before .weights .ensures) (c .before .before .weights2 .ensures) (c .before .planes .ensures) (c .dot .ensures))
+    (value-by-dot _ _ _ _ (coef-weights _ _ (c .before .before .before .weights .ensures)) (coef-weights _ _ (c .before .before .weights2 .ensures)) (c .before .planes .ensures) (c .dot .ensures))
 
 pub value-spec : {M : Type 1} → statement M
 value-spec =

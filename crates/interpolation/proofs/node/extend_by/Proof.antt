@@ -1,6 +1,8 @@
 -- Where no class is chosen nothing changes; else the step at the chosen class. Its lead is within the limit, so that it can grow by 8.
 use native.Mathlib.Omega.{arith}
 use borrow.Author.Needs.{needs}
+use Rattle.rows.specs.Bytes.{coef-weights}
+use Rattle.basis.specs.Step.{next-rows}
 use Rattle.interpolation.proofs.Extended.{chosen-live, extends-same, extends-raised}
 use Rattle.interpolation.proofs.node.extend_by.Statement.{statement}
 use Rattle.interpolation.proofs.node.extend_by.Tie as tie
@@ -17,7 +19,7 @@ choice-requires c κs = search needs
 returns : tie.Need-returns
 returns c =
     extends-same _ _ _ _ _ _ (c .before .before .discrepancies .ensures) (c .before .choice .ensures) _ _ (search needs) (search needs)
-    (c .before .before .before .weights .ensures) _ (c .if1 .taken)
+    (coef-weights _ _ (c .before .before .before .weights .ensures)) _ (c .if1 .taken)
 
 mul-leads : tie.Need-mul-leads
 mul-leads c = search needs
@@ -42,7 +44,7 @@ next-rows-requires c κs = search needs
 returns-2 : tie.Need-returns-2
 returns-2 c =
     extends-raised _ _ _ _ _ _ (c .before .before .before .discrepancies .ensures) (c .before .before .choice .ensures) _ _ (search needs) (search needs)
-    (c .before .before .before .before .weights .ensures) _ _ (search needs) (c .next-rows .ensures .0 (search needs))
+    (coef-weights _ _ (c .before .before .before .before .weights .ensures)) _ _ (search needs) (next-rows _ _ _ _ _ (search needs) (c .next-rows .ensures))
 
 pub extend-by-spec : {M : Type 1} → statement M
 extend-by-spec =
