@@ -19,7 +19,8 @@ use Rattle.code.specs.Evaluation.{monomialAt}
 use Rattle.evaluation.specs.Table.{monomialTable, entryIn, in-table}
 use Rattle.code.specs.Nodes.{node, ThroughNodes}
 use Rattle.basis.specs.Choice.{leadAt}
-use Rattle.interpolation.specs.Start.{Started}
+use Rattle.basis.specs.Step.{classes}
+use Rattle.interpolation.specs.Start.{startBytes}
 use Rattle.interpolation.specs.Extending.{ExtendsBy}
 use Rattle.interpolation.specs.Polynomial.{polynomials}
 use Rattle.interpolation.specs.Settled.{settled, settled-suc, ExtendsIf, ExtendsIfBy}
@@ -46,7 +47,8 @@ extends-not L monomials x z flag rows leads e =
     }
 
 -- ---- a loop over the places: before it,
-pub settle-start : (L M : ℕ) (word flags : List ℕ) (rows : List (List ℕ)) (leads : List ℕ) → leads ≡ listed 8 (first 4 M) → Started M rows
+pub settle-start : (L M : ℕ) (word flags : List ℕ) (rows : List (List ℕ)) (leads : List ℕ) → leads ≡ listed 8 (first 4 M)
+    → rows ≡ listed classes (startBytes M)
     → Basis K16 8 L (ThroughNodes M (settled word flags 0)) (polynomials M rows) (leadAt leads)
 unfolding settled
 settle-start L M word flags rows leads e s =

@@ -3,8 +3,8 @@ ghost use mathlib.Core.Path.{_≡_};
 ghost use Prim.Native.Nat.{_<_, _≤_};
 ghost use Rattle.lists.specs.Listed.{listed};
 ghost use Rattle.hermitian.specs.Keys.{first};
-ghost use Rattle.rows.specs.Rows.{coef};
-ghost use Rattle.interpolation.specs.Start.{startRow, Started};
+ghost use Rattle.basis.specs.Step.{classes};
+ghost use Rattle.interpolation.specs.Start.{startBytes};
 use basis::CLASSES;
 use basis::Leads;
 use basis::Rows;
@@ -14,7 +14,7 @@ use rows::Row;
 
 fn start_row(r: usize, m: usize) -> Row
     requires { ⌜ r < 8 ⌝ }
-    ensures { λ row. ⌜ coef row ≡ startRow m r ⌝ }
+    ensures { λ row. ⌜ row ≡ startBytes m r ⌝ }
 {
     let mut out = [0u8; ROW];
     if r % 2 == 0 {
@@ -26,7 +26,7 @@ fn start_row(r: usize, m: usize) -> Row
 }
 
 pub fn start_rows(m: usize) -> Rows
-    ensures { λ rows. ⌜ Started m rows ⌝ }
+    ensures { λ rows. ⌜ rows ≡ listed classes (startBytes m) ⌝ }
 {
     let mut out = [[0u8; ROW]; CLASSES];
     let mut r = 0;

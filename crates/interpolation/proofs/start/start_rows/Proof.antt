@@ -1,21 +1,24 @@
 -- Each class passed holds its first term.
+use mathlib.Core.Path.{refl}
 use mathlib.Core.List.{[]}
-use Prim.Native.Nat.{_≤_, _-_}
+use Prim.Native.Nat.{_-_}
 use lib.ListN.{replicate}
 use borrow.Author.Needs.{needs}
-use Rattle.lists.specs.Passed.{Passed, passed-start, passed-turn, passed-end}
-use Rattle.interpolation.proofs.Starting.{IsStart, started}
+use Rattle.lists.specs.Filled.{Filled, filled-start, filled-turn, filled-end}
+use Rattle.rows.specs.Rows.{rowWidth}
+use Rattle.basis.specs.Step.{classes}
+use Rattle.interpolation.specs.Start.{startBytes}
 use Rattle.interpolation.proofs.start.start_rows.Statement.{statement}
 use Rattle.interpolation.proofs.start.start_rows.Tie as tie
 
 abbrev Inv-loop : tie.InvT-loop
-Inv-loop m out₀ r₀ out r = (r ≤ 8) × Passed [] (IsStart m) 0 r (replicate 8 (replicate 96 0)) out
+Inv-loop m out₀ r₀ out r = Filled (replicate classes (replicate rowWidth 0)) (startBytes m) r out
 
 abbrev μ-loop : tie.MeasureT-loop
-μ-loop m out₀ r₀ out r = 8 - r
+μ-loop m out₀ r₀ out r = classes - r
 
 loop-holds : tie.Need-loop-holds Inv-loop μ-loop
-loop-holds c = (search needs, passed-start _ _ _ _)
+loop-holds c = filled-start _ _
 
 start-row-requires : tie.Need-start-row-requires Inv-loop μ-loop
 start-row-requires c κs = search needs
@@ -33,10 +36,10 @@ loop-less : tie.Need-loop-less Inv-loop μ-loop
 loop-less c = search needs
 
 loop-again : tie.Need-loop-again Inv-loop μ-loop
-loop-again c = (search needs, passed-turn [] _ _ (search needs) (search needs) (c .start-row .ensures) (c .before .before .loop .inv .1))
+loop-again c = filled-turn [] (c .before .before .loop .inv) _ (search needs) (c .start-row .ensures)
 
 returns : tie.Need-returns Inv-loop μ-loop
-returns c = started _ _ _ (passed-end _ _ 8 (search needs) (search needs) (c .before .loop .inv .1))
+returns c = filled-end [] (c .before .loop .inv) classes refl (c .loop-test .left)
 
 pub start-rows-spec : {M : Type 1} → statement M
 start-rows-spec =
