@@ -3,8 +3,8 @@
 --   all-below     an array of 64 is zero from order 64 on
 --   one-lower     a zero at the next order below
 --   lead-here     the first coefficient from the top that is not zero is the lead
---   lead-nowhere  where all are zero there is no lead
-use mathlib.Core.Path.{_≡_, sym, ap, _∙_, subst}
+--   lead-nowhere  where all are zero there is no lead, and 0 stands for it
+use mathlib.Core.Path.{_≡_, refl, sym, ap, _∙_, subst}
 use mathlib.Core.List.{List}
 use mathlib.Core.Logic.{_≢_}
 use Prim.Native.Nat.{ℕ, suc, _-_, _%_, _<_, _≤_}
@@ -34,7 +34,8 @@ module _ (c : List ℕ) (n : ℕ) (b : Below K16 (coef c) n) where
       record {
         within = omega arith;
         found = λ l p. lead-unique K16 p (record { ne = λ z. toF-ne-zero _ e (sym (coef-at c (n - 1)) ∙ z); above = upto h });
+        none = λ z. absurd (toF-ne-zero _ e (sym (coef-at c (n - 1)) ∙ z (n - 1)));
       }
 
   pub lead-nowhere : n ≤ 0 → LeadFound c 0
-  lead-nowhere h = record { within = omega arith; found = λ l p. absurd (omega (arith, lead-below K16 p b)) }
+  lead-nowhere h = record { within = omega arith; found = λ l p. absurd (omega (arith, lead-below K16 p b)); none = λ z. refl }

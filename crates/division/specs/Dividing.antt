@@ -1,6 +1,7 @@
 -- What the division computes: hermitian's quotient, on arrays of 64 coefficients by order.
 --
 --   nextAt rest at o by   the next coefficient: the rest's at `at` times by, none at an absent order
+--   lessAt rest by f up o the coefficient o of the rest and by times f moved up by `up` orders; coef-less: as a coefficient function
 --   yPowers c             c times 1, y, y² and y³
 --   Roomy c l m           c has the lead l, and c times each monomial of order up to m ends by order 63
 --   Divided q0 q1 m r     r holds symbols, and where q1 has a lead that leaves room, the quotient of q0 by q1 from order m down
@@ -10,25 +11,30 @@ use mathlib.Core.Bool.{cond}
 use mathlib.Core.Path.{_≡_, refl, sym, ap, ap₂, _∙_, subst}
 use mathlib.Core.List.{List, [], _∷_}
 use Prim.Native.Nat.{ℕ, zero, suc, _+_, _-_, _*_, _/_, _%_, _<_, _≤_}
+use native.Mathlib.Decide.{decLt}
 use native.Mathlib.Omega.{arith}
+use lib.Bits.{bitXor}
 use lib.Dec.{T, ltb}
 use lib.ListN.{length, getD}
 use borrow.Author.Tests.{lt-ltb, le-ltb}
 use Rattle.lists.specs.Listed.{listed}
 use Rattle.lists.specs.Words.{allBelow}
-use Rattle.algebra.specs.Field.{Field, zero-mul}
-use Rattle.algebra.specs.Coefficients.{choose, choose-yes, choose-no, plus, scale, shift, Below, Lead, below-mono, below-plus, below-scale, below-shift}
+use Rattle.algebra.specs.Field.{Field, zero-mul, mul-zero, add-zero}
+use Rattle.algebra.specs.Coefficients.{choose, choose-yes, choose-no, plus, scale, shift, shift-high, shift-low, Below, Lead, below-mono, below-plus, below-scale, below-shift}
 use Rattle.galois.specs.Gf16.{times, inverse}
-use Rattle.galois.specs.Field16.{GF, K16, toF, toF-times, toF-inverse, toF-zero}
+use Rattle.galois.specs.Field16.{GF, K16, toF, toF-add, toF-times, toF-inverse, toF-zero}
 use Rattle.hermitian.specs.Present.{Present, decPresent}
 use Rattle.hermitian.specs.Ring.{timesY, powY, powY-nil, powY-suc, below-powY, timesMonomial}
 use Rattle.hermitian.specs.Division.{quotientAt, divideStep, quotient}
 use Rattle.rows.specs.Rows.{coef, coef-at, coef-beyond}
-use Rattle.division.specs.Parts.{cut, cut-below, yAt, coef-y}
+use Rattle.division.specs.Parts.{cut, cut-below, coef-cut, yAt, coef-y}
 open Field K16 using (_⊕_, _⊗_, 𝟘, inv)
 
 unfoldable pub nextAt : List ℕ → ℕ → ℕ → ℕ → ℕ
 nextAt rest at o by = cond (ltb (o / 4) (o % 4)) 0 (cond (ltb 63 at) 0 (times (getD rest at 0) by))
+
+unfoldable pub lessAt : List ℕ → ℕ → List ℕ → ℕ → ℕ → ℕ
+lessAt rest by f up o = cond (ltb o up) (getD rest o 0) (bitXor (getD rest o 0) (times by (getD f (o - up) 0)))
 
 unfoldable pub yOnce : List ℕ → List ℕ
 yOnce c = listed 64 (yAt c)
@@ -44,6 +50,30 @@ pub record Roomy (c : List ℕ) (l m : ℕ) : Type 0 where
 pub record Divided (q0 q1 : List ℕ) (m : ℕ) (r : List ℕ) : Type 0 where
   pub symbols : T (allBelow 16 r)
   pub exact : (l : ℕ) → Roomy q1 l m → coef r ≡ quotient K16 4 l (coef q1) m (coef q0)
+
+-- ---- the rest and a multiple of a function moved up
+module _ (rest : List ℕ) (by : ℕ) (f : List ℕ) (up o : ℕ) where
+  pub lessAt-low : o < up → lessAt rest by f up o ≡ getD rest o 0
+  unfolding lessAt
+  lessAt-low h = simp (lt-ltb o up h)
+
+  pub lessAt-high : up ≤ o → lessAt rest by f up o ≡ bitXor (getD rest o 0) (times by (getD f (o - up) 0))
+  unfolding lessAt
+  lessAt-high h = simp (le-ltb o up h)
+
+  less-is : Dec (o < up) → toF (lessAt rest by f up o) ≡ coef rest o ⊕ toF by ⊗ shift K16 up (coef f) o
+  less-is (yes h) =
+      ap toF (lessAt-low h) ∙ sym (coef-at rest o)
+      ∙ sym (ap (λ x. coef rest o ⊕ toF by ⊗ x) (shift-low K16 up o (coef f) h) ∙ ap (λ x. coef rest o ⊕ x) (mul-zero K16 (toF by)) ∙ add-zero K16 (coef rest o))
+  less-is (no h) =
+      let l : up ≤ o = omega arith in
+      ap toF (lessAt-high l) ∙ toF-add _ _
+      ∙ ap₂ (λ x y. x ⊕ y) (sym (coef-at rest o))
+      (toF-times by _ ∙ ap (λ x. toF by ⊗ x) (sym (coef-at f (o - up)) ∙ sym (shift-high K16 up o (coef f) l)))
+
+pub coef-less : (rest : List ℕ) (by : ℕ) (f : List ℕ) (up : ℕ) {r : List ℕ} → r ≡ listed 64 (lessAt rest by f up)
+    → coef r ≡ cut (plus K16 (coef rest) (scale K16 (toF by) (shift K16 up (coef f))))
+coef-less rest by f up e = ap coef e ∙ coef-cut (lessAt rest by f up) _ (λ o l. less-is rest by f up o (decLt o up))
 
 -- ---- powers of y
 

@@ -3,7 +3,7 @@
 --   plainAt row o, zAt row o   the coefficients of Q0 and Q1 in a row of 96: 64 without z, then 32 with z
 --   lowerAt, foldedAt, yAt     the two terms of y times a function, and their sum
 --   folded-beyond              no second term above order 53
---   LeadFound c r              r is an order below 64, and the lead of c if it has one
+--   LeadFound c r              r is the lead of c, an order below 64; 0 where c is zero
 --   cut f                      f up to order 63
 --   zPart c                    Q1 of a row's coefficient function
 --   coef-plain, coef-z, coef-y what the arrays hold as coefficient functions
@@ -17,12 +17,13 @@ use lib.Bits.{bitXor}
 use lib.Dec.{ltb, eqb}
 use lib.ListN.{length, getD, List·getD-eq-default}
 use borrow.Author.Tests.{lt-ltb, le-ltb, eq-eqb, ne-eqb}
-use Rattle.lists.specs.Listed.{listed, listed-length, listed-at}
+use Rattle.lists.specs.Listed.{listed}
 use Rattle.algebra.specs.Field.{Field}
 use Rattle.algebra.specs.Coefficients.{choose, choose-yes, choose-no, Below, Lead, shift, shift-high, shift-low}
 use Rattle.galois.specs.Field16.{GF, K16, toF, toF-add, toF-zero}
 use Rattle.hermitian.specs.Ring.{timesY, top, descent, top-at, top-off}
-use Rattle.rows.specs.Rows.{coef, coef-at, coef-beyond}
+use Rattle.rows.specs.Rows.{coef, coef-at}
+use Rattle.rows.specs.Bytes.{coef-listed}
 open Field K16 using (_⊕_, _⊗_, 𝟘)
 
 abbrev pub plainAt : List ℕ → ℕ → ℕ
@@ -52,6 +53,7 @@ yAt c o = bitXor (lowerAt c o) (foldedAt c o)
 pub record LeadFound (c : List ℕ) (r : ℕ) : Type 0 where
   pub within : r < 64
   pub found : (l : ℕ) → Lead K16 (coef c) l → l ≡ r
+  pub none : ((o : ℕ) → coef c o ≡ 𝟘) → r ≡ 0
 
 unfoldable pub cut : (ℕ → GF) → ℕ → GF
 cut f o = choose (decLt o 64) (f o) 𝟘
@@ -75,17 +77,11 @@ cut-below f b = fun-ext (λ o. go o (decLt o 64))
         cut-high f o l ∙ sym (b .zero-from o l)
 
 -- an array that holds f up to order 63
-pub coef-listed : (g : ℕ → ℕ) (f : ℕ → GF) → ((o : ℕ) → o < 64 → toF (g o) ≡ f o) → coef (listed 64 g) ≡ cut f
-coef-listed g f h = fun-ext (λ o. go o (decLt o 64))
-  where
-    go : (o : ℕ) → Dec (o < 64) → coef (listed 64 g) o ≡ cut f o
-    go o (yes l) = coef-at (listed 64 g) o ∙ ap toF (listed-at 64 o g 0 l) ∙ h o l ∙ sym (cut-low f o l)
-    go o (no l) =
-        let e : length (listed 64 g) ≡ 64 = listed-length 64 g in
-        coef-beyond (listed 64 g) o (omega arith) ∙ sym (cut-high f o (omega arith))
+pub coef-cut : (g : ℕ → ℕ) (f : ℕ → GF) → ((o : ℕ) → o < 64 → toF (g o) ≡ f o) → coef (listed 64 g) ≡ cut f
+coef-cut g f h = coef-listed 64 g (cut f) (λ o l. h o l ∙ sym (cut-low f o l)) (λ o l. cut-high f o l)
 
 pub coef-plain : (row : List ℕ) → coef (listed 64 (plainAt row)) ≡ cut (coef row)
-coef-plain row = coef-listed (plainAt row) (coef row) (λ o l. sym (coef-at row o))
+coef-plain row = coef-cut (plainAt row) (coef row) (λ o l. sym (coef-at row o))
 
 -- Q1 of a row as a coefficient function
 unfoldable pub zPart : (ℕ → GF) → ℕ → GF
@@ -104,7 +100,7 @@ zPart-ends c = record { zero-from = λ o l. zPart-high c o (omega arith) }
 
 pub coef-z : (row : List ℕ) → coef (listed 64 (zAt row)) ≡ zPart (coef row)
 unfolding zAt
-coef-z row = coef-listed (zAt row) (zPart (coef row)) (λ o l. go o (decLt o 32)) ∙ cut-below (zPart (coef row)) (zPart-ends (coef row))
+coef-z row = coef-cut (zAt row) (zPart (coef row)) (λ o l. go o (decLt o 32)) ∙ cut-below (zPart (coef row)) (zPart-ends (coef row))
   where
     go : (o : ℕ) → Dec (o < 32) → toF (zAt row o) ≡ zPart (coef row) o
     go o (yes h) =
@@ -136,4 +132,4 @@ folded-is c o = go (ℕ-discrete (o % 4) 1)
 
 pub coef-y : (c : List ℕ) → coef (listed 64 (yAt c)) ≡ cut (timesY K16 4 (coef c))
 unfolding timesY descent
-coef-y c = coef-listed (yAt c) (timesY K16 4 (coef c)) (λ o l. toF-add _ _ ∙ ap₂ (λ x y. x ⊕ y) (lower-is c o) (folded-is c o))
+coef-y c = coef-cut (yAt c) (timesY K16 4 (coef c)) (λ o l. toF-add _ _ ∙ ap₂ (λ x y. x ⊕ y) (lower-is c o) (folded-is c o))

@@ -1,11 +1,8 @@
 // The division: from the top order down, each coefficient of the quotient takes a multiple of the divisor away.
 ghost use mathlib.Core.Path.{_≡_};
 ghost use Prim.Native.Nat.{_<_, _-_, _*_, _/_, _%_};
-ghost use Rattle.algebra.specs.Coefficients.{plus, scale, shift};
-ghost use Rattle.galois.specs.Field16.{K16, toF};
-ghost use Rattle.rows.specs.Rows.{coef};
-ghost use Rattle.division.specs.Parts.{cut};
-ghost use Rattle.division.specs.Dividing.{nextAt, yPowers, Divided};
+ghost use Rattle.lists.specs.Listed.{listed};
+ghost use Rattle.division.specs.Dividing.{lessAt, nextAt, yPowers, Divided};
 use galois::inverse;
 use galois::product;
 
@@ -21,7 +18,7 @@ fn y_powers(c: [u8; 64]) -> [[u8; 64]; 4]
 
 // The rest and a multiple of a function moved up by some orders.
 fn less(rest: [u8; 64], by: u8, function: [u8; 64], up: usize) -> [u8; 64]
-    ensures { λ r. ⌜ coef r ≡ cut (plus K16 (coef rest) (scale K16 (toF by) (shift K16 up (coef function)))) ⌝ }
+    ensures { λ r. ⌜ r ≡ listed 64 (lessAt rest by function up) ⌝ }
 {
     let mut out = rest;
     let mut k = up;

@@ -2,6 +2,7 @@
 use mathlib.Core.List.{[]}
 use lib.ListN.{getD}
 use borrow.Author.Needs.{needs}
+use Rattle.division.specs.Dividing.{coef-less}
 use Rattle.division.proofs.Turns.{Dividing, dividing-start, dividing-turn, dividing-end}
 use Rattle.division.proofs.dividing.divide.Statement.{statement}
 use Rattle.division.proofs.dividing.divide.Tie as tie
@@ -60,7 +61,7 @@ loop-less c = search needs
 
 loop-again : tie.Need-loop-again Inv-loop μ-loop
 loop-again c =
-    dividing-turn (c .before .before .before .before .before .loop .inv) _ _ _ (c .before .before .before .before .loop-test .taken) (c .before .before .before .next-at .ensures) (c .before .x-moves .ensures) (search needs) (c .less .ensures)
+    dividing-turn (c .before .before .before .before .before .loop .inv) _ _ _ (c .before .before .before .before .loop-test .taken) (c .before .before .before .next-at .ensures) (c .before .x-moves .ensures) (search needs) (coef-less _ _ _ _ (c .less .ensures))
 
 returns : tie.Need-returns Inv-loop μ-loop
 returns c =

@@ -1,4 +1,4 @@
--- `less` meets its contract: each position passed holds the coefficient of the sum.
+-- `less` meets its contract: each position passed holds the sum there.
 use Prim.Native.Nat.{_≤_, _-_}
 use borrow.Author.Needs.{needs}
 use Rattle.lists.specs.Passed.{Passed, passed-start, passed-turn}
