@@ -12,7 +12,7 @@ use native.Mathlib.Omega.{arith}
 use lib.ListN.{length, take, length-take}
 use lib.Pow.{pow-mono}
 use Rattle.refusals.specs.Refusal.{accepted, noneNear}
-use Rattle.lists.specs.Over.{over, over-short}
+use Rattle.lists.specs.Over.{over, over-same, over-short}
 use Rattle.soft.specs.TestWord.{testWords}
 use Rattle.soft.specs.Total.{pinnedOf, changedOf, reportOf}
 use Rattle.code.specs.Encoding.{encodeOf}
@@ -54,12 +54,13 @@ module _ (rate : ℕ) (columns : ℕ → List ℕ) (doubtful : List ℕ) (f : Fo
         ∙ sym (decode-some rate columns doubtful message report (near .somebody t e .0))
 
     -- the same, step by step as the code goes
-    pub decoded-near : {t pinned changed : ℕ} {message′ word report′ : List ℕ} → f .answer ≡ Near t → length message ≡ rate
+    pub decoded-near : {t pinned changed : ℕ} {message′ word bytes report′ : List ℕ} → f .answer ≡ Near t → length message ≡ rate
         → length (f .message) ≡ 49 → rate ≤ 49 → message′ ≡ over (f .message) message → word ≡ encodeOf rate (take rate (f .message))
-        → pinned ≡ pinnedOf 64 columns word → changed ≡ changedOf 64 columns word → report′ ≡ reportOf t (f .tests) pinned changed
+        → pinned ≡ pinnedOf 64 columns word → changed ≡ changedOf 64 columns word → bytes ≡ reportOf t (f .tests) pinned changed
+        → length report ≡ length bytes → report′ ≡ over bytes report
         → closed accepted message′ report′ ≡ decodeOf rate columns doubtful message report
-    decoded-near {t} {pinned} {changed} {message′} {word} {report′} e long size small m w p q r =
+    decoded-near {t} {pinned} {changed} {message′} {word} {bytes} {report′} e long size small m w p q b whole r =
         let a : message′ ≡ take rate (f .message) = m ∙ over-short (f .message) message (omega arith) ∙ ap (λ n. take n (f .message)) long in
         ap₂ (λ (x y : List ℕ). closed accepted x y) a
-        (r ∙ ap₂ (λ (x y : ℕ). reportOf t (f .tests) x y) (p ∙ ap (pinnedOf 64 columns) w) (q ∙ ap (changedOf 64 columns) w))
+        (r ∙ over-same bytes report whole ∙ b ∙ ap₂ (λ (x y : ℕ). reportOf t (f .tests) x y) (p ∙ ap (pinnedOf 64 columns) w) (q ∙ ap (changedOf 64 columns) w))
         ∙ answered-near t e

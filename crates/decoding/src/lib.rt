@@ -33,6 +33,7 @@ pub fn decode(
     let word = found.codeword;
     let pinned = totals::total::pinned(costs, &word);
     let changed = totals::total::changed(costs, &word);
-    totals::report::report(report, total, found.tests as u16, pinned, changed);
+    let bytes = totals::report::report(total, found.tests as u16, pinned, changed);
+    copy(&bytes, report);
     ACCEPTED
 }

@@ -8,7 +8,6 @@
 --   listed-cons      from the front
 --   take-listed      the first k of them; listed-take: a list's first entries are listed by its entries
 --   listed-getD      every list is listed by its entries; listed-by: a list whose entries a rule gives
---   sets-all         stores written out one after the other, of all entries
 use mathlib.Core.Path.{_≡_, refl, sym, ap, ap₂, _∙_}
 use mathlib.Core.List.{List, [], _∷_, _++_, append-assoc, append-nil}
 use mathlib.Core.Logic.{⊎-elim}
@@ -17,7 +16,7 @@ use native.Mathlib.Nat.{le-step, lt-suc-self, eq-or-lt-of-le, le-of-suc-le-suc}
 use native.Mathlib.Numerals.{add-one}
 use native.Mathlib.Omega.{arith}
 use lib.ListN.{length, getD, set, take, drop, length-append, List·getD-append, drop-of-length-le}
-use lib.Seq.{drop-cons, set-at, getD-at, take-suc, take-length, ext-getD, sets, sets-eq}
+use lib.Seq.{drop-cons, set-at, getD-at, take-suc, take-length, ext-getD}
 
 module _ {ℓ} {A : Type ℓ} where
   unfoldable pub listed : ℕ → (ℕ → A) → List A
@@ -107,8 +106,3 @@ module _ {ℓ} {A : Type ℓ} where
   -- and after it
   pub listed-end : (out l : List A) (f : ℕ → A) (i : ℕ) → length l ≤ i → out ≡ listed i f ++ drop i l → out ≡ listed i f
   listed-end out l f i h e = e ∙ ap (λ r. listed i f ++ r) (drop-of-length-le l h) ∙ append-nil (listed i f)
-
-  -- stores of as many entries as there are, from the front, leave nothing of what was there
-  pub sets-all : (vs l : List A) → length l ≡ length vs → sets l 0 vs ≡ vs
-  sets-all vs l n =
-      sets-eq vs l 0 (omega arith) ∙ ap (λ r. vs ++ r) (drop-of-length-le l {i = 0 + length vs} (omega arith)) ∙ append-nil vs

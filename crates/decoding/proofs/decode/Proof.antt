@@ -1,8 +1,9 @@
 -- `decode` meets its contract: what the search found is the answer, and the report is that of its codeword.
-use mathlib.Core.Path.{_≡_}
+use mathlib.Core.Path.{_≡_, sym, _∙_}
 use native.Mathlib.Omega.{arith}
 use lib.ListN.{length}
 use Rattle.code.specs.Rates.{known-bounds}
+use Rattle.book.specs.Closing.{reportLength}
 use Rattle.decoding.proofs.Answered.{list-few, tests-few, answered-none, decoded-near}
 use borrow.Author.Needs.{needs}
 use Rattle.decoding.proofs.decode.Statement.{statement}
@@ -11,6 +12,10 @@ use Rattle.decoding.proofs.decode.Tie as tie
 -- the message that was found has room for every rate
 found-room : (c : tie.After-nearest) → length (c .nearest .result .message) ≡ 49
 found-room c = search needs
+
+-- and the report has eight bytes
+report-room : (c : tie.After-report) → length (c .report .result) ≡ reportLength
+report-room c = search needs
 
 nearest-requires : tie.Need-nearest-requires
 nearest-requires c κs = search needs
@@ -45,11 +50,17 @@ changed-requires c κs = search needs
 
 cast-report : tie.Need-cast-report
 cast-report c =
-    let asked = c .before .before .before .before .before .before .before .before .before .before .before .before .before .before .before .before .before .before .before .before .pre .asked in
-    omega (arith, tests-few _ _ _ _ (c .before .before .before .before .before .before .before .before .before .before .before .before .before .before .before .before .nearest .ensures .asked asked) (list-few asked))
+    let asked = c .before .before .before .before .before .before .before .before .before .before .before .before .before .before .before .before .before .before .before .pre .asked in
+    omega (arith, tests-few _ _ _ _ (c .before .before .before .before .before .before .before .before .before .before .before .before .before .before .before .nearest .ensures .asked asked) (list-few asked))
 
 report-requires : tie.Need-report-requires
 report-requires c κs = search needs
+
+slice-aggregate-copy-2 : tie.Need-slice-aggregate-copy-2
+slice-aggregate-copy-2 c = search needs
+
+copy-requires-2 : tie.Need-copy-requires-2
+copy-requires-2 c κs = search needs
 
 same-length : tie.Need-same-length
 same-length c = search needs
@@ -59,12 +70,12 @@ same-length-2 c = search needs
 
 returns-2 : tie.Need-returns-2
 returns-2 c =
-    let asked = c .before .before .before .before .before .before .before .before .before .before .before .before .before .before .before .before .before .before .before .before .before .before .before .pre .asked in
-    let near = c .before .before .before .before .before .before .before .before .before .before .before .before .before .before .before .before .before .before .before .nearest .ensures in
-    let answer = c .before .before .before .before .before .before .before .before .before .before .before .before .before .before .before .before .before .answer .given .1 in
-    decoded-near _ _ _ _ (near .asked asked) _ _ answer (c .before .before .before .before .before .before .before .before .before .before .before .before .before .before .before .before .before .before .before .before .before .before .before .pre .message-long) (found-room (c .before .before .before .before .before .before .before .before .before .before .before .before .before .before .before .before .before .before .before))
-    (known-bounds _ (asked .known) .1) (c .before .before .before .before .before .before .before .before .before .before .before .before .copy .ensures) (near .encoded _ answer)
-    (c .before .before .before .before .before .before .before .pinned .ensures) (c .before .before .before .before .before .changed .ensures) (c .before .before .report .ensures)
+    let given = c .before .before .before .before .before .before .before .before .before .before .before .before .before .before .before .before .before .before .before .before .before .before .before .before .before .pre in
+    let near = c .before .before .before .before .before .before .before .before .before .before .before .before .before .before .before .before .before .before .before .before .before .nearest .ensures in
+    let answer = c .before .before .before .before .before .before .before .before .before .before .before .before .before .before .before .before .before .before .before .answer .given .1 in
+    decoded-near _ _ _ _ (near .asked (given .asked)) _ _ answer (given .message-long) (found-room (c .before .before .before .before .before .before .before .before .before .before .before .before .before .before .before .before .before .before .before .before .before)) (known-bounds _ (given .asked .known) .1)
+    (c .before .before .before .before .before .before .before .before .before .before .before .before .before .before .copy .ensures) (near .encoded _ answer) (c .before .before .before .before .before .before .before .before .before .pinned .ensures) (c .before .before .before .before .before .before .before .changed .ensures) (c .before .before .before .before .before .report .ensures)
+    (given .report-long ∙ sym (report-room (c .before .before .before .before .before))) (c .before .before .copy2 .ensures)
 
 pub decode-spec : {M : Type 1} → statement M
 decode-spec =
@@ -82,6 +93,8 @@ decode-spec =
     changed-requires
     cast-report
     report-requires
+    slice-aggregate-copy-2
+    copy-requires-2
     same-length
     same-length-2
     returns-2)
