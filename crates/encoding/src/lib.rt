@@ -2,6 +2,7 @@
 // It knows of no costs, no doubt and no session.
 ghost use mathlib.Core.Path.{_≡_};
 ghost use Prim.Native.Nat.{_%_};
+ghost use Rattle.lists.specs.Over.{over};
 ghost use Rattle.lists.specs.Words.{allBelow};
 ghost use Rattle.hermitian.specs.Present.{Present};
 ghost use Rattle.hermitian.specs.Orders.{orderOf, rank};
@@ -102,6 +103,14 @@ pub fn symbols_only(bytes: &[u8]) -> bool
     true
 }
 
+// The codeword of a message into the part of a frame that is lent for it.
+fn encode_into(message: &[u8], part: &mut [u8])
+    ensures { λ _. ⌜ now (part .exit) ≡ over (encodeOf 58 (now (message .entry))) (now (part .entry)) ⌝ }
+{
+    let word = codeword_of(message);
+    copy(&word, part);
+}
+
 // Encode: the codeword of the message into the 64 bytes of the frame from start on.
 pub fn encode(rate: usize, message: &[u8], frame: &mut [u8], start: usize) -> u8
     ensures { λ r. ⌜ outcome r (now (frame .exit)) ≡ encodeCall rate (now (message .entry)) (now (frame .entry)) start ⌝ }
@@ -121,8 +130,7 @@ pub fn encode(rate: usize, message: &[u8], frame: &mut [u8], start: usize) -> u8
     if !symbols_only(message) {
         return NO_SYMBOL;
     }
-    let word = codeword_of(message);
     let end = start + 64;
-    copy(&word, &mut frame[start..end]);
+    encode_into(message, &mut frame[start..end]);
     ACCEPTED
 }

@@ -42,36 +42,32 @@ returns-5 c =
     encode-symbol _ _ _ _ (known (c .before .before .before .before .before)) (c .before .before .before .before .if2 .left) (omega arith)
     (sym (c .before .symbols-only .ensures) ∙ not-true _ (c .if5 .taken))
 
-codeword-of-requires : tie.Need-codeword-of-requires
-codeword-of-requires c κs = search needs
-
 add-end : tie.Need-add-end
 add-end c = search needs
 
-slice-aggregate-copy : tie.Need-slice-aggregate-copy
-slice-aggregate-copy c = search needs
+sub-encode-into : tie.Need-sub-encode-into
+sub-encode-into c = search needs
 
-sub-copy : tie.Need-sub-copy
-sub-copy c = search needs
+part-encode-into-start : tie.Need-part-encode-into-start
+part-encode-into-start c = search needs
 
-part-copy-start : tie.Need-part-copy-start
-part-copy-start c = search needs
+part-encode-into-end : tie.Need-part-encode-into-end
+part-encode-into-end c = search needs
 
-part-copy-end : tie.Need-part-copy-end
-part-copy-end c = search needs
-
-copy-requires : tie.Need-copy-requires
-copy-requires c κs = search needs
+encode-into-requires : tie.Need-encode-into-requires
+encode-into-requires c κs = search needs
 
 same-length : tie.Need-same-length
 same-length c = search needs
 
 returns-6 : tie.Need-returns-6
 returns-6 c =
-    let k = known-small _ (known (c .before .before .before .before .before .before .before .before .before .before .before)) in
-    encode-done _ _ _ _ (known (c .before .before .before .before .before .before .before .before .before .before .before)) (c .before .before .before .before .before .before .before .before .before .before .if2 .left) (omega arith) _ _
-    (sym (c .before .before .before .before .before .before .before .symbols-only .ensures) ∙ not-false _ (c .before .before .before .before .before .before .if5 .left)) refl
-    (codeword-copied _ _ (omega (arith, c .before .before .before .before .before .before .before .before .before .before .if2 .left)) (simp (length-take, length-drop) (omega arith)) (c .before .before .before .before .before .codeword-of .ensures) (c .before .before .copy .ensures))
+    let known-rate = known (c .before .before .before .before .before .before .before .before .before) in
+    let k = known-small _ known-rate in
+    let sized = c .before .before .before .before .before .before .before .before .if2 .left in
+    encode-done _ _ _ _ known-rate sized (omega arith) _ _
+    (sym (c .before .before .before .before .before .symbols-only .ensures) ∙ not-false _ (c .before .before .before .before .if5 .left)) refl
+    (codeword-copied _ _ (omega (arith, sized)) (simp (length-take, length-drop) (omega arith)) refl (c .before .before .encode-into .ensures))
 
 pub encode-spec : {M : Type 1} → statement M
 encode-spec =
@@ -85,12 +81,10 @@ encode-spec =
     returns-4
     symbols-only-requires
     returns-5
-    codeword-of-requires
     add-end
-    slice-aggregate-copy
-    sub-copy
-    part-copy-start
-    part-copy-end
-    copy-requires
+    sub-encode-into
+    part-encode-into-start
+    part-encode-into-end
+    encode-into-requires
     same-length
     returns-6)
