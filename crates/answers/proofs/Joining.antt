@@ -1,8 +1,7 @@
--- Joining the answers of two branches, and the order of messages.
-use mathlib.Core.Bool.{Bool, true, false}
+-- The order of messages, and the cases of two answers.
+use mathlib.Core.Bool.{Bool, true, false, cond, _&&_, _||_}
 use mathlib.Core.Path.{_≡_, refl, sym, ap, ap₂, _∙_}
-use mathlib.Core.List.{List, [], _∷_, _++_}
-use mathlib.Core.Option.{Option, some, none}
+use mathlib.Core.List.{List, [], _∷_}
 use Prim.Native.Nat.{ℕ, suc, _+_, _<_, _≤_}
 use native.Mathlib.Numerals.{add-one}
 use native.Mathlib.Omega.{arith}
@@ -10,15 +9,12 @@ use lib.Dec.{ltb, eqb}
 use lib.ListN.{length, getD, take, drop, length-take, drop-of-length-le}
 use lib.Seq.{drop-cons, getD-take}
 use borrow.Author.Tests.{lt-ltb, le-ltb, eq-eqb, ne-eqb}
-use Rattle.lists.specs.Every.{both}
 use Rattle.lists.specs.Words.{isBefore}
-use Rattle.lists.specs.Answers.{beats, better, pick}
-use Rattle.near.specs.Near.{testsNear, messageCost, answerOf}
-use Rattle.near.specs.Laws.{tests-append, answer-append}
 use Rattle.answers.specs.declared.Answer.the-variants.{NoneNear, Near}
 use Rattle.answers.specs.declared.Found.{Found}
-use Rattle.answers.specs.Nearest.{Nearest}
-use Rattle.answers.specs.Answered.{OneOf, of-first, of-other, BetterOf}
+use Rattle.answers.specs.Result.{found-same}
+use Rattle.answers.specs.Answered.{counted}
+use Rattle.answers.specs.Better.{isBetter, betterOf}
 
 -- ---- the order of messages
 
@@ -64,139 +60,53 @@ before-end k t a b e h la lb = ap₂ isBefore (none-left a la) (none-left b lb)
     none-left : (l : List ℕ) → length l ≡ 49 → drop t (take k l) ≡ []
     none-left l q = let b : length (take k l) ≤ t = omega (arith, length-take k l) in drop-of-length-le (take k l) b
 
--- ---- two branches
+-- ---- two answers
 
-better-none : (cost : List ℕ → ℕ) (o : Option (List ℕ)) → better cost o none ≡ o
-unfolding better
-better-none cost none = refl
-better-none cost (some m) = refl
+module _ (k : ℕ) (a b : Found) where
+  -- the one that is kept
+  abbrev wins : Bool
+  wins = isBetter k (a .answer) (a .message) (b .answer) (b .message)
 
--- cheaper, or as dear and before
-abbrev rival : Bool → Bool → Bool
-rival true r = true
-rival false r = r
+  keep-first : (r : Found) → r .answer ≡ a .answer → r .message ≡ a .message → r .codeword ≡ a .codeword → r .tests ≡ a .tests + b .tests
+      → wins ≡ true → r ≡ betterOf k a b
+  unfolding betterOf counted
+  keep-first r ea em ec et w = found-same r (counted (a .tests + b .tests) a) ea em ec et ∙ sym (ap (λ c. counted (a .tests + b .tests) (cond c a b)) w)
 
-module _ {k : ℕ} (a b : Found) where
-  -- the answers as options
-  module _ (columns : ℕ → List ℕ) (ts us : List (List ℕ)) (p : Nearest k columns ts a) (q : Nearest k columns us b) where
-    both-tests : testsNear k (ts ++ us) ≡ a .tests + b .tests
-    both-tests = tests-append k ts us ∙ sym (ap₂ (λ x y. x + y) (p .count) (q .count))
+  keep-other : (r : Found) → r .answer ≡ b .answer → r .message ≡ b .message → r .codeword ≡ b .codeword → r .tests ≡ a .tests + b .tests
+      → wins ≡ false → r ≡ betterOf k a b
+  unfolding betterOf counted
+  keep-other r ea em ec et w = found-same r (counted (a .tests + b .tests) b) ea em ec et ∙ sym (ap (λ c. counted (a .tests + b .tests) (cond c a b)) w)
 
-    both-answers : {o o′ : Option (List ℕ)} → answerOf k columns ts ≡ o → answerOf k columns us ≡ o′
-        → answerOf k columns (ts ++ us) ≡ better (messageCost k columns) o o′
-    both-answers e f = answer-append k columns ts us ∙ ap₂ (better (messageCost k columns)) e f
-
-    -- whatever one of the two holds, a result with that answer and message holds
-    kept-as : (r c : Found) (o : Option (List ℕ)) → r .answer ≡ c .answer → r .message ≡ c .message → r .tests ≡ a .tests + b .tests
-        → ((t : ℕ) → c .answer ≡ Near t → (o ≡ some (take k (c .message))) × (t ≡ messageCost k columns (take k (c .message))))
-        → (c .answer ≡ NoneNear → o ≡ none) → answerOf k columns (ts ++ us) ≡ o → Nearest k columns (ts ++ us) r
-    kept-as r c o ea em et s n e =
-        record {
-          count = et ∙ sym both-tests;
-          nobody = λ x. e ∙ n (sym ea ∙ x);
-          somebody = λ t x.
-              let h = s t (sym ea ∙ x) in
-              (e ∙ h .0 ∙ ap (λ m. some (take k m)) (sym em), h .1 ∙ ap (λ m. messageCost k columns (take k m)) (sym em));
-        }
-
-  pub join-other : (r : Found) → a .answer ≡ NoneNear → r .answer ≡ b .answer → r .message ≡ b .message → r .tests ≡ a .tests + b .tests → BetterOf k a b r
-  unfolding better
-  join-other r none-a ea em et =
-      record {
-        sum = et;
-        joins = λ columns ts us p q.
-            kept-as columns ts us p q r b (answerOf k columns us) ea em et (q .somebody) (q .nobody)
-            (both-answers columns ts us p q (p .nobody none-a) refl);
-      }
+  pub join-other : (r : Found) → a .answer ≡ NoneNear → r .answer ≡ b .answer → r .message ≡ b .message → r .codeword ≡ b .codeword
+      → r .tests ≡ a .tests + b .tests → r ≡ betterOf k a b
+  unfolding isBetter
+  join-other r none-a ea em ec et = keep-other r ea em ec et (ap (λ x. isBetter k x (a .message) (b .answer) (b .message)) none-a)
 
   pub join-first : (r : Found) (t : ℕ) → b .answer ≡ NoneNear → a .answer ≡ Near t → r .answer ≡ Near t → r .message ≡ a .message
-      → r .tests ≡ a .tests + b .tests → BetterOf k a b r
-  join-first r t none-b at rt em et =
-      record {
-        sum = et;
-        joins = λ columns ts us p q.
-            kept-as columns ts us p q r a (answerOf k columns ts) (rt ∙ sym at) em et (p .somebody) (p .nobody)
-            (both-answers columns ts us p q refl (q .nobody none-b) ∙ better-none (messageCost k columns) (answerOf k columns ts));
-      }
-
-  -- both have an answer: what the test picks
-  module _ (t u : ℕ) (at : a .answer ≡ Near t) (bt : b .answer ≡ Near u) (columns : ℕ → List ℕ) (ts us : List (List ℕ))
-      (p : Nearest k columns ts a) (q : Nearest k columns us b) where
-    picked : answerOf k columns (ts ++ us)
-        ≡ pick (beats (messageCost k columns) (take k (a .message)) (take k (b .message))) (some (take k (a .message))) (some (take k (b .message)))
-    unfolding better
-    picked = both-answers columns ts us p q (p .somebody t at .0) (q .somebody u bt .0)
-
-    beaten-by : (x : Bool) → beats (messageCost k columns) (take k (a .message)) (take k (b .message)) ≡ x
-        → answerOf k columns (ts ++ us) ≡ pick x (some (take k (a .message))) (some (take k (b .message)))
-    beaten-by x e = picked ∙ ap (λ c. pick c (some (take k (a .message))) (some (take k (b .message)))) e
-
-    cost-a : messageCost k columns (take k (a .message)) ≡ t
-    cost-a = sym (p .somebody t at .1)
-
-    cost-b : messageCost k columns (take k (b .message)) ≡ u
-    cost-b = sym (q .somebody u bt .1)
-
-    win-first : (r : Found) → r .answer ≡ a .answer → r .message ≡ a .message → r .tests ≡ a .tests + b .tests
-        → beats (messageCost k columns) (take k (a .message)) (take k (b .message)) ≡ true → Nearest k columns (ts ++ us) r
-    win-first r ea em et w =
-        kept-as columns ts us p q r a (some (take k (a .message))) ea em et
-        (λ s x. (refl, p .somebody s x .1)) (λ x. let z : _≡_ {A = ℕ} 0 1 = cc in absurd (omega arith)) (beaten-by true w)
-
-    win-other : (r : Found) → r .answer ≡ b .answer → r .message ≡ b .message → r .tests ≡ a .tests + b .tests
-        → beats (messageCost k columns) (take k (a .message)) (take k (b .message)) ≡ false → Nearest k columns (ts ++ us) r
-    win-other r ea em et w =
-        kept-as columns ts us p q r b (some (take k (b .message))) ea em et
-        (λ s x. (refl, q .somebody s x .1)) (λ x. let z : _≡_ {A = ℕ} 0 1 = cc in absurd (omega arith)) (beaten-by false w)
-
-    by-cost : (x : Bool) → ltb t u ≡ x → (y : Bool) → eqb t u ≡ y
-        → beats (messageCost k columns) (take k (a .message)) (take k (b .message)) ≡ rival x (both y (isBefore (take k (a .message)) (take k (b .message))))
-    unfolding beats
-    by-cost x e y f =
-        ap₂ (λ m n. rival (ltb m n) (both (eqb m n) (isBefore (take k (a .message)) (take k (b .message))))) cost-a cost-b
-        ∙ ap₂ (λ c d. rival c (both d (isBefore (take k (a .message)) (take k (b .message))))) e f
+      → r .codeword ≡ a .codeword → r .tests ≡ a .tests + b .tests → r ≡ betterOf k a b
+  unfolding isBetter
+  join-first r t none-b at rt em ec et =
+      keep-first r (rt ∙ sym at) em ec et (ap₂ (λ x y. isBetter k x (a .message) y (b .message)) at none-b)
 
   module _ (t u : ℕ) (at : a .answer ≡ Near t) (bt : b .answer ≡ Near u) (r : Found) (et : r .tests ≡ a .tests + b .tests) where
-    pub join-cheaper : t < u → r .answer ≡ Near t → r .message ≡ a .message → BetterOf k a b r
-    join-cheaper h rt em =
-        record {
-          sum = et;
-          joins = λ columns ts us p q.
-              win-first t u at bt columns ts us p q r (rt ∙ sym at) em et (by-cost t u at bt columns ts us p q true (lt-ltb t u h) _ refl);
-        }
+    -- both have an answer: by the tests of the code
+    tested : (x y z : Bool) → ltb t u ≡ x → eqb t u ≡ y → isBefore (take k (a .message)) (take k (b .message)) ≡ z → wins ≡ (x || (y && z))
+    unfolding isBetter
+    tested x y z p q s =
+        ap₂ (λ v w. isBetter k v (a .message) w (b .message)) at bt
+        ∙ ap₂ (λ c d. c || (d && isBefore (take k (a .message)) (take k (b .message)))) p q ∙ ap (λ c. x || (y && c)) s
 
-    pub join-dearer : u < t → r .answer ≡ Near u → r .message ≡ b .message → BetterOf k a b r
-    join-dearer h rt em =
-        record {
-          sum = et;
-          joins = λ columns ts us p q.
-              win-other t u at bt columns ts us p q r (rt ∙ sym bt) em et
-              (by-cost t u at bt columns ts us p q false (le-ltb t u (omega arith)) false (ne-eqb t u (λ (e : t ≡ u). omega arith)));
-        }
+    pub join-cheaper : t < u → r .answer ≡ Near t → r .message ≡ a .message → r .codeword ≡ a .codeword → r ≡ betterOf k a b
+    join-cheaper h rt em ec = keep-first r (rt ∙ sym at) em ec et (tested true _ _ (lt-ltb t u h) refl refl)
+
+    pub join-dearer : u < t → r .answer ≡ Near u → r .message ≡ b .message → r .codeword ≡ b .codeword → r ≡ betterOf k a b
+    join-dearer h rt em ec =
+        keep-other r (rt ∙ sym bt) em ec et (tested false false _ (le-ltb t u (omega arith)) (ne-eqb t u (λ (e : t ≡ u). omega arith)) refl)
 
     pub join-before : t ≡ u → isBefore (take k (a .message)) (take k (b .message)) ≡ true → r .answer ≡ Near t → r .message ≡ a .message
-        → BetterOf k a b r
-    join-before e s rt em =
-        record {
-          sum = et;
-          joins = λ columns ts us p q.
-              win-first t u at bt columns ts us p q r (rt ∙ sym at) em et
-              (by-cost t u at bt columns ts us p q false (le-ltb t u (omega arith)) true (eq-eqb t u e) ∙ s);
-        }
+        → r .codeword ≡ a .codeword → r ≡ betterOf k a b
+    join-before e s rt em ec = keep-first r (rt ∙ sym at) em ec et (tested false true true (le-ltb t u (omega arith)) (eq-eqb t u e) s)
 
     pub join-after : t ≡ u → isBefore (take k (a .message)) (take k (b .message)) ≡ false → r .answer ≡ Near u → r .message ≡ b .message
-        → BetterOf k a b r
-    join-after e s rt em =
-        record {
-          sum = et;
-          joins = λ columns ts us p q.
-              win-other t u at bt columns ts us p q r (rt ∙ sym bt) em et
-              (by-cost t u at bt columns ts us p q false (le-ltb t u (omega arith)) true (eq-eqb t u e) ∙ s);
-        }
-
--- of two answers the one that is kept, where it is near
-pub kept-first : (a b f : Found) (t : ℕ) → a .answer ≡ Near t → f .answer ≡ Near t → f .message ≡ a .message → f .codeword ≡ a .codeword → OneOf a b f
-kept-first a b f t at ft em ec = of-first (record { answer = ft ∙ sym at; message = em; codeword = ec })
-
-pub kept-other : (a b f : Found) (t : ℕ) → b .answer ≡ Near t → f .answer ≡ Near t → f .message ≡ b .message → f .codeword ≡ b .codeword → OneOf a b f
-kept-other a b f t bt ft em ec = of-other (record { answer = ft ∙ sym bt; message = em; codeword = ec })
+        → r .codeword ≡ b .codeword → r ≡ betterOf k a b
+    join-after e s rt em ec = keep-other r (rt ∙ sym bt) em ec et (tested false true false (le-ltb t u (omega arith)) (eq-eqb t u e) s)

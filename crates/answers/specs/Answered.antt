@@ -1,56 +1,102 @@
--- An answer with its message, its codeword and its total; and two of them.
+-- What stands beside an answer.
 --
---   Sound k columns f      an answer in f is a message of k symbols, with its codeword and its total
---   Same a f               f has the answer of a, with its message and its codeword
---   OneOf a b f            f has that of a, or that of b
---   BetterOf k a b r       r answers two lists of test words where a and b answer one each
---   sound-none             where there is no answer, it is sound
---   sound-same, sound-one  what has a sound answer, or one of two sound ones, is sound
-use mathlib.Core.Path.{_≡_, sym, ap, _∙_, subst}
-use mathlib.Core.List.{List, _++_}
-use Prim.Native.Nat.{ℕ, _+_}
+--   counted n f            what f has found, with the count n of test words
+--   Sound k columns f      an answer in f is a message of k symbols with zeros behind it, with its codeword and its total; zeros stand beside none
+--   sound-nothing, sound-counted   where nothing is found; by whatever count
+--   found-is               what is sound and nearest is all that a search returns,
+--   found-nearest, found-sound     and the other way round
+use mathlib.Core.Path.{_≡_, refl, sym, ap, _∙_, subst}
+use mathlib.Core.List.{List}
+use mathlib.Core.Option.{Option, some, none}
+use Prim.Native.Nat.{ℕ, _≤_}
 use native.Mathlib.Omega.{arith}
-use lib.ListN.{take}
+use lib.ListN.{length, take, replicate}
+use Rattle.lists.specs.Padded.{padded, padded-take}
 use Rattle.lists.specs.Words.{Word}
+use Rattle.lists.specs.Answers.{Answers, answers-some, Found as Passed}
 use Rattle.code.specs.Encoding.{encodeOf}
-use Rattle.near.specs.Near.{messageCost}
+use Rattle.near.specs.Near.{near, testsNear, messageCost, answerOf}
+use Rattle.near.specs.Laws.{near-answers, tests-answerless}
+use Rattle.answers.specs.declared.Answer.{Answer}
 use Rattle.answers.specs.declared.Answer.the-variants.{NoneNear, Near}
 use Rattle.answers.specs.declared.Found.{Found}
-use Rattle.answers.specs.Nearest.{Nearest}
+use Rattle.answers.specs.Result.{nothingFound, foundFor, foundOf, found-same}
+use Rattle.answers.specs.Nearest.{Nearest, nearest-nobody, nearest-somebody, nearest-nothing, nearest-some}
+
+unfoldable pub counted : ℕ → Found → Found
+counted n f = record { answer = f .answer; message = f .message; codeword = f .codeword; tests = n }
 
 pub record Sound (k : ℕ) (columns : ℕ → List ℕ) (f : Found) : Type 0 where
+  pub nothing : f .answer ≡ NoneNear → (f .message ≡ replicate 49 0) × (f .codeword ≡ replicate 64 0)
   pub word : (t : ℕ) → f .answer ≡ Near t → Word 16 k (take k (f .message))
+  pub behind : (t : ℕ) → f .answer ≡ Near t → f .message ≡ padded 49 (take k (f .message))
   pub encoded : (t : ℕ) → f .answer ≡ Near t → f .codeword ≡ encodeOf k (take k (f .message))
   pub cost : (t : ℕ) → f .answer ≡ Near t → t ≡ messageCost k columns (take k (f .message))
 
-pub record Same (a f : Found) : Type 0 where
-  pub answer : f .answer ≡ a .answer
-  pub message : f .message ≡ a .message
-  pub codeword : f .codeword ≡ a .codeword
+module _ {k : ℕ} {columns : ℕ → List ℕ} where
+  pub sound-nothing : Sound k columns nothingFound
+  unfolding nothingFound
+  sound-nothing =
+      record {
+        nothing = λ e. (refl, refl);
+        word = λ t h. absurd (never t h);
+        behind = λ t h. absurd (never t h);
+        encoded = λ t h. absurd (never t h);
+        cost = λ t h. absurd (never t h);
+      }
+    where
+      never : (t : ℕ) → NoneNear ≡ Near t → ⊥
+      never t h = let z : _≡_ {A = ℕ} 0 1 = cc in omega arith
 
-pub data OneOf (a b f : Found) : Type 0 where
-  of-first : Same a f → OneOf a b f
-  of-other : Same b f → OneOf a b f
+  pub sound-counted : {f : Found} (n : ℕ) → Sound k columns f → Sound k columns (counted n f)
+  unfolding counted
+  sound-counted n s = record { nothing = s .nothing; word = s .word; behind = s .behind; encoded = s .encoded; cost = s .cost }
 
-pub record BetterOf (k : ℕ) (a b r : Found) : Type 0 where
-  pub sum : r .tests ≡ a .tests + b .tests
-  pub joins : (columns : ℕ → List ℕ) (ts us : List (List ℕ)) → Nearest k columns ts a → Nearest k columns us b → Nearest k columns (ts ++ us) r
+  pub found-is : {ts : List (List ℕ)} {f : Found} → Nearest k columns ts f → Sound k columns f → f ≡ foundOf k columns ts
+  unfolding foundOf foundFor nothingFound
+  found-is {ts} {f} n s = go (f .answer) refl
+    where
+      go : (a : Answer) → f .answer ≡ a → f ≡ foundFor k columns (testsNear k ts) (answerOf k columns ts)
+      go NoneNear e =
+          let q = nearest-nobody n e in
+          found-same f nothingFound e (s .nothing e .0) (s .nothing e .1) (n .count ∙ tests-answerless k columns ts q)
+          ∙ sym (ap (foundFor k columns (testsNear k ts)) q)
+      go (Near t) e =
+          let q = nearest-somebody n t e in
+          found-same f (foundFor k columns (testsNear k ts) (some (take k (f .message)))) (e ∙ ap Near (q .1)) (s .behind t e) (s .encoded t e) (n .count)
+          ∙ sym (ap (foundFor k columns (testsNear k ts)) (q .0))
 
-pub sound-none : {k : ℕ} {columns : ℕ → List ℕ} (f : Found) → f .answer ≡ NoneNear → Sound k columns f
-sound-none {k} {columns} f e =
-    record { word = λ t h. absurd (never t h); encoded = λ t h. absurd (never t h); cost = λ t h. absurd (never t h) }
-  where
-    never : (t : ℕ) → f .answer ≡ Near t → ⊥
-    never t h = let z : _≡_ {A = ℕ} 0 1 = cc in omega arith
+module _ (k : ℕ) (columns : ℕ → List ℕ) (ts : List (List ℕ)) (small : k ≤ 49) where
+  answer-word : {m : List ℕ} → answerOf k columns ts ≡ some m → Word 16 k m
+  answer-word e = answers-some (subst (Answers (messageCost k columns) (Passed 16 k (near k ts))) e (near-answers k columns ts)) .word
 
-pub sound-same : {k : ℕ} {columns : ℕ → List ℕ} {a f : Found} → Sound k columns a → Same a f → Sound k columns f
-sound-same {k} {columns} s e =
-    record {
-      word = λ t h. subst (λ m. Word 16 k (take k m)) (sym (e .message)) (s .word t (sym (e .answer) ∙ h));
-      encoded = λ t h. e .codeword ∙ s .encoded t (sym (e .answer) ∙ h) ∙ ap (λ m. encodeOf k (take k m)) (sym (e .message));
-      cost = λ t h. s .cost t (sym (e .answer) ∙ h) ∙ ap (λ m. messageCost k columns (take k m)) (sym (e .message));
-    }
+  -- the answer's message is read back from the front
+  front : {m : List ℕ} → answerOf k columns ts ≡ some m → m ≡ take k (padded 49 m)
+  front {m} e =
+      let l : length m ≡ k = answer-word e .size in
+      sym (ap (λ n. take n (padded 49 m)) (sym l) ∙ padded-take 49 m (omega arith))
 
-pub sound-one : {k : ℕ} {columns : ℕ → List ℕ} {a b f : Found} → Sound k columns a → Sound k columns b → OneOf a b f → Sound k columns f
-sound-one s r (of-first e) = sound-same s e
-sound-one s r (of-other e) = sound-same r e
+  pub found-nearest : Nearest k columns ts (foundOf k columns ts)
+  unfolding foundOf foundFor
+  found-nearest = go (answerOf k columns ts) refl
+    where
+      go : (o : Option (List ℕ)) → answerOf k columns ts ≡ o → Nearest k columns ts (foundFor k columns (testsNear k ts) o)
+      go none e = nearest-nothing e
+      go (some m) e =
+          nearest-some (foundFor k columns (testsNear k ts) (some m)) (messageCost k columns m) refl refl (e ∙ ap some (front e))
+          (ap (messageCost k columns) (front e))
+
+  pub found-sound : Sound k columns (foundOf k columns ts)
+  unfolding foundOf foundFor
+  found-sound = go (answerOf k columns ts) refl
+    where
+      go : (o : Option (List ℕ)) → answerOf k columns ts ≡ o → Sound k columns (foundFor k columns (testsNear k ts) o)
+      go none e = sound-nothing
+      go (some m) e =
+          record {
+            nothing = λ h. let z : _≡_ {A = ℕ} 0 1 = cc in absurd (omega arith);
+            word = λ t h. subst (Word 16 k) (front e) (answer-word e);
+            behind = λ t h. ap (padded 49) (front e);
+            encoded = λ t h. ap (encodeOf k) (front e);
+            cost = λ t h. let q : t ≡ messageCost k columns m = cc in q ∙ ap (messageCost k columns) (front e);
+          }

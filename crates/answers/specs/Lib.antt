@@ -1,2 +1,4 @@
+pub mod Result
 pub mod Nearest
 pub mod Answered
+pub mod Better

@@ -4,7 +4,8 @@ ghost use mathlib.Core.Path.{_≡_};
 ghost use Prim.Native.Nat.{_+_, _≤_};
 ghost use lib.ListN.{take};
 ghost use Rattle.lists.specs.Words.{isBefore};
-ghost use Rattle.answers.specs.Answered.{OneOf, BetterOf};
+ghost use Rattle.answers.specs.Result.{nothingFound};
+ghost use Rattle.answers.specs.Better.{betterOf};
 use candidate::Message;
 use candidate::Word;
 use candidate::rate::MOST_RATE;
@@ -25,7 +26,7 @@ pub struct Found {
 }
 
 pub fn none_near() -> Found
-    ensures { λ r. ⌜ (r .answer ≡ Answer.NoneNear) × (r .tests ≡ 0) ⌝ }
+    ensures { λ r. ⌜ r ≡ nothingFound ⌝ }
 {
     Found {
         answer: Answer::NoneNear,
@@ -56,7 +57,7 @@ fn before(a: Message, b: Message, k: usize) -> bool
 // Two branches together: the counts add, the cheaper answer wins, equal totals go to the smaller message.
 pub fn better(a: Found, b: Found, k: usize) -> Found
     requires { ⌜ (k ≤ 49) × (a .tests + b .tests ≤ 65535) ⌝ }
-    ensures { λ r. ⌜ BetterOf k a b r × OneOf a b r ⌝ }
+    ensures { λ r. ⌜ r ≡ betterOf k a b ⌝ }
 {
     let tests = a.tests + b.tests;
     let first = a.answer;

@@ -1,13 +1,15 @@
 -- The message of a function by order: each symbol, and the loop that reads them.
-use mathlib.Core.Path.{_≡_, ap, _∙_}
+use mathlib.Core.Path.{_≡_, sym, ap, ap₂, _∙_}
 use mathlib.Core.List.{List, _++_}
 use Prim.Native.Nat.{ℕ, _-_, _%_, _<_, _≤_}
 use native.Mathlib.Nat.{mod-eq-of-lt}
 use native.Mathlib.Omega.{arith}
-use lib.ListN.{length, getD, take, drop, length-take}
-use lib.Seq.{take-at}
+use lib.ListN.{length, getD, take, drop, replicate, length-take}
+use lib.Seq.{take-all}
 use Rattle.lists.specs.Listed.{listed, listed-length}
 use Rattle.lists.specs.Filled.{Filled}
+use Rattle.lists.specs.Over.{over}
+use Rattle.lists.specs.Padded.{padded, padded-over}
 use Rattle.hermitian.specs.Orders.{orderOf}
 use Rattle.code.specs.Encoding.{encodeOf}
 use Rattle.code.specs.Evaluation.{order-below, encode-beyond}
@@ -21,9 +23,15 @@ pub symbol-at : (function : List ℕ) (t : ℕ) {o : ℕ} → t < 58 → o ≡ o
 unfolding symbolIn
 symbol-at function t h e = ap (λ k. getD function k 0) (e ∙ ap (orderOf 4) (mod-eq-of-lt h))
 
-pub message-end : (k t : ℕ) (l out : List ℕ) (f : ℕ → ℕ) → t ≡ k → Filled l f t out → take k out ≡ listed k f
-message-end k t l out f e h =
-    ap (take k) (h .stored ∙ ap (λ n. listed n f ++ drop n l) e) ∙ take-at (listed k f) (drop k l) k (listed-length k f)
+-- behind the symbols stand the array's zeros
+pub message-end : (w k t : ℕ) (out : List ℕ) (f : ℕ → ℕ) → t ≡ k → Filled (replicate w 0) f t out → out ≡ padded w (listed k f)
+unfolding over
+message-end w k t out f e h =
+    let zeros : List ℕ = replicate w 0 in
+    let l : length (listed k f) ≤ length zeros = omega (arith, listed-length k f, h .within) in
+    h .stored ∙ ap (λ n. listed n f ++ drop n zeros) e
+    ∙ sym (ap₂ (λ (a b : List ℕ). a ++ b) (take-all (length zeros) (listed k f) l) (ap (λ n. drop n zeros) (listed-length k f)))
+    ∙ padded-over w (listed k f)
 
 -- the first k symbols of a message, lent as a part
 pub lent-message : (k : ℕ) (message : List ℕ) → k ≤ 49 → length message ≡ 49

@@ -6,7 +6,8 @@ use native.Mathlib.Nat.{mod-eq-of-lt, zero-add}
 use native.Mathlib.Decide.{decLt}
 use native.Mathlib.Omega.{arith}
 use lib.ListN.{length, getD, take, List·getD-eq-default}
-use Rattle.lists.specs.Listed.{listed, listed-ext}
+use Rattle.lists.specs.Listed.{listed, listed-ext, listed-length}
+use Rattle.lists.specs.Padded.{padded, padded-take}
 use Rattle.lists.specs.Words.{Word, allBelow-at}
 use Rattle.lists.specs.Answers.{Found}
 use Rattle.algebra.specs.Field.{Field}
@@ -76,13 +77,18 @@ module _ {k : ℕ} (rate : Ranged k) (row function : List ℕ) (divided : Divide
 
 -- from the steps of the code
 pub candidate-made : {k : ℕ} → Ranged k → (row function q0 q1 : List ℕ) (m : ℕ) (r : Candidate) → q0 ≡ listed 64 (plainAt row) → q1 ≡ listed 64 (zAt row)
-    → m ≡ mOf k → Divided q0 q1 m function → take k (r .message) ≡ listed k (symbolIn function) → r .codeword ≡ encodeOf k (take k (r .message))
+    → m ≡ mOf k → Divided q0 q1 m function → r .message ≡ padded 49 (listed k (symbolIn function)) → r .codeword ≡ encodeOf k (take k (r .message))
     → CandidateOf k row r
 candidate-made {k} rate row function q0 q1 m r q0-is q1-is m-is quotient-is message-is encoded =
     let divided = subst (λ n. Divided (listed 64 (plainAt row)) (listed 64 (zAt row)) n function) m-is
     (subst₂ (λ p q. Divided p q m function) q0-is q1-is quotient-is) in
+    let size = listed-length k (symbolIn function) in
+    let front : take k (r .message) ≡ listed k (symbolIn function) =
+    ap (take k) message-is ∙ ap (λ n. take n (padded 49 (listed k (symbolIn function)))) (sym size)
+    ∙ padded-take 49 (listed k (symbolIn function)) (omega (arith, size, rate .most)) in
     record {
-      word = subst (Word 16 k) (sym message-is) (candidate-word rate row function divided);
+      word = subst (Word 16 k) (sym front) (candidate-word rate row function divided);
+      behind = message-is ∙ ap (padded 49) (sym front);
       encoded = encoded;
-      only = λ word h n f. sym (only rate row function divided word h n f) ∙ sym message-is;
+      only = λ word h n f. sym (only rate row function divided word h n f) ∙ sym front;
     }

@@ -2,7 +2,7 @@
 --
 --   symbolIn f t           symbol t of the message of the function f
 --   Held k word row        the row is a Q through the word, with its lead up to the limit
---   CandidateOf k row r    r is a message of k symbols with its codeword, and the only one that can be within T of a word that the row holds
+--   CandidateOf k row r    r is a message of k symbols, with zeros behind it, and its codeword; and the only one that can be within T of a word that the row holds
 --   candidate-near         a candidate within T of such a word is the message whose codeword is,
 --   candidate-far          and where it is not, there is none
 use mathlib.Core.Path.{_≡_, ap, subst}
@@ -12,6 +12,7 @@ use Prim.Native.Nat.{ℕ, _<_, _≤_}
 use native.Mathlib.Omega.{arith}
 use lib.Dec.{le→leb, leb→le}
 use lib.ListN.{getD, take}
+use Rattle.lists.specs.Padded.{padded}
 use Rattle.lists.specs.Words.{Word}
 use Rattle.lists.specs.Answers.{Found, firstThat-only}
 use Rattle.algebra.specs.Coefficients.{Lead}
@@ -38,6 +39,7 @@ pub record Held (k : ℕ) (word row : List ℕ) : Type 0 where
 
 pub record CandidateOf (k : ℕ) (row : List ℕ) (r : Candidate) : Type 0 where
   pub word : Word 16 k (take k (r .message))
+  pub behind : r .message ≡ padded 49 (take k (r .message))
   pub encoded : r .codeword ≡ encodeOf k (take k (r .message))
   pub only : (word : List ℕ) → Held k word row → (m : List ℕ) → Found 16 k (nearTo k word) m → m ≡ take k (r .message)
 

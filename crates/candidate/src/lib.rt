@@ -5,6 +5,7 @@ ghost use mathlib.Core.Path.{_≡_};
 ghost use Prim.Native.Nat.{_≤_};
 ghost use lib.ListN.{take};
 ghost use Rattle.lists.specs.Listed.{listed};
+ghost use Rattle.lists.specs.Padded.{padded};
 ghost use Rattle.code.specs.Encoding.{encodeOf};
 ghost use Rattle.soft.specs.Column.{places};
 ghost use Rattle.soft.specs.Total.{differing};
@@ -33,10 +34,10 @@ pub struct Candidate {
     pub codeword: Word,
 }
 
-// The message of a function by order.
+// The message of a function by order, with zeros behind it.
 fn message_of(function: [u8; PLAIN], k: usize) -> Message
     requires { ⌜ k ≤ 49 ⌝ }
-    ensures { λ r. ⌜ take k r ≡ listed k (symbolIn function) ⌝ }
+    ensures { λ r. ⌜ r ≡ padded 49 (listed k (symbolIn function)) ⌝ }
 {
     let mut out = [0u8; MOST_RATE];
     let mut t = 0;

@@ -1,34 +1,26 @@
--- What may be asked: the loop that tests the doubtful places, and that the test decides it.
-use mathlib.Core.Bool.{Bool, true, false, not, _&&_, false≢true}
+-- What may be asked: the loop that tests the doubtful places, and the test by its parts.
+use mathlib.Core.Bool.{Bool, true, false, false≢true}
 use mathlib.Core.Path.{_≡_, refl, sym, ap, ap₂, _∙_, subst}
-use mathlib.Core.List.{List, [], _∷_, _++_, List·Memᴰ, List·Memᴰ·head, List·Memᴰ·tail}
+use mathlib.Core.List.{List, [], _∷_, _++_}
 use mathlib.Core.Logic.{_⊎_, ⊎-elim}
 use Prim.Native.Nat.{ℕ, _+_, _<_, _≤_}
 use native.Mathlib.Nat.{mod-eq-of-lt}
 use native.Mathlib.Numerals.{add-one}
 use native.Mathlib.Omega.{arith}
-use lib.Dec.{ltb, leb, eqb}
 use lib.ListN.{length, getD, take, drop, set, length-take, take-append-drop}
 use lib.Seq.{getD-take, take-suc, take-take}
-use borrow.Author.Tests.{eq-eqb, ne-eqb, eqb-true, lt-ltb, le-leb, lt-leb, leb-true}
-use Rattle.lists.specs.Distinct.{among, among-member, below, below-append, below-one, below-at, distinct, distinct-snoc, distinct-before, and-left, and-right, and-both}
+use borrow.Author.Tests.{eq-eqb, ne-eqb, le-leb, lt-leb}
+use Rattle.lists.specs.Distinct.{among-member, below, below-append, below-one, below-at, distinct, distinct-snoc, distinct-before, and-left, and-right, and-both}
 use Rattle.code.specs.Encoding.{knownRate}
-use Rattle.soft.specs.Column.{columnOf}
-use Rattle.near.specs.Tree.{Places, places-nil, places-cons, places-of}
-use Rattle.answers.specs.declared.Answer.the-variants.{NoneNear}
 use Rattle.answers.specs.declared.Found.{Found}
-use Rattle.chase.specs.Call.{Asked, askedOf, NearestCall}
+use Rattle.chase.specs.Call.{Asked, askedOf, nearestOf}
+use Rattle.chase.specs.Laws.{not-among, asked-is, nearest-unasked}
 use Rattle.chase.specs.Places.{arePlaces, Flagged}
-use Rattle.answers.specs.Answered.{sound-none}
+use Rattle.answers.specs.Result.{nothingFound}
 use Rattle.chase.proofs.Settling.{known-range, flag-turn}
 use Rattle.known.specs.Left.{left-cons}
 
 -- ---- the loop that names one place after the other
-
-not-among : (p : ℕ) (ps : List ℕ) → ¬ List·Memᴰ p ps → among p ps ≡ false
-unfolding among
-not-among p [] n = refl
-not-among p (q ∷ ps) n = rw (ne-eqb q p (λ e. n (List·Memᴰ·head (sym e)))) (not-among p ps (λ m. n (List·Memᴰ·tail m)))
 
 fails : (b : Bool) → (b ≡ true → ⊥) → b ≡ false
 fails true n = absurd (n refl)
@@ -80,49 +72,12 @@ module _ (doubtful : List ℕ) (i : ℕ) where
         let n = distinct-before (take i doubtful) x (drop (i + 1) (take doubt doubtful)) d in
         omega (arith, named, F .on x small (λ m. false≢true (sym n ∙ among-member m))))
 
--- ---- the test decides
-
-places-test : {ps : List ℕ} → Places ps → (below 64 ps ≡ true) × (distinct ps ≡ true)
-unfolding below distinct
-places-test places-nil = (refl, refl)
-places-test (places-cons {p} {ps} h fresh P) =
-    let t = places-test P in (
-      and-both (ltb p 64) (below 64 ps) (lt-ltb p 64 h) (t .0),
-      and-both (not (among p ps)) (distinct ps) (ap not (not-among p ps fresh)) (t .1),
-    )
+-- ---- the test by its parts
 
 module _ (rate : ℕ) (costs doubtful : List ℕ) (doubt : ℕ) where
-  pub asked-yes : askedOf rate costs doubtful doubt ≡ true → Asked rate costs doubtful doubt
-  unfolding askedOf arePlaces
-  asked-yes e =
-      let size = eqb (length costs) 1024 in
-      let few = leb doubt 8 in
-      let b = below 64 (take doubt doubtful) in
-      let d = distinct (take doubt doubtful) in
-      let s = and-right (knownRate rate) (size && (few && (b && d))) e in
-      let f = and-right size (few && (b && d)) s in
-      let p = and-right few (b && d) f in
-      record {
-        known = and-left (knownRate rate) (size && (few && (b && d))) e;
-        size = eqb-true (length costs) 1024 (and-left size (few && (b && d)) s);
-        few = leb-true doubt 8 (and-left few (b && d) f);
-        places = places-of (take doubt doubtful) (and-left b d p) (and-right b d p);
-      }
-
-  pub asked-is : Asked rate costs doubtful doubt → askedOf rate costs doubtful doubt ≡ true
-  unfolding askedOf arePlaces
-  asked-is A =
-      let t = places-test (A .places) in
-      rw (A .known, eq-eqb (length costs) 1024 (A .size), le-leb doubt 8 (A .few), t .0, t .1)
-
   -- arguments that may not be asked find nothing
-  pub unasked : (f : Found) → ¬ Asked rate costs doubtful doubt → f .answer ≡ NoneNear → f .tests ≡ 0 → NearestCall rate costs doubtful doubt f
-  unasked f n none zero =
-      record {
-        asked = λ A. absurd (n A);
-        refused = λ _. (none, zero);
-        encoded = sound-none {k = rate} {columns = columnOf 16 costs} f none .encoded;
-      }
+  pub unasked : (f : Found) → ¬ Asked rate costs doubtful doubt → f ≡ nothingFound → f ≡ nearestOf rate costs doubtful doubt
+  unasked f n e = e ∙ sym (nearest-unasked rate costs doubtful doubt n)
 
   pub unasked-rate : rate < 27 ⊎ 49 < rate → ¬ Asked rate costs doubtful doubt
   unasked-rate h A = let r = known-range rate (A .known) in ⊎-elim (λ a. omega arith) (λ a. omega arith) h
@@ -131,7 +86,7 @@ module _ (rate : ℕ) (costs doubtful : List ℕ) (doubt : ℕ) where
   unasked-doubt h A = omega (arith, A .few)
 
   pub unasked-test : askedOf rate costs doubtful doubt ≡ false → ¬ Asked rate costs doubtful doubt
-  unasked-test e A = false≢true (sym e ∙ asked-is A)
+  unasked-test e A = false≢true (sym e ∙ asked-is rate costs doubtful doubt A)
 
   pub rate-refused : knownRate rate ≡ false → askedOf rate costs doubtful doubt ≡ false
   unfolding askedOf

@@ -26,12 +26,13 @@ use Rattle.soft.specs.TestWord.{bestWord, expand, testWords}
 use Rattle.near.specs.Near.{mOf}
 use Rattle.near.specs.Interpolated.{limitOf}
 use Rattle.answers.specs.declared.Found.{Found}
-use Rattle.chase.specs.Call.{Asked, NearestCall}
+use Rattle.chase.specs.Call.{Asked, nearestOf}
+use Rattle.chase.specs.Laws.{nearest-asked}
 use Rattle.answers.specs.Nearest.{Nearest}
 use Rattle.candidate.specs.Ranged.{Ranged}
 use Rattle.chase.specs.Places.{Flagged}
 use Rattle.tree.specs.Searching.{SearchOf}
-use Rattle.answers.specs.Answered.{Sound}
+use Rattle.answers.specs.Answered.{Sound, found-is}
 
 -- ---- known rates
 
@@ -133,7 +134,7 @@ module _ (k : ℕ) (costs doubtful : List ℕ) (doubt : ℕ) (f : Found) where
       → (Places (take doubt doubtful) → Flagged (take doubt doubtful) flags) → m ≡ mOf k → L ≡ limitOf k
       → Basis K16 8 L (ThroughNodes m (settled word flags 64)) (polynomials m rows) (leadAt leads)
       → SearchOf k (columnOf 16 costs) word (drop (doubt - doubt) (take doubt doubtful)) rows leads doubt f
-      → Sound k (columnOf 16 costs) f → NearestCall k costs doubtful doubt f
+      → Sound k (columnOf 16 costs) f → f ≡ nearestOf k costs doubtful doubt
   unfolding testWords
   root word flags rows leads m L A w-is flagged m-is L-is B S sound =
       let z : doubt - doubt ≡ 0 = omega arith in
@@ -148,4 +149,4 @@ module _ (k : ℕ) (costs doubtful : List ℕ) (doubt : ℕ) (f : Found) where
         basis = subst₂ (λ n l. Basis K16 8 l (ThroughNodes n (settled word flags 64)) (polynomials n rows) (leadAt leads)) m-is L-is B;
       })
       (A .places)) in
-      record { asked = λ _. N; refused = λ n. absurd (n A); encoded = sound .encoded }
+      found-is N sound ∙ sym (nearest-asked k costs doubtful doubt A)

@@ -2,9 +2,10 @@
 --
 --   Asked rate costs doubtful doubt    a known rate, 1,024 costs, and at most 8 doubtful places, different and below 64
 --   askedOf rate costs doubtful doubt  the test of Asked
---   NearestCall rate costs doubtful doubt f   the nearest codeword by the costs and the doubtful places, where it may be asked for, and nothing
---                                      where not; with the message its codeword
-use mathlib.Core.Bool.{Bool, true, _&&_}
+--   nearestOf rate costs doubtful doubt   what the test words of the costs and the doubtful places find, where it may be asked for, and
+--                                      nothing where not
+--   NearestCall rate costs doubtful doubt f   what f says of the near codewords by it: document 01's result, and the answer's codeword
+use mathlib.Core.Bool.{Bool, true, cond, _&&_}
 use mathlib.Core.Path.{_≡_}
 use mathlib.Core.List.{List}
 use Prim.Native.Nat.{ℕ, _≤_}
@@ -14,9 +15,10 @@ use Rattle.code.specs.Encoding.{encodeOf, knownRate}
 use Rattle.soft.specs.Column.{columnOf}
 use Rattle.soft.specs.TestWord.{testWords}
 use Rattle.near.specs.Tree.{Places}
-use Rattle.answers.specs.declared.Answer.the-variants.{NoneNear, Near}
-use Rattle.answers.specs.Nearest.{Nearest}
+use Rattle.answers.specs.declared.Answer.the-variants.{Near}
 use Rattle.answers.specs.declared.Found.{Found}
+use Rattle.answers.specs.Result.{nothingFound, foundOf}
+use Rattle.answers.specs.Nearest.{Nearest}
 use Rattle.chase.specs.Places.{arePlaces}
 
 pub record Asked (rate : ℕ) (costs doubtful : List ℕ) (doubt : ℕ) : Type 0 where
@@ -29,8 +31,13 @@ unfoldable pub askedOf : ℕ → List ℕ → List ℕ → ℕ → Bool
 askedOf rate costs doubtful doubt =
     knownRate rate && (eqb (length costs) 1024 && (leb doubt 8 && arePlaces (take doubt doubtful)))
 
+unfoldable pub nearestOf : ℕ → List ℕ → List ℕ → ℕ → Found
+nearestOf rate costs doubtful doubt =
+    cond (askedOf rate costs doubtful doubt) (foundOf rate (columnOf 16 costs) (testWords 64 (columnOf 16 costs) (take doubt doubtful)))
+    nothingFound
+
 pub record NearestCall (rate : ℕ) (costs doubtful : List ℕ) (doubt : ℕ) (f : Found) : Type 0 where
   pub asked : Asked rate costs doubtful doubt
       → Nearest rate (columnOf 16 costs) (testWords 64 (columnOf 16 costs) (take doubt doubtful)) f
-  pub refused : ¬ Asked rate costs doubtful doubt → (f .answer ≡ NoneNear) × (f .tests ≡ 0)
+  pub refused : ¬ Asked rate costs doubtful doubt → f ≡ nothingFound
   pub encoded : (t : ℕ) → f .answer ≡ Near t → f .codeword ≡ encodeOf rate (take rate (f .message))

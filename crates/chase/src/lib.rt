@@ -5,7 +5,7 @@ ghost use Prim.Native.Nat.{_≤_};
 ghost use lib.ListN.{take};
 ghost use Rattle.near.specs.Tree.{Places};
 ghost use Rattle.chase.specs.Places.{arePlaces, Flagged};
-ghost use Rattle.chase.specs.Call.{askedOf, NearestCall};
+ghost use Rattle.chase.specs.Call.{askedOf, nearestOf};
 use answers::Found;
 use answers::none_near;
 use basis::CLASSES;
@@ -76,7 +76,7 @@ fn asked(rate: usize, costs: &[u16], doubtful: [u8; MOST_DOUBT], doubt: usize) -
 // The answer by a table of costs and a list of doubtful places. Arguments that no session has, find nothing. The ranges of the rate and of
 // the doubt follow from `asked`; they stand first so that the compiler knows them in all that the search does.
 pub fn nearest(rate: usize, costs: &[u16], doubtful: [u8; MOST_DOUBT], doubt: usize) -> Found
-    ensures { λ r. ⌜ NearestCall rate (now (costs .entry)) doubtful doubt r ⌝ }
+    ensures { λ r. ⌜ r ≡ nearestOf rate (now (costs .entry)) doubtful doubt ⌝ }
 {
     if rate < LEAST_RATE {
         return none_near();

@@ -23,7 +23,7 @@ use Rattle.book.specs.ClosingLaws.{decode-none, decode-some}
 use Rattle.book.specs.Table.{closed}
 use Rattle.answers.specs.declared.Answer.the-variants.{NoneNear, Near}
 use Rattle.answers.specs.declared.Found.{Found}
-use Rattle.answers.specs.Nearest.{Nearest}
+use Rattle.answers.specs.Nearest.{Nearest, nearest-nobody, nearest-somebody}
 use Rattle.chase.specs.Call.{Asked}
 
 pub list-few : {rate doubt : ℕ} {costs doubtful : List ℕ} → Asked rate costs doubtful doubt → length (take doubt doubtful) ≤ 8
@@ -38,7 +38,7 @@ module _ (rate : ℕ) (columns : ℕ → List ℕ) (doubtful : List ℕ) (f : Fo
   module _ (message report : List ℕ) where
     pub answered-none : f .answer ≡ NoneNear → closed noneNear message report ≡ decodeOf rate columns doubtful message report
     unfolding refusedClosing
-    answered-none e = sym (decode-none rate columns doubtful message report (near .nobody e))
+    answered-none e = sym (decode-none rate columns doubtful message report (nearest-nobody near e))
 
     pub answered-near : (t : ℕ) → f .answer ≡ Near t
         → closed accepted (take rate (f .message))
@@ -50,8 +50,8 @@ module _ (rate : ℕ) (columns : ℕ → List ℕ) (doubtful : List ℕ) (f : Fo
         let m = take rate (f .message) in
         ap₂
         (λ total tests. closed accepted m (reportOf total tests (pinnedOf 64 columns (encodeOf rate m)) (changedOf 64 columns (encodeOf rate m))))
-        (near .somebody t e .1) (near .count)
-        ∙ sym (decode-some rate columns doubtful message report (near .somebody t e .0))
+        (nearest-somebody near t e .1) (near .count)
+        ∙ sym (decode-some rate columns doubtful message report (nearest-somebody near t e .0))
 
     -- the same, step by step as the code goes
     pub decoded-near : {t pinned changed : ℕ} {message′ word bytes report′ : List ℕ} → f .answer ≡ Near t → length message ≡ rate

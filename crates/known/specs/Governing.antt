@@ -2,8 +2,8 @@
 --
 --   governs-all              a codeword that passes the test governs
 --   within-nil, within-cons, within-append   how many test words are within T of a codeword, one after the other and by parts
---   later-one                what later branches know is one of the two
---   sound-below, below-tests   what is found below a node that is governed is sound, with so many tests
+--   below-none, below-some, below-tests   what is found below a node that is governed, by the count, and with it
+--   sound-later, sound-below   it is sound, and so is what later branches know
 --   governed-nearest         and it is what the search would find there
 use mathlib.Core.Bool.{Bool, true, false, cond, not, _||_, false≢true}
 use mathlib.Core.Path.{_≡_, refl, sym, ap, _∙_, subst}
@@ -28,7 +28,7 @@ use Rattle.soft.specs.Total.{differAt, differing}
 use Rattle.soft.specs.TotalLaws.{agree-true, differing-triangle, differing-comm}
 use Rattle.soft.specs.TestWord.{expand}
 use Rattle.soft.specs.TestWordLaws.{expand-length, expand-settled}
-use Rattle.near.specs.Near.{mOf, reachOf, nearTo, codewordNear, near, isSome, testsNear, messageCost, answerOf}
+use Rattle.near.specs.Near.{mOf, reachOf, nearTo, codewordNear, near, isSome, testsNear, answerOf}
 use Rattle.near.specs.Reach.{Workable}
 use Rattle.near.specs.Distance.{codewords-apart}
 use Rattle.near.specs.Laws.{near-member, near-answers, word-answers, answer-none, codeword-none, tests-nil, tests-cons}
@@ -36,10 +36,11 @@ use Rattle.near.specs.Tree.{Places, places-nil, places-cons}
 use Rattle.answers.specs.declared.Answer.{Answer}
 use Rattle.answers.specs.declared.Answer.the-variants.{NoneNear, Near}
 use Rattle.answers.specs.declared.Found.{Found as Answered}
-use Rattle.answers.specs.Nearest.{Nearest, nearest-none, nearest-some}
+use Rattle.answers.specs.Result.{nothingFound}
+use Rattle.answers.specs.Nearest.{Nearest, nearest-nothing, nearest-some}
 use Rattle.candidate.specs.Ranged.{Ranged}
-use Rattle.answers.specs.Answered.{Sound, Same, OneOf, of-first, of-other, sound-none, sound-same}
-use Rattle.known.specs.Known.{isNear, laterOf, filledOf, Outside, Governs, governsOf, testsWithin, BelowOf, below-none, below-some}
+use Rattle.answers.specs.Answered.{counted, Sound, sound-nothing, sound-counted}
+use Rattle.known.specs.Known.{isNear, laterOf, filledOf, Outside, Governs, governsOf, testsWithin, belowOf}
 
 -- ---- words that have the same symbols but at some places differ in no more than these
 
@@ -251,24 +252,39 @@ module _ {k : ℕ} (rate : Workable k) {m : List ℕ} (w : Word 16 k m) where
 
 -- ---- what is known
 
-pub later-one : (first known f : Answered) → f ≡ laterOf first known → OneOf first known f
-unfolding laterOf
-later-one first known f e = go (isNear (first .answer)) e
-  where
-    same : {a : Answered} → f ≡ a → Same a f
-    same q = record { answer = ap (λ (x : Answered). x .answer) q; message = ap (λ (x : Answered). x .message) q; codeword = ap (λ (x : Answered). x .codeword) q }
+module _ (known : Answered) (tests : ℕ) where
+  pub below-none : tests ≡ 0 → belowOf known tests ≡ nothingFound
+  unfolding belowOf
+  below-none z = ap (λ b. cond b nothingFound (counted tests known)) (eq-eqb tests 0 z)
 
-    go : (b : Bool) → f ≡ cond b first known → OneOf first known f
-    go true q = of-first (same q)
-    go false q = of-other (same q)
+  pub below-some : (tests ≡ 0 → ⊥) → belowOf known tests ≡ counted tests known
+  unfolding belowOf
+  below-some n = ap (λ b. cond b nothingFound (counted tests known)) (ne-eqb tests 0 n)
 
-pub sound-below : {k : ℕ} {columns : ℕ → List ℕ} {known f : Answered} {tests : ℕ} → Sound k columns known → BelowOf known tests f → Sound k columns f
-sound-below {f = f} s (below-none z e n) = sound-none f e
-sound-below s (below-some z e n) = sound-same s e
+  pub below-tests : belowOf known tests .tests ≡ tests
+  unfolding nothingFound counted
+  below-tests = go (ℕ-discrete tests 0)
+    where
+      go : Dec (tests ≡ 0) → belowOf known tests .tests ≡ tests
+      go (yes z) = ap (λ (f : Answered). f .tests) (below-none z) ∙ sym z
+      go (no n) = ap (λ (f : Answered). f .tests) (below-some n)
 
-pub below-tests : {known f : Answered} {tests : ℕ} → BelowOf known tests f → f .tests ≡ tests
-below-tests (below-none z e n) = n ∙ sym z
-below-tests (below-some z e n) = n
+module _ {k : ℕ} {columns : ℕ → List ℕ} {known : Answered} (s : Sound k columns known) where
+  pub sound-later : {first : Answered} → Sound k columns first → Sound k columns (laterOf first known)
+  unfolding laterOf
+  sound-later {first} r = go (isNear (first .answer))
+    where
+      go : (b : Bool) → Sound k columns (cond b first known)
+      go true = r
+      go false = s
+
+  pub sound-below : (tests : ℕ) → Sound k columns (belowOf known tests)
+  unfolding belowOf
+  sound-below tests = go (eqb tests 0)
+    where
+      go : (b : Bool) → Sound k columns (cond b nothingFound (counted tests known))
+      go true = sound-nothing
+      go false = sound-counted tests s
 
 module _ {k : ℕ} (rate : Workable k) (columns : ℕ → List ℕ) (known : Answered) (word ps : List ℕ) (size : length word ≡ 64) (s : Sound k columns known)
     (g : Governs k known word ps) where
@@ -288,21 +304,19 @@ module _ {k : ℕ} (rate : Workable k) (columns : ℕ → List ℕ) (known : Ans
       subst (λ u. differing 64 u t + reachOf k + mOf k < 64) (s .encoded (g .total) (g .near))
       (g .apart t (record { size = expand-length columns word ps t i ∙ size; same = λ p out. expand-settled columns word ps t i p out }))
 
-  pub governed-nearest : (f : Answered) (tests : ℕ) → tests ≡ testsWithin k (known .codeword) (expand columns word ps) → BelowOf known tests f
-      → Nearest k columns (expand columns word ps) f
-  unfolding c m
-  governed-nearest f tests counted b = go b
+  pub governed-nearest : (tests : ℕ) → tests ≡ testsWithin k (known .codeword) (expand columns word ps)
+      → Nearest k columns (expand columns word ps) (belowOf known tests)
+  unfolding c m counted
+  governed-nearest tests within = go (ℕ-discrete tests 0)
     where
       count : tests ≡ testsWithin k c (expand columns word ps)
-      count = counted ∙ ap (λ u. testsWithin k u (expand columns word ps)) (s .encoded (g .total) (g .near))
+      count = within ∙ ap (λ u. testsWithin k u (expand columns word ps)) (s .encoded (g .total) (g .near))
 
-      near-count : testsNear k (expand columns word ps) ≡ tests
-      near-count = within-tests rate symbols columns (expand columns word ps) close ∙ sym count
-
-      go : BelowOf known tests f → Nearest k columns (expand columns word ps) f
-      go (below-none z e n) =
-          nearest-none f e n (near-count ∙ z) (within-none rate symbols columns (expand columns word ps) close (sym count ∙ z))
-      go (below-some z e n) =
-          nearest-some f (g .total) (e .answer ∙ g .near) (near-count ∙ sym n)
-          (within-some rate symbols columns (expand columns word ps) close (subst (λ n. 0 < n) count z) ∙ ap (λ x. some (take k x)) (sym (e .message)))
-          (s .cost (g .total) (g .near) ∙ ap (λ x. messageCost k columns (take k x)) (sym (e .message)))
+      go : Dec (tests ≡ 0) → Nearest k columns (expand columns word ps) (belowOf known tests)
+      go (yes z) =
+          subst (Nearest k columns (expand columns word ps)) (sym (below-none known tests z))
+          (nearest-nothing (within-none rate symbols columns (expand columns word ps) close (sym count ∙ z)))
+      go (no n) =
+          subst (Nearest k columns (expand columns word ps)) (sym (below-some known tests n))
+          (nearest-some (counted tests known) (g .total) (g .near) (within-tests rate symbols columns (expand columns word ps) close ∙ sym count)
+          (within-some rate symbols columns (expand columns word ps) close (omega (arith, count))) (s .cost (g .total) (g .near)))

@@ -8,12 +8,12 @@
 --   governsOf k known word ps  the test of it: the places outside ps where the known codeword differs from the word, ps, and T are together less than 64 − M
 --   testsWithin k c tests  how many test words are within T of the codeword c
 --   WithinOf …             what counting them below a node finds
---   BelowOf known tests f  what is found where tests of the test words are within T of the known codeword, and no other codeword is near
+--   belowOf known tests    what is found where tests of the test words are within T of the known codeword, and no other codeword is near
 use mathlib.Core.Bool.{Bool, true, false, cond, _&&_}
 use mathlib.Core.Path.{_≡_}
 use mathlib.Core.List.{List, [], _∷_, List·Memᴰ}
 use Prim.Native.Nat.{ℕ, _+_, _-_, _%_, _^_, _<_, _≤_}
-use lib.Dec.{leb, ltb}
+use lib.Dec.{eqb, leb, ltb}
 use lib.ListN.{length, getD, set}
 use Rattle.lists.specs.Count.{bit}
 use Rattle.soft.specs.Total.{differing}
@@ -23,7 +23,8 @@ use Rattle.near.specs.Tree.{Places}
 use Rattle.answers.specs.declared.Answer.{Answer}
 use Rattle.answers.specs.declared.Answer.the-variants.{NoneNear, Near}
 use Rattle.answers.specs.declared.Found.{Found}
-use Rattle.answers.specs.Answered.{Same}
+use Rattle.answers.specs.Result.{nothingFound}
+use Rattle.answers.specs.Answered.{counted}
 
 unfoldable pub isNear : Answer → Bool
 isNear NoneNear = false
@@ -58,6 +59,5 @@ pub record WithinOf (k : ℕ) (columns : ℕ → List ℕ) (c word ps : List ℕ
   pub few : n ≤ 2 ^ left
   pub counts : Places ps → n ≡ testsWithin k c (expand columns word ps)
 
-pub data BelowOf (known : Found) (tests : ℕ) (f : Found) : Type 0 where
-  below-none : tests ≡ 0 → f .answer ≡ NoneNear → f .tests ≡ 0 → BelowOf known tests f
-  below-some : 0 < tests → Same known f → f .tests ≡ tests → BelowOf known tests f
+unfoldable pub belowOf : Found → ℕ → Found
+belowOf known tests = cond (eqb tests 0) nothingFound (counted tests known)

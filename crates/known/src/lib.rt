@@ -9,7 +9,7 @@ ghost use Rattle.soft.specs.Column.{places, symbols, columnOf};
 ghost use Rattle.soft.specs.Total.{differing};
 ghost use Rattle.near.specs.Near.{reachOf};
 ghost use Rattle.candidate.specs.Ranged.{Ranged};
-ghost use Rattle.known.specs.Known.{laterOf, filledOf, governsOf, WithinOf, BelowOf};
+ghost use Rattle.known.specs.Known.{laterOf, filledOf, governsOf, WithinOf, belowOf};
 use answers::Answer;
 use answers::Found;
 use answers::none_near;
@@ -114,7 +114,7 @@ pub fn tests_within(
 
 // The known codeword as the answer of the test words below a node, where so many of them are within T of it and no other is near.
 pub fn below(known: Found, tests: usize) -> Found
-    ensures { λ r. ⌜ BelowOf known tests r ⌝ }
+    ensures { λ r. ⌜ r ≡ belowOf known tests ⌝ }
 {
     if tests == 0 {
         return none_near();

@@ -20,13 +20,14 @@ use Rattle.soft.specs.TestWordLaws.{expand-nil, expand-cons}
 use Rattle.near.specs.Near.{mOf}
 use Rattle.near.specs.Interpolated.{limitOf}
 use Rattle.near.specs.Tree.{Places, places-cons, Decided, decided-step, decided-through, tree-spent}
-use Rattle.answers.specs.declared.Answer.the-variants.{NoneNear}
 use Rattle.answers.specs.declared.Found.{Found}
-use Rattle.answers.specs.Nearest.{Nearest, nearest-none}
+use Rattle.answers.specs.Result.{nothingFound}
+use Rattle.answers.specs.Nearest.{Nearest, nearest-nothing}
 use Rattle.tree.specs.Searching.{Lowest, Ready, LeafOf, SearchOf, BranchOf}
 use Rattle.candidate.specs.Ranged.{Ranged, workable}
-use Rattle.answers.specs.Answered.{BetterOf, Sound}
-use Rattle.known.specs.Known.{governsOf, WithinOf, BelowOf}
+use Rattle.answers.specs.Answered.{Sound}
+use Rattle.answers.specs.Better.{betterOf, better-tests, better-joins}
+use Rattle.known.specs.Known.{governsOf, WithinOf, belowOf}
 use Rattle.known.specs.Left.{places-rest, split-places, twice}
 use Rattle.known.specs.Governing.{governs-all, below-tests, governed-nearest}
 
@@ -44,13 +45,13 @@ lowest-turn leads q r p h a b l =
 -- a node that is spent, and a leaf
 module _ {k : ℕ} (rate : Ranged k) (columns : ℕ → List ℕ) (word ps : List ℕ) (rows : List (List ℕ)) (leads : List ℕ) (left : ℕ) (L : ℕ)
     (L-is : L ≡ limitOf k) (class : ℕ) (low : Lowest leads 8 class) where
-  pub node-spent : (f : Found) → f .answer ≡ NoneNear → f .tests ≡ 0 → L < leadAt leads class → SearchOf k columns word ps rows leads left f
-  node-spent f e n far =
+  pub node-spent : L < leadAt leads class → SearchOf k columns word ps rows leads left nothingFound
+  unfolding nothingFound
+  node-spent far =
       record {
         few = omega arith;
         finds = λ R P.
-            let t = tree-spent (workable rate) columns (R .decided) (R .basis) (λ r h. omega (arith, L-is, low .lowest r h)) in
-            nearest-none f e n (t .0) (t .1);
+            nearest-nothing (tree-spent (workable rate) columns (R .decided) (R .basis) (λ r h. omega (arith, L-is, low .lowest r h)) .1);
       }
 
   pub node-leaf : (f : Found) → left ≡ 0 → ps ≡ [] → leadAt leads class ≤ L → LeafOf k columns word (getD rows class []) f
@@ -71,16 +72,16 @@ module _ {k : ℕ} (rate : Ranged k) (columns : ℕ → List ℕ) (word ps : Lis
 -- one branch: the place is decided with the symbol, by a codeword that is known or by one more node
 module _ {k : ℕ} (rate : Ranged k) (columns : ℕ → List ℕ) (word : List ℕ) (place symbol : ℕ) (ps : List ℕ) (rows : List (List ℕ)) (leads : List ℕ)
     (left : ℕ) (size : length word ≡ 64) where
-  pub branch-known : (known f : Found) (tests : ℕ) (b : Bool) → Sound k columns known → b ≡ governsOf k known (set word place symbol) ps → b ≡ true
-      → WithinOf k columns (known .codeword) (set word place symbol) ps left tests → BelowOf known tests f
-      → BranchOf k columns word place symbol ps rows leads left f
-  branch-known known f tests b sound test governs counted below =
+  pub branch-known : (known : Found) (tests : ℕ) (b : Bool) → Sound k columns known → b ≡ governsOf k known (set word place symbol) ps → b ≡ true
+      → WithinOf k columns (known .codeword) (set word place symbol) ps left tests
+      → BranchOf k columns word place symbol ps rows leads left (belowOf known tests)
+  branch-known known tests b sound test governs counted =
       record {
-        few = omega (arith, below-tests below, counted .few);
+        few = omega (arith, below-tests known tests, counted .few);
         finds = λ R P.
             let l : length (set word place symbol) ≡ 64 = length-set word place symbol ∙ size in
             let g = governs-all k known (set word place symbol) ps rate l (sym test ∙ governs) (places-rest P) in
-            governed-nearest (workable rate) columns known (set word place symbol) ps l sound g f tests (counted .counts (places-rest P)) below;
+            governed-nearest (workable rate) columns known (set word place symbol) ps l sound g tests (counted .counts (places-rest P));
       }
 
   module _ (L : ℕ) (L-is : L ≡ limitOf k) (rows′ : List (List ℕ)) (leads′ : List ℕ) (E : Extends L place symbol rows leads rows′ leads′) where
@@ -110,20 +111,20 @@ module _ (doubtful : List ℕ) (doubt left : ℕ) (eight : length doubtful ≡ 8
 
   module _ (k : ℕ) (columns : ℕ → List ℕ) (word : List ℕ) (place : ℕ) (place-is : place ≡ x % 64) (s o : ℕ) (s-is : s ≡ bestAt columns place)
       (o-is : o ≡ secondAt columns place) where
-    pub node-branch : (rows : List (List ℕ)) (leads : List ℕ) (a b r : Found) → BranchOf k columns word place s rest rows leads (left - 1) a
-        → BranchOf k columns word place o rest rows leads (left - 1) b → BetterOf k a b r
-        → SearchOf k columns word (drop (doubt - left) (take doubt doubtful)) rows leads left r
-    node-branch rows leads a b r A B J =
+    pub node-branch : (rows : List (List ℕ)) (leads : List ℕ) (a b : Found) → BranchOf k columns word place s rest rows leads (left - 1) a
+        → BranchOf k columns word place o rest rows leads (left - 1) b
+        → SearchOf k columns word (drop (doubt - left) (take doubt doubtful)) rows leads left (betterOf k a b)
+    node-branch rows leads a b A B =
         record {
-          few = omega (arith, J .sum, A .few, B .few, twice left some-left);
+          few = omega (arith, better-tests k a b, A .few, B .few, twice left some-left);
           finds = λ R P.
               let q = split-places doubtful doubt left eight few within some-left place place-is P in
               let R′ : Ready k word (place ∷ rest) rows leads = subst (λ ps. Ready k word ps rows leads) q R in
               let P′ : Places (place ∷ rest) = subst Places q P in
-              subst (λ ps. Nearest k columns (expand columns word ps) r) (sym q)
-              (subst (λ ts. Nearest k columns ts r)
+              subst (λ ps. Nearest k columns (expand columns word ps) (betterOf k a b)) (sym q)
+              (subst (λ ts. Nearest k columns ts (betterOf k a b))
               (sym
               (expand-cons columns word place rest
               ∙ ap₂ (λ y z. expand columns (set word place y) rest ++ expand columns (set word place z) rest) (sym s-is) (sym o-is)))
-              (J .joins columns _ _ (A .finds R′ P′) (B .finds R′ P′)));
+              (better-joins (A .finds R′ P′) (B .finds R′ P′)));
         }

@@ -1,7 +1,7 @@
 -- A leaf: its candidate is the answer if it is within T of the test word, and otherwise there is none.
 use mathlib.Core.Path.{_≡_, refl, ap, _∙_}
 use mathlib.Core.List.{List, [], _∷_}
-use mathlib.Core.Option.{Option, none}
+use mathlib.Core.Option.{Option}
 use Prim.Native.Nat.{ℕ, _<_, _≤_}
 use native.Mathlib.Omega.{arith}
 use lib.ListN.{take}
@@ -9,9 +9,10 @@ use Rattle.lists.specs.Count.{bit}
 use Rattle.soft.specs.Total.{differing, totalOf}
 use Rattle.near.specs.Near.{reachOf, codewordNear, isSome, testsNear, messageCost}
 use Rattle.near.specs.Laws.{answer-one, tests-cons, tests-nil}
-use Rattle.answers.specs.declared.Answer.the-variants.{NoneNear, Near}
+use Rattle.answers.specs.declared.Answer.the-variants.{Near}
 use Rattle.answers.specs.declared.Found.{Found}
-use Rattle.answers.specs.Nearest.{nearest-none, nearest-some}
+use Rattle.answers.specs.Result.{nothingFound}
+use Rattle.answers.specs.Nearest.{nearest-nothing, nearest-some}
 use Rattle.answers.specs.Answered.{Sound}
 use Rattle.candidate.specs.declared.Candidate.{Candidate}
 use Rattle.candidate.specs.Ranged.{Ranged, workable}
@@ -23,13 +24,12 @@ module _ {k : ℕ} (rate : Ranged k) (columns : ℕ → List ℕ) (word row : Li
   one-count : (o : Option (List ℕ)) → codewordNear k word ≡ o → testsNear k (word ∷ []) ≡ bit (isSome o)
   one-count o e = tests-cons k word [] ∙ omega (arith, tests-nil k, ap (λ x. bit (isSome x)) e)
 
-  pub leaf-none : (f : Found) → f .answer ≡ NoneNear → f .tests ≡ 0 → r < d → LeafOf k columns word row f
-  leaf-none f e n far =
+  pub leaf-none : r < d → LeafOf k columns word row nothingFound
+  unfolding nothingFound
+  leaf-none far =
       record {
         few = omega arith;
-        finds = λ h.
-            let c = candidate-far C word h (omega arith) in
-            nearest-none f e n (one-count none c) (answer-one (workable rate) columns word ∙ c);
+        finds = λ h. nearest-nothing (answer-one (workable rate) columns word ∙ candidate-far C word h (omega arith));
       }
 
   module _ (total : ℕ) (t-is : total ≡ totalOf 64 columns (held .codeword)) where
@@ -41,7 +41,14 @@ module _ {k : ℕ} (rate : Ranged k) (columns : ℕ → List ℕ) (word row : Li
     cost-is = t-is ∙ ap (totalOf 64 columns) (C .encoded)
 
     pub leaf-sound : Sound k columns answered
-    leaf-sound = record { word = λ t e. C .word; encoded = λ t e. C .encoded; cost = λ t e. let s : t ≡ total = cc in s ∙ cost-is }
+    leaf-sound =
+        record {
+          nothing = λ e. let z : _≡_ {A = ℕ} 0 1 = cc in absurd (omega arith);
+          word = λ t e. C .word;
+          behind = λ t e. C .behind;
+          encoded = λ t e. C .encoded;
+          cost = λ t e. let s : t ≡ total = cc in s ∙ cost-is;
+        }
 
     pub leaf-some : d ≤ r → LeafOf k columns word row answered
     leaf-some close =

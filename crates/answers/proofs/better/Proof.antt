@@ -1,7 +1,6 @@
 -- The cases of two answers.
 use mathlib.Core.Path.{refl, sym, _∙_}
-use Rattle.answers.specs.Answered.{of-other}
-use Rattle.answers.proofs.Joining.{kept-first, kept-other, join-other, join-first, join-cheaper, join-dearer, join-before, join-after}
+use Rattle.answers.proofs.Joining.{join-other, join-first, join-cheaper, join-dearer, join-before, join-after}
 use borrow.Author.Needs.{needs}
 use Rattle.answers.proofs.better.Statement.{statement}
 use Rattle.answers.proofs.better.Tie as tie
@@ -16,7 +15,7 @@ enum-told : tie.Need-enum-told
 enum-told c = search needs
 
 returns : tie.Need-returns
-returns c = (join-other _ _ _ (search needs) refl refl refl, of-other (record { answer = refl; message = refl; codeword = refl }))
+returns c = join-other _ _ _ _ (search needs) refl refl refl refl
 
 enum-known-other : tie.Need-enum-known-other
 enum-known-other c = search needs
@@ -25,22 +24,22 @@ enum-told-2 : tie.Need-enum-told-2
 enum-told-2 c = search needs
 
 returns-2 : tie.Need-returns-2
-returns-2 c = (join-first _ _ _ _ (search needs) (search needs) refl refl refl, kept-first _ _ _ _ (search needs) refl refl refl)
+returns-2 c = join-first _ _ _ _ _ (search needs) (search needs) refl refl refl refl
 
 returns-3 : tie.Need-returns-3
-returns-3 c = (join-cheaper _ _ _ _ (search needs) (search needs) _ refl (c .if1 .taken) refl refl, kept-first _ _ _ _ (search needs) refl refl refl)
+returns-3 c = join-cheaper _ _ _ _ _ (search needs) (search needs) _ refl (c .if1 .taken) refl refl refl
 
 returns-4 : tie.Need-returns-4
-returns-4 c = (join-dearer _ _ _ _ (search needs) (search needs) _ refl (c .if2 .taken) refl refl, kept-other _ _ _ _ (search needs) refl refl refl)
+returns-4 c = join-dearer _ _ _ _ _ (search needs) (search needs) _ refl (c .if2 .taken) refl refl refl
 
 before-requires : tie.Need-before-requires
 before-requires c κs = search needs
 
 returns-5 : tie.Need-returns-5
-returns-5 c = (join-before _ _ (c .before .before .before .before .before .before .before .before .first .given .0 .0) (c .before .before .before .before .before .other .given .0 .0) (search needs) (search needs) _ refl (search needs) (sym (c .before .before2 .ensures) ∙ c .if3 .taken) refl refl, kept-first _ _ _ _ (search needs) refl refl refl)
+returns-5 c = join-before _ _ _ (c .before .before .before .before .before .before .before .before .first .given .0 .0) (c .before .before .before .before .before .other .given .0 .0) (search needs) (search needs) _ refl (search needs) (sym (c .before .before2 .ensures) ∙ c .if3 .taken) refl refl refl
 
 returns-6 : tie.Need-returns-6
-returns-6 c = (join-after _ _ (c .before .before .before .before .before .before .before .before .first .given .0 .0) (c .before .before .before .before .before .other .given .0 .0) (search needs) (search needs) _ refl (search needs) (sym (c .before .before2 .ensures) ∙ c .if3 .left) refl refl, kept-other _ _ _ _ (search needs) refl refl refl)
+returns-6 c = join-after _ _ _ (c .before .before .before .before .before .before .before .before .first .given .0 .0) (c .before .before .before .before .before .other .given .0 .0) (search needs) (search needs) _ refl (search needs) (sym (c .before .before2 .ensures) ∙ c .if3 .left) refl refl refl
 
 pub better-spec : {M : Type 1} → statement M
 better-spec =

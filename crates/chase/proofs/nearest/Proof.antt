@@ -1,13 +1,14 @@
 -- The root of the tree: all settled places are decided.
-use mathlib.Core.Path.{sym, _∙_}
+use mathlib.Core.Path.{sym, _∙_, subst}
 use mathlib.Core.Logic.{inl, inr}
 use native.Mathlib.Omega.{arith}
 use borrow.Author.Tests.{not-true, not-false}
 use Rattle.chase.specs.Call.{Asked}
-use Rattle.answers.specs.Answered.{sound-none}
+use Rattle.chase.specs.Laws.{asked-yes}
+use Rattle.answers.specs.Answered.{Sound, sound-nothing}
 use Rattle.candidate.specs.Ranged.{top-small, limit-small}
 use Rattle.chase.proofs.Settling.{known-range, root}
-use Rattle.chase.proofs.Asking.{asked-yes, unasked, unasked-rate, unasked-doubt, unasked-test}
+use Rattle.chase.proofs.Asking.{unasked, unasked-rate, unasked-doubt, unasked-test}
 use borrow.Author.Needs.{needs}
 use Rattle.chase.proofs.nearest.Statement.{statement}
 use Rattle.chase.proofs.nearest.Tie as tie
@@ -16,19 +17,19 @@ none-near-requires : tie.Need-none-near-requires
 none-near-requires c κs = search needs
 
 returns : tie.Need-returns
-returns c = unasked _ _ _ _ _ (unasked-rate _ _ _ _ (inl (c .before .if1 .taken))) (c .none-near .ensures .0) (c .none-near .ensures .1)
+returns c = unasked _ _ _ _ _ (unasked-rate _ _ _ _ (inl (c .before .if1 .taken))) (c .none-near .ensures)
 
 none-near-requires-2 : tie.Need-none-near-requires-2
 none-near-requires-2 c κs = search needs
 
 returns-2 : tie.Need-returns-2
-returns-2 c = unasked _ _ _ _ _ (unasked-rate _ _ _ _ (inr (c .before .if2 .taken))) (c .none-near2 .ensures .0) (c .none-near2 .ensures .1)
+returns-2 c = unasked _ _ _ _ _ (unasked-rate _ _ _ _ (inr (c .before .if2 .taken))) (c .none-near2 .ensures)
 
 none-near-requires-3 : tie.Need-none-near-requires-3
 none-near-requires-3 c κs = search needs
 
 returns-3 : tie.Need-returns-3
-returns-3 c = unasked _ _ _ _ _ (unasked-doubt _ _ _ _ (c .before .if3 .taken)) (c .none-near3 .ensures .0) (c .none-near3 .ensures .1)
+returns-3 c = unasked _ _ _ _ _ (unasked-doubt _ _ _ _ (c .before .if3 .taken)) (c .none-near3 .ensures)
 
 asked-requires : tie.Need-asked-requires
 asked-requires c κs = search needs
@@ -38,8 +39,7 @@ none-near-requires-4 c κs = search needs
 
 returns-4 : tie.Need-returns-4
 returns-4 c =
-    unasked _ _ _ _ _ (unasked-test _ _ _ _ (sym (c .before .before .asked .ensures) ∙ not-true _ (c .before .if4 .taken))) (c .none-near4 .ensures .0)
-    (c .none-near4 .ensures .1)
+    unasked _ _ _ _ _ (unasked-test _ _ _ _ (sym (c .before .before .asked .ensures) ∙ not-true _ (c .before .if4 .taken))) (c .none-near4 .ensures)
 
 -- past the test the arguments are those of a session
 may-ask : (c : tie.Else4)
@@ -71,7 +71,7 @@ none-near-requires-5 c κs = search needs
 search-requires : tie.Need-search-requires
 search-requires c κs =
     let a = may-ask (c .before .before .before .before .before .before .before) in
-    (known-range _ (a .known), a .few, search needs, sound-none _ (c .none-near5 .ensures .0))
+    (known-range _ (a .known), a .few, search needs, subst (Sound _ _) (sym (c .none-near5 .ensures)) sound-nothing)
 
 returns-5 : tie.Need-returns-5
 returns-5 c =

@@ -4,6 +4,7 @@ use native.Mathlib.Omega.{arith}
 use lib.ListN.{length}
 use Rattle.code.specs.Rates.{known-bounds}
 use Rattle.book.specs.Closing.{reportLength}
+use Rattle.chase.specs.Laws.{nearest-call}
 use Rattle.decoding.proofs.Answered.{list-few, tests-few, answered-none, decoded-near}
 use borrow.Author.Needs.{needs}
 use Rattle.decoding.proofs.decode.Statement.{statement}
@@ -28,7 +29,7 @@ enum-told c = search needs
 
 returns : tie.Need-returns
 returns c =
-    answered-none _ _ _ _ (c .before .before .nearest .ensures .asked (c .before .before .before .before .before .before .pre .asked)) _ _ (c .enum-told .given .1)
+    answered-none _ _ _ _ (nearest-call _ _ _ _ _ (c .before .before .nearest .ensures) .asked (c .before .before .before .before .before .before .pre .asked)) _ _ (c .enum-told .given .1)
 
 slice-aggregate-copy : tie.Need-slice-aggregate-copy
 slice-aggregate-copy c = search needs
@@ -51,7 +52,7 @@ changed-requires c κs = search needs
 cast-report : tie.Need-cast-report
 cast-report c =
     let asked = c .before .before .before .before .before .before .before .before .before .before .before .before .before .before .before .before .before .before .before .pre .asked in
-    omega (arith, tests-few _ _ _ _ (c .before .before .before .before .before .before .before .before .before .before .before .before .before .before .before .nearest .ensures .asked asked) (list-few asked))
+    omega (arith, tests-few _ _ _ _ (nearest-call _ _ _ _ _ (c .before .before .before .before .before .before .before .before .before .before .before .before .before .before .before .nearest .ensures) .asked asked) (list-few asked))
 
 report-requires : tie.Need-report-requires
 report-requires c κs = search needs
@@ -71,7 +72,7 @@ same-length-2 c = search needs
 returns-2 : tie.Need-returns-2
 returns-2 c =
     let given = c .before .before .before .before .before .before .before .before .before .before .before .before .before .before .before .before .before .before .before .before .before .before .before .before .before .pre in
-    let near = c .before .before .before .before .before .before .before .before .before .before .before .before .before .before .before .before .before .before .before .before .before .nearest .ensures in
+    let near = nearest-call _ _ _ _ _ (c .before .before .before .before .before .before .before .before .before .before .before .before .before .before .before .before .before .before .before .before .before .nearest .ensures) in
     let answer = c .before .before .before .before .before .before .before .before .before .before .before .before .before .before .before .before .before .before .before .answer .given .1 in
     decoded-near _ _ _ _ (near .asked (given .asked)) _ _ answer (given .message-long) (found-room (c .before .before .before .before .before .before .before .before .before .before .before .before .before .before .before .before .before .before .before .before .before)) (known-bounds _ (given .asked .known) .1)
     (c .before .before .before .before .before .before .before .before .before .before .before .before .before .before .copy .ensures) (near .encoded _ answer) (c .before .before .before .before .before .before .before .before .before .pinned .ensures) (c .before .before .before .before .before .before .before .changed .ensures) (c .before .before .before .before .before .report .ensures)

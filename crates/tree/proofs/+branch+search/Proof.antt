@@ -5,8 +5,10 @@ use native.Mathlib.Omega.{arith}
 use lib.ListN.{length}
 use Rattle.basis.specs.Choice.{leadAt}
 use Rattle.soft.specs.Column.{bestOf, secondOf}
-use Rattle.answers.specs.Answered.{sound-none, sound-one}
-use Rattle.known.specs.Governing.{sound-below, later-one}
+use Rattle.answers.specs.Answered.{Sound, sound-nothing}
+use Rattle.answers.specs.Better.{sound-better}
+use Rattle.known.specs.Governing.{sound-below, sound-later}
+use Rattle.tree.specs.Searching.{SearchOf, BranchOf}
 use Rattle.candidate.specs.Ranged.{limit-small}
 use Rattle.tree.proofs.Descending.{branch-known, branch-node, node-spent, node-leaf, node-branch}
 use Rattle.known.specs.Left.{tests-fit, none-left, some-left}
@@ -114,8 +116,8 @@ branch-below-requires t c κs = search needs
 branch-returns : (t : ℕ) → branch-lts.Need-returns (branch-claims t) (branch-at t) branch.Post
 branch-returns t c =
     let h = c .before .before .before .before .before .before .pre .1 in (
-      branch-known (h .0) _ _ _ _ _ _ _ _ (branch-lengths t (c .before .before .before .before .before .before)) _ _ _ _ (h .4) (c .before .before .before .before .governs .ensures) (c .before .before .before .if1 .taken) (c .before .tests-within .ensures) (c .below .ensures),
-      sound-below (h .4) (c .below .ensures),
+      subst (BranchOf _ _ _ _ _ _ _ _ _) (sym (c .below .ensures)) (branch-known (h .0) _ _ _ _ _ _ _ _ (branch-lengths t (c .before .before .before .before .before .before)) _ _ _ (h .4) (c .before .before .before .before .governs .ensures) (c .before .before .before .if1 .taken) (c .before .tests-within .ensures)),
+      subst (Sound _ _) (sym (c .below .ensures)) (sound-below (h .4) _),
     )
 
 branch-largest-key-requires : (t : ℕ) → branch-lts.Need-largest-key-requires (branch-claims t) (branch-at t) branch.Post
@@ -158,8 +160,8 @@ search-none-near-requires t c κs = search needs
 search-returns : (t : ℕ) → search-lts.Need-returns (search-claims t) (search-at t) search′.Post
 unfolding leadAt
 search-returns t c = (
-  node-spent (c .before .before .before .before .before .pre .1 .0) _ _ _ _ _ _ _ (c .before .before .before .largest-key .ensures) _ (c .before .before .least .ensures) _ (c .none-near .ensures .0) (c .none-near .ensures .1) (c .before .if1 .taken),
-  sound-none _ (c .none-near .ensures .0),
+  subst (SearchOf _ _ _ _ _ _ _) (sym (c .none-near .ensures)) (node-spent (c .before .before .before .before .before .pre .1 .0) _ _ _ _ _ _ _ (c .before .before .before .largest-key .ensures) _ (c .before .before .least .ensures) (c .before .if1 .taken)),
+  subst (Sound _ _) (sym (c .none-near .ensures)) sound-nothing,
 )
 
 search-mul-leaf : (t : ℕ) → search-lts.Need-mul-leaf (search-claims t) (search-at t) search′.Post
@@ -213,7 +215,7 @@ search-later-requires t c κs = search needs
 search-branch-requires-2 : (t : ℕ) → search-lts.Need-branch-requires-2 (search-claims t) (search-at t) search′.Post
 search-branch-requires-2 t c κs =
     let h = c .before .before .before .before .before .before .before .before .before .before .pre in
-    (omega (arith, h .0, c .before .before .before .before .before .if2 .left), (h .1 .0, h .1 .1, omega (arith, h .1 .2), search needs, sound-one (c .before .branch .ensures .1) (h .1 .3) (later-one _ _ _ (c .later .ensures))))
+    (omega (arith, h .0, c .before .before .before .before .before .if2 .left), (h .1 .0, h .1 .1, omega (arith, h .1 .2), search needs, subst (Sound _ _) (sym (c .later .ensures)) (sound-later (h .1 .3) (c .before .branch .ensures .1))))
 
 search-better-requires : (t : ℕ) → search-lts.Need-better-requires (search-claims t) (search-at t) search′.Post
 search-better-requires t c κs =
@@ -223,9 +225,9 @@ search-better-requires t c κs =
 search-returns-3 : (t : ℕ) → search-lts.Need-returns-3 (search-claims t) (search-at t) search′.Post
 search-returns-3 t c =
     let h = c .before .before .before .before .before .before .before .before .before .before .before .before .pre .1 in (
-      node-branch _ _ _ (search-lengths t (c .before .before .before .before .before .before .before .before .before .before .before .before)) (h .1) (h .2) (some-left _ (c .before .before .before .before .before .before .before .if2 .left)) _ _ _ _ refl _ _
-          (c .before .before .before .before .before .best .ensures ∙ ap bestOf (c .before .before .before .before .before .before .column-of .ensures)) (c .before .before .before .before .second .ensures ∙ ap secondOf (c .before .before .before .before .before .before .column-of .ensures)) _ _ _ _ _ (c .before .before .before .branch .ensures .0) (c .before .branch2 .ensures .0) (c .better .ensures .0),
-      sound-one (c .before .before .before .branch .ensures .1) (c .before .branch2 .ensures .1) (c .better .ensures .1),
+      subst (SearchOf _ _ _ _ _ _ _) (sym (c .better .ensures)) (node-branch _ _ _ (search-lengths t (c .before .before .before .before .before .before .before .before .before .before .before .before)) (h .1) (h .2) (some-left _ (c .before .before .before .before .before .before .before .if2 .left)) _ _ _ _ refl _ _
+          (c .before .before .before .before .before .best .ensures ∙ ap bestOf (c .before .before .before .before .before .before .column-of .ensures)) (c .before .before .before .before .second .ensures ∙ ap secondOf (c .before .before .before .before .before .before .column-of .ensures)) _ _ _ _ (c .before .before .before .branch .ensures .0) (c .before .branch2 .ensures .0)),
+      subst (Sound _ _) (sym (c .better .ensures)) (sound-better (c .before .before .before .branch .ensures .1) (c .before .branch2 .ensures .1)),
     )
 
 pub +branch+search-spec : {M : Type 1} → statement M

@@ -1,5 +1,7 @@
 -- The candidate is checked: within T of the word it is the answer, and otherwise no codeword is.
-use Rattle.answers.specs.Answered.{sound-none}
+use mathlib.Core.Path.{sym, subst}
+use Rattle.answers.specs.Answered.{Sound, sound-nothing}
+use Rattle.tree.specs.Searching.{LeafOf}
 use Rattle.tree.proofs.Leaves.{leaf-none, leaf-some, leaf-sound}
 use borrow.Author.Needs.{needs}
 use Rattle.tree.proofs.leaf.Statement.{statement}
@@ -21,8 +23,8 @@ returns : tie.Need-returns
 returns c =
     let h = c .before .before .before .before .before .before .before .before .pre in
     let held = c .before .before .before .before .before .before .candidate-of .ensures in (
-      leaf-none h _ _ _ _ held _ (c .before .before .distance .ensures) _ (c .before .before .before .reach .ensures) _ (c .none-near .ensures .0) (c .none-near .ensures .1) (c .before .if1 .taken),
-      sound-none _ (c .none-near .ensures .0),
+      subst (LeafOf _ _ _ _) (sym (c .none-near .ensures)) (leaf-none h _ _ _ _ held _ (c .before .before .distance .ensures) _ (c .before .before .before .reach .ensures) (c .before .if1 .taken)),
+      subst (Sound _ _) (sym (c .none-near .ensures)) sound-nothing,
     )
 
 cost-requires : tie.Need-cost-requires

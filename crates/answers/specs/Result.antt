@@ -1,0 +1,57 @@
+-- Document 01's number and values for each case of the answer, and what a search returns.
+--
+--   Result                     0 or the refusal's number, the message and its total
+--   refusedResult n            refused with the number n: no message, and zero in the other number
+--   resultIn k answer message  the result of an answer with the message beside it: 9 where none is near; else 0, the first k symbols, the total
+--   resultOf k columns tests   the result of a list of test words: 9 if no codeword is near; else 0, the answer's message and its total cost
+--   nothingFound               none near, and zeros beside it
+--   foundOf k columns tests    the answer with its total, its message with zeros behind it, its codeword, and how many test words have a codeword
+--                              within T; or nothing found
+--   found-same                 two findings are equal by their parts
+use mathlib.Core.Path.{_≡_}
+use mathlib.Core.List.{List, []}
+use mathlib.Core.Option.{Option, none, some}
+use Prim.Native.Nat.{ℕ}
+use lib.ListN.{take, replicate}
+use Rattle.refusals.specs.Refusal.{accepted, noneNear}
+use Rattle.lists.specs.Padded.{padded}
+use Rattle.code.specs.Encoding.{encodeOf}
+use Rattle.near.specs.Near.{testsNear, messageCost, answerOf}
+use Rattle.answers.specs.declared.Answer.{Answer}
+use Rattle.answers.specs.declared.Answer.the-variants.{NoneNear, Near}
+use Rattle.answers.specs.declared.Found.{Found}
+
+pub record Result : Type 0 where
+  pub number : ℕ
+  pub message : List ℕ
+  pub total : ℕ
+
+unfoldable pub refusedResult : ℕ → Result
+refusedResult n = record { number = n; message = []; total = 0 }
+
+unfoldable pub resultIn : ℕ → Answer → List ℕ → Result
+resultIn k NoneNear message = refusedResult noneNear
+resultIn k (Near t) message = record { number = accepted; message = take k message; total = t }
+
+-- by the answer's message, if there is one
+unfoldable pub resultFor : ℕ → (ℕ → List ℕ) → Option (List ℕ) → Result
+resultFor k columns none = refusedResult noneNear
+resultFor k columns (some m) = record { number = accepted; message = m; total = messageCost k columns m }
+
+unfoldable pub resultOf : ℕ → (ℕ → List ℕ) → List (List ℕ) → Result
+resultOf k columns tests = resultFor k columns (answerOf k columns tests)
+
+unfoldable pub nothingFound : Found
+nothingFound = record { answer = NoneNear; message = replicate 49 0; codeword = replicate 64 0; tests = 0 }
+
+-- by the answer's message, if there is one
+unfoldable pub foundFor : ℕ → (ℕ → List ℕ) → ℕ → Option (List ℕ) → Found
+foundFor k columns tests none = nothingFound
+foundFor k columns tests (some m) =
+    record { answer = Near (messageCost k columns m); message = padded 49 m; codeword = encodeOf k m; tests = tests }
+
+unfoldable pub foundOf : ℕ → (ℕ → List ℕ) → List (List ℕ) → Found
+foundOf k columns tests = foundFor k columns (testsNear k tests) (answerOf k columns tests)
+
+pub found-same : (f g : Found) → f .answer ≡ g .answer → f .message ≡ g .message → f .codeword ≡ g .codeword → f .tests ≡ g .tests → f ≡ g
+found-same f g a m c n = λ i. record { answer = a i; message = m i; codeword = c i; tests = n i }
