@@ -23,7 +23,7 @@ same-length-2 : tie.Need-same-length-2
 same-length-2 c = search needs
 
 returns : tie.Need-returns
-returns c = leaves-step (c .before .before .before .before .before .before .before .before .before .before .step .ensures)
+returns c = search (needs, leaves-step)
 
 pub make-spec : {M : Type 1} → statement M
 make-spec = tie.close (tie.spec step-requires write-byte-requires write-requires write-requires-2 same-length same-length-2 returns)
