@@ -14,7 +14,7 @@ use native.Mathlib.Decide.{decLt}
 use lib.ListN.{take}
 use Rattle.lists.specs.Distinct.{among, below-among}
 use Rattle.lists.specs.Block.{block}
-use Rattle.book.specs.Book.{places, width, Book, columnOf}
+use Rattle.book.specs.Book.{places, width, Book, columnIn}
 use Rattle.book.specs.Columns.{column-free}
 use Rattle.book.specs.Writing.{Filled}
 use Rattle.book.specs.Closing.{Closed}
@@ -39,7 +39,7 @@ pub record SameHeld (s t : Session) : Type 0 where
   pub same-taken : (p : ℕ) → p < places → among p (take (s .taken) (s .arrival)) ≡ among p (take (t .taken) (t .arrival))
   pub same-columns : (p : ℕ) → p < places → among p (take (s .taken) (s .arrival)) ≡ true → block width p (s .costs) ≡ block width p (t .costs)
 
-free : (s : Session) → Good s → (p : ℕ) → among p (take (s .taken) (s .arrival)) ≡ false → columnOf (bookOf s .row) p ≡ none
+free : (s : Session) → Good s → (p : ℕ) → among p (take (s .taken) (s .arrival)) ≡ false → columnIn (bookOf s .row) p ≡ none
 free s good p e = column-free (bookOf s .row) p (book-taken s good p ∙ e)
 
 -- a place above 63 did not arrive
@@ -60,7 +60,7 @@ held-agree {s} {t} a b same =
     }
   where
     go : (p : ℕ) → Dec (p < places) → (x : Bool) → among p (take (s .taken) (s .arrival)) ≡ x
-        → columnOf (bookOf s .row) p ≡ columnOf (bookOf t .row) p
+        → columnIn (bookOf s .row) p ≡ columnIn (bookOf t .row) p
     go p (yes h) true e =
         column-there s a p e ∙ ap some (same .same-columns p h e) ∙ sym (column-there t b p (sym (same .same-taken p h) ∙ e))
     go p (yes h) false e = free s a p e ∙ sym (free t b p (sym (same .same-taken p h) ∙ e))

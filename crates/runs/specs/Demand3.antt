@@ -23,12 +23,13 @@ use Rattle.book.specs.OpeningLaws.{Rate, DoubtfulList}
 use Rattle.book.specs.Calls.{Call, deliver, closing, Answer, firstLent, secondLent, answer, after, answers, afterAll}
 use Rattle.book.specs.Sentences as sentences
 use Rattle.book.specs.Sentences.{IsNear, IsAnswer, Closes}
+use Rattle.book.specs.Costs.{AllFit}
 use Rattle.session.specs.declared.Session.{Session}
 use Rattle.session.specs.declared.Opened.{Opened}
 use Rattle.session.specs.View.{bookOf, Good}
 use Rattle.session.specs.Calls.{Opening}
 use Rattle.runs.specs.Step.{Step}
-use Rattle.runs.specs.Runs.{Run, AllFit}
+use Rattle.runs.specs.Runs.{Run}
 use Rattle.runs.specs.Follows.{closedBy, Start, opening-accepted, start-follows, CaptureStarts, capture-starts}
 use Rattle.runs.specs.Alike as agreeing
 use Rattle.runs.specs.Alike.{Reached, SameHeld, Alike}

@@ -24,12 +24,13 @@ use Rattle.book.specs.Closing.{reportLength, Closed}
 use Rattle.book.specs.OpeningLaws.{Rate, DoubtfulList}
 use Rattle.book.specs.Calls.{Call, closing, Answer, answer, answers, afterAll}
 use Rattle.book.specs.Sentences.{opening-accepts, opening-only, Closes, closes, rate-held, deliveries, capture-opens}
+use Rattle.book.specs.Costs.{AllFit}
 use Rattle.session.specs.declared.Session.{Session}
 use Rattle.session.specs.declared.Opened.{Opened}
 use Rattle.session.specs.View.{bookOf, Good}
 use Rattle.session.specs.Calls.{Opening}
 use Rattle.runs.specs.Step.{Step}
-use Rattle.runs.specs.Runs.{Run, every-run, run-good, run-book, one-end, AllFit, some-run}
+use Rattle.runs.specs.Runs.{Run, every-run, run-good, run-book, one-end, some-run}
 
 abbrev pub closedBy : Answer → Closed
 closedBy a = record { number = a .number; message = a .first; report = a .second }

@@ -6,3 +6,4 @@ pub mod Alike
 pub mod Demand3
 pub mod Repaired
 pub mod Tabled
+pub mod Shown

@@ -4,8 +4,7 @@
 --   every-run            from a good session the answers of every run are the book's
 --   run-good, run-book   the session left is good, and its book is the book after the calls
 --   one-end              so the calls determine the session left
---   Fits call            what the types say of a call's arguments: a column has sixteen costs (each is below 65536, which nothing here asks)
---   some-step, some-run  every such call, and every list of them, can be made on every good session: the theorems are not empty
+--   some-step, some-run  every call whose column is one, and every list of them, can be made on every good session: the theorems are not empty
 --
 -- A run is made of steps, and `step` is the function that makes them: its contract says that every call it makes is one (Stepping). It is proved from
 -- the contracts of `session::deliver`, `reading::read_interpolant`, `writing::write_capture` and `closing::close`.
@@ -26,6 +25,7 @@ use Rattle.book.specs.RoundTrip.{capture-length, write-size, write-missing, wri
 use Rattle.book.specs.ClosingLaws.{close-sized}
 use Rattle.book.specs.Calls.{Call, deliver, reading, writing, closing, Answer, firstLent, secondLent, answer, after, answers, afterAll}
 use Rattle.book.specs.Sentences.{refused-lent}
+use Rattle.book.specs.Costs.{Fits, AllFit, fit-nil, fit-cons}
 use Rattle.session.specs.declared.Session.{Session}
 use Rattle.session.specs.declared.Delivered.{Delivered}
 use Rattle.session.specs.View.{bookOf, Good}
@@ -58,16 +58,6 @@ pub one-end : {s t u : Session} {calls : List Call} {given other : List Answer} 
 one-end {s} {t} {u} good a b = one-session t u (run-good a good) (run-good b good) (run-book a good ∙ sym (run-book b good))
 
 -- ---- every list of calls has a run
-
-abbrev pub Fits : Call → Type 0
-Fits (deliver p column) = length column ≡ width
-Fits (reading out) = Unit
-Fits (writing out) = Unit
-Fits (closing message report) = Unit
-
-pub data AllFit : List Call → Type 0 where
-  fit-nil : AllFit []
-  fit-cons : {call : Call} {calls : List Call} → Fits call → AllFit calls → AllFit (call ∷ calls)
 
 some-delivery : (s : Session) (p : ℕ) (column : List ℕ) → Good s → length column ≡ width → (r : Delivered) × Delivery s p column r
 some-delivery s p column good long = go (decLt p places) (among p (take (s .taken) (s .arrival))) refl (decLt (s .taken) places)
@@ -105,7 +95,7 @@ some-kept s call good same =
 
 pub some-step : (s : Session) (call : Call) → Good s → Fits call → (a : Answer) × (t : Session) × Step s call a t
 unfolding after
-some-step s (deliver p column) good long = let d = some-delivery s p column good long in (_, d .0 .session, delivery-step (d .1))
+some-step s (deliver p column) good fits = let d = some-delivery s p column good (fits .sixteen) in (_, d .0 .session, delivery-step (d .1))
 some-step s (reading out) good u = (_, s, some-kept s (reading out) good refl)
 some-step s (writing out) good u = (_, s, some-kept s (writing out) good refl)
 some-step s (closing message report) good u = (_, s, some-kept s (closing message report) good refl)

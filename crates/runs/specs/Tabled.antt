@@ -20,7 +20,7 @@ use borrow.Author.Tests.{eqb-true, eq-eqb}
 use Rattle.refusals.specs.Refusal.{accepted}
 use Rattle.lists.specs.Distinct.{among, below-among}
 use Rattle.soft.specs.Doubt.{mostDoubt}
-use Rattle.book.specs.Book.{places, Entry, Book, newBook, columnOf, present, taken, Outcome}
+use Rattle.book.specs.Book.{places, Entry, Book, newBook, columnIn, present, taken, Outcome}
 use Rattle.book.specs.Opening.{openOf}
 use Rattle.book.specs.Delivery.{withEntry}
 use Rattle.book.specs.Columns.{column-free, none-free}
@@ -40,10 +40,10 @@ use Rattle.runs.specs.Runs.{Run}
 use Rattle.runs.specs.Follows.{closedBy, Follows, by-opening, opening-accepted, start-follows}
 
 abbrev pub HoldsTable : List ℕ → List Entry → Type 0
-HoldsTable table row = (p : ℕ) → p < places → columnOf row p ≡ some (tableColumns table p)
+HoldsTable table row = (p : ℕ) → p < places → columnIn row p ≡ some (tableColumns table p)
 
 -- the row of a proper book has no place above 63
-none-above : (book : Book) → Proper book → (p : ℕ) → places ≤ p → columnOf (book .row) p ≡ none
+none-above : (book : Book) → Proper book → (p : ℕ) → places ≤ p → columnIn (book .row) p ≡ none
 none-above book proper p h = column-free (book .row) p (taken-among (book .row) p ∙ go (among p (placesOf (book .row))) refl)
   where
     go : (b : Bool) → among p (placesOf (book .row)) ≡ b → among p (placesOf (book .row)) ≡ false
@@ -64,65 +64,65 @@ new-list rate list = refl
 
 -- ---- the columns that a list of calls brings
 
-one-entry : (q : ℕ) (column : List ℕ) (p : ℕ) → columnOf (record { place = q; column = column } ∷ []) p ≡ cond (eqb q p) (some column) none
-unfolding columnOf
+one-entry : (q : ℕ) (column : List ℕ) (p : ℕ) → columnIn (record { place = q; column = column } ∷ []) p ≡ cond (eqb q p) (some column) none
+unfolding columnIn
 one-entry q column p = refl
 
 entry-column : (book : Book) (q : ℕ) (column : List ℕ) (p : ℕ)
-    → columnOf (withEntry book q column .row) p ≡ cond (taken (book .row) p) (columnOf (book .row) p) (cond (eqb q p) (some column) none)
+    → columnIn (withEntry book q column .row) p ≡ cond (taken (book .row) p) (columnIn (book .row) p) (cond (eqb q p) (some column) none)
 unfolding withEntry
 entry-column book q column p =
     column-append (book .row) (record { place = q; column = column } ∷ []) p
-    ∙ ap (λ (o : Option (List ℕ)). cond (taken (book .row) p) (columnOf (book .row) p) o) (one-entry q column p)
+    ∙ ap (λ (o : Option (List ℕ)). cond (taken (book .row) p) (columnIn (book .row) p) o) (one-entry q column p)
 
 -- where a place has no column yet, the column is the last entry's, if that entry is the place's
-entry-free : (book : Book) (q : ℕ) (column : List ℕ) (p : ℕ) → columnOf (book .row) p ≡ none
-    → columnOf (withEntry book q column .row) p ≡ cond (eqb q p) (some column) none
+entry-free : (book : Book) (q : ℕ) (column : List ℕ) (p : ℕ) → columnIn (book .row) p ≡ none
+    → columnIn (withEntry book q column .row) p ≡ cond (eqb q p) (some column) none
 entry-free book q column p e =
     entry-column book q column p
-    ∙ ap (λ b. cond b (columnOf (book .row) p) (cond (eqb q p) (some column) none)) (none-free (book .row) p e)
+    ∙ ap (λ b. cond b (columnIn (book .row) p) (cond (eqb q p) (some column) none)) (none-free (book .row) p e)
 
 module _ (p : ℕ) (book : Book) (call : Call) where
-  column-kept : {column : List ℕ} → columnOf (book .row) p ≡ some column → columnOf (after book call .row) p ≡ some column
+  column-kept : {column : List ℕ} → columnIn (book .row) p ≡ some column → columnIn (after book call .row) p ≡ some column
   unfolding taken
   column-kept {column} e = go (only-delivery book call)
     where
       go : (after book call ≡ book)
           ⊎ ((q : ℕ) × (c : List ℕ) × (call ≡ deliver q c) × (answer book call .number ≡ accepted) × (after book call ≡ withEntry book q c))
-          → columnOf (after book call .row) p ≡ some column
-      go (inl same) = ap (λ (b : Book). columnOf (b .row) p) same ∙ e
+          → columnIn (after book call .row) p ≡ some column
+      go (inl same) = ap (λ (b : Book). columnIn (b .row) p) same ∙ e
       go (inr (q, c, f, n, w)) =
-          ap (λ (b : Book). columnOf (b .row) p) w ∙ entry-column book q c p
+          ap (λ (b : Book). columnIn (b .row) p) w ∙ entry-column book q c p
           ∙ ap (λ (o : Option (List ℕ)). cond (present o) o (cond (eqb q p) (some c) none)) e
 
-  column-new : columnOf (book .row) p ≡ none
-      → (columnOf (after book call .row) p ≡ none) ⊎ ((c : List ℕ) × (deliver p c ≡ call) × (columnOf (after book call .row) p ≡ some c))
+  column-new : columnIn (book .row) p ≡ none
+      → (columnIn (after book call .row) p ≡ none) ⊎ ((c : List ℕ) × (deliver p c ≡ call) × (columnIn (after book call .row) p ≡ some c))
   column-new e = go (only-delivery book call)
     where
       Met : Type 0
-      Met = (columnOf (after book call .row) p ≡ none) ⊎ ((c : List ℕ) × (deliver p c ≡ call) × (columnOf (after book call .row) p ≡ some c))
+      Met = (columnIn (after book call .row) p ≡ none) ⊎ ((c : List ℕ) × (deliver p c ≡ call) × (columnIn (after book call .row) p ≡ some c))
 
       entered : (q : ℕ) (c : List ℕ) → call ≡ deliver q c → after book call ≡ withEntry book q c → (b : Bool) → eqb q p ≡ b → Met
       entered q c f w b t =
-          let g : columnOf (after book call .row) p ≡ cond b (some c) none =
-          ap (λ (x : Book). columnOf (x .row) p) w ∙ entry-free book q c p e ∙ ap (λ x. cond x (some c) none) t in
+          let g : columnIn (after book call .row) p ≡ cond b (some c) none =
+          ap (λ (x : Book). columnIn (x .row) p) w ∙ entry-free book q c p e ∙ ap (λ x. cond x (some c) none) t in
           pick b t g
         where
-          pick : (b : Bool) → eqb q p ≡ b → columnOf (after book call .row) p ≡ cond b (some c) none → Met
+          pick : (b : Bool) → eqb q p ≡ b → columnIn (after book call .row) p ≡ cond b (some c) none → Met
           pick true t g = inr (c, ap (λ x. deliver x c) (sym (eqb-true q p t)) ∙ sym f, g)
           pick false t g = inl g
 
       go : (after book call ≡ book)
           ⊎ ((q : ℕ) × (c : List ℕ) × (call ≡ deliver q c) × (answer book call .number ≡ accepted) × (after book call ≡ withEntry book q c)) → Met
-      go (inl same) = inl (ap (λ (b : Book). columnOf (b .row) p) same ∙ e)
+      go (inl same) = inl (ap (λ (b : Book). columnIn (b .row) p) same ∙ e)
       go (inr (q, c, f, n, w)) = entered q c f w (eqb q p) refl
 
 -- a place that has no column gets the one that is delivered
-column-got : (p : ℕ) → p < places → (book : Book) (column : List ℕ) → columnOf (book .row) p ≡ none
-    → columnOf (after book (deliver p column) .row) p ≡ some column
+column-got : (p : ℕ) → p < places → (book : Book) (column : List ℕ) → columnIn (book .row) p ≡ none
+    → columnIn (after book (deliver p column) .row) p ≡ some column
 unfolding after
 column-got p h book column e =
-    ap (λ (o : Outcome). columnOf (o .book .row) p) (deliver-accepted book p column h (none-free (book .row) p e))
+    ap (λ (o : Outcome). columnIn (o .book .row) p) (deliver-accepted book p column h (none-free (book .row) p e))
     ∙ entry-free book p column p e ∙ ap (λ b. cond b (some column) none) (eq-eqb p p refl)
 
 pub record BringsTable (table : List ℕ) (calls : List Call) : Type 0 where
@@ -131,8 +131,8 @@ pub record BringsTable (table : List ℕ) (calls : List Call) : Type 0 where
 
 module _ (p : ℕ) (h : p < places) (wanted : List ℕ) where
   brought : (book : Book) (calls : List Call) → ((column : List ℕ) → List·Memᴰ (deliver p column) calls → column ≡ wanted)
-      → (columnOf (book .row) p ≡ some wanted) ⊎ ((columnOf (book .row) p ≡ none) × (column : List ℕ) × List·Memᴰ (deliver p column) calls)
-      → columnOf (afterAll book calls .row) p ≡ some wanted
+      → (columnIn (book .row) p ≡ some wanted) ⊎ ((columnIn (book .row) p ≡ none) × (column : List ℕ) × List·Memᴰ (deliver p column) calls)
+      → columnIn (afterAll book calls .row) p ≡ some wanted
   unfolding afterAll
   brought book [] only (inl e) = e
   brought book [] only (inr (e, column, m)) = absurd (List·Memᴰ·not-nil m)
@@ -141,14 +141,14 @@ module _ (p : ℕ) (h : p < places) (wanted : List ℕ) where
   brought book (call ∷ calls) only (inr (e, column, m)) =
       brought (after book call) calls (λ c l. only c (List·Memᴰ·tail l)) (turn (column-new p book call e) (List·Memᴰ·cases-cons m))
     where
-      turn : (columnOf (after book call .row) p ≡ none) ⊎ ((c : List ℕ) × (deliver p c ≡ call) × (columnOf (after book call .row) p ≡ some c))
+      turn : (columnIn (after book call .row) p ≡ none) ⊎ ((c : List ℕ) × (deliver p c ≡ call) × (columnIn (after book call .row) p ≡ some c))
           → (deliver p column ≡ call) ⊎ List·Memᴰ (deliver p column) calls
-          → (columnOf (after book call .row) p ≡ some wanted)
-          ⊎ ((columnOf (after book call .row) p ≡ none) × (c : List ℕ) × List·Memᴰ (deliver p c) calls)
+          → (columnIn (after book call .row) p ≡ some wanted)
+          ⊎ ((columnIn (after book call .row) p ≡ none) × (c : List ℕ) × List·Memᴰ (deliver p c) calls)
       turn (inr (c, q, g)) w = inl (g ∙ ap some (only c (List·Memᴰ·head q)))
       turn (inl g) (inr l) = inr (g, column, l)
       turn (inl g) (inl q) =
-          absurd (Option·none-ne-some column (sym g ∙ ap (λ x. columnOf (after book x .row) p) (sym q) ∙ column-got p h book column e))
+          absurd (Option·none-ne-some column (sym g ∙ ap (λ x. columnIn (after book x .row) p) (sym q) ∙ column-got p h book column e))
 
 pub brings-holds : {table : List ℕ} {calls : List Call} → BringsTable table calls → (rate : ℕ) (list : List ℕ)
     → HoldsTable table (afterAll (newBook rate list) calls .row)
@@ -156,8 +156,8 @@ brings-holds {table} {calls} brings rate list p h =
     let e = brings .every-place p h in
     brought p h (tableColumns table p) (newBook rate list) calls (λ column m. brings .columns p column h m) (inr (empty, e .0, e .1))
   where
-    empty : columnOf (newBook rate list .row) p ≡ none
-    empty = unfold newBook columnOf in refl
+    empty : columnIn (newBook rate list .row) p ≡ none
+    empty = unfold newBook columnIn in refl
 
 -- ---- the claim
 
