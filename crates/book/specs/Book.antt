@@ -1,10 +1,10 @@
 -- The book of a session: what document 01's section of that name says it holds, and which places it has.
 --
---   places, width        64 places; sixteen costs in a column
+--   places, width        the 64 places and the sixteen costs in a column, of `soft` Column
 --   Entry                a place and its column
 --   Book                 the rate and the doubtful list given at opening, and the row of places with their columns, in the order of acceptance
 --   newBook rate list    a book whose row is empty
---   columnOf row p       the column of place p, if p is in the row: the row as a set
+--   columnIn row p       the column of place p, if p is in the row: the row as a set
 --   taken row p          p is in the row
 --   missing row p        p is one of the 64 and is not in the row
 --   someMissing row      a place is missing
@@ -15,12 +15,13 @@ use mathlib.Core.Option.{Option, none, some}
 use Prim.Native.Nat.{ℕ}
 use lib.Dec.{eqb, ltb}
 use Rattle.lists.specs.Every.{every}
+use Rattle.soft.specs.Column as Column
 
 abbrev pub places : ℕ
-places = 64
+places = Column.places
 
 abbrev pub width : ℕ
-width = 16
+width = Column.symbols
 
 pub record Entry : Type 0 where
   pub place : ℕ
@@ -34,16 +35,16 @@ pub record Book : Type 0 where
 unfoldable pub newBook : ℕ → List ℕ → Book
 newBook rate list = record { rate = rate; doubtful = list; row = [] }
 
-unfoldable pub columnOf : List Entry → ℕ → Option (List ℕ)
-columnOf [] p = none
-columnOf (e ∷ row) p = cond (eqb (e .place) p) (some (e .column)) (columnOf row p)
+unfoldable pub columnIn : List Entry → ℕ → Option (List ℕ)
+columnIn [] p = none
+columnIn (e ∷ row) p = cond (eqb (e .place) p) (some (e .column)) (columnIn row p)
 
 abbrev pub present : Option (List ℕ) → Bool
 present none = false
 present (some column) = true
 
 unfoldable pub taken : List Entry → ℕ → Bool
-taken row p = present (columnOf row p)
+taken row p = present (columnIn row p)
 
 unfoldable pub missing : List Entry → ℕ → Bool
 missing row p = ltb p places && not (taken row p)

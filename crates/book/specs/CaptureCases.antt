@@ -190,9 +190,9 @@ pub data RowVerdict : List Entry → List Entry → ℕ → Type 0 where
       → RowVerdict (row ++ (e ∷ [])) entries n → RowVerdict row (e ∷ entries) n
 
 pub data Verdict (bytes : List ℕ) : ℕ → Type 0 where
-  size : sizeFits bytes ≡ false → Verdict bytes wrongLength
+  size-wrong : sizeFits bytes ≡ false → Verdict bytes wrongLength
   version : sizeFits bytes ≡ true → versionFits bytes ≡ false → Verdict bytes wrongVersion
-  length : sizeFits bytes ≡ true → versionFits bytes ≡ true → lengthFits bytes ≡ false → Verdict bytes wrongLength
+  length-wrong : sizeFits bytes ≡ true → versionFits bytes ≡ true → lengthFits bytes ≡ false → Verdict bytes wrongLength
   rate : sizeFits bytes ≡ true → versionFits bytes ≡ true → lengthFits bytes ≡ true → knownRate (rateIn bytes) ≡ false
       → Verdict bytes unknownRate
   list : sizeFits bytes ≡ true → versionFits bytes ≡ true → lengthFits bytes ≡ true → knownRate (rateIn bytes) ≡ true
@@ -228,9 +228,9 @@ verdict bytes =
   where
     go : (a : Bool) → sizeFits bytes ≡ a → (b : Bool) → versionFits bytes ≡ b → (c : Bool) → lengthFits bytes ≡ c
         → (d : Bool) → knownRate (rateIn bytes) ≡ d → (e : Bool) → fitDoubt (listIn bytes) ≡ e → Verdict bytes (openCaptureOf bytes .number)
-    go false s b v c l d r e f = rw (open-size bytes s) (size s)
+    go false s b v c l d r e f = rw (open-size bytes s) (size-wrong s)
     go true s false v c l d r e f = rw (open-version bytes s v) (version s v)
-    go true s true v false l d r e f = rw (open-length bytes s v l) (length s v l)
+    go true s true v false l d r e f = rw (open-length bytes s v l) (length-wrong s v l)
     go true s true v true l false r e f =
         rw (open-checked bytes s v l, open-rate (rateIn bytes) (listIn bytes) (recordsIn bytes) r) (rate s v l r)
     go true s true v true l true r false f =
@@ -241,9 +241,9 @@ verdict bytes =
 
 pub verdict-only : (bytes : List ℕ) (n : ℕ) → Verdict bytes n → openCaptureOf bytes .number ≡ n
 unfolding refusedOpening newBook
-verdict-only bytes n (size s) = rw (open-size bytes s)
+verdict-only bytes n (size-wrong s) = rw (open-size bytes s)
 verdict-only bytes n (version s v) = rw (open-version bytes s v)
-verdict-only bytes n (length s v l) = rw (open-length bytes s v l)
+verdict-only bytes n (length-wrong s v l) = rw (open-length bytes s v l)
 verdict-only bytes n (rate s v l r) = rw (open-checked bytes s v l, open-rate (rateIn bytes) (listIn bytes) (recordsIn bytes) r)
 verdict-only bytes n (list s v l r f) = rw (open-checked bytes s v l, open-list (rateIn bytes) (listIn bytes) (recordsIn bytes) r f)
 verdict-only bytes n (records s v l r f w) =

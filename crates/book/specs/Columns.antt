@@ -13,45 +13,45 @@ use mathlib.Core.Option.{Option, none, some}
 use Prim.Native.Nat.{ℕ}
 use lib.ListN.{replicate}
 use Rattle.lists.specs.Every.{every}
-use Rattle.book.specs.Book.{places, width, Entry, columnOf, present, taken, someMissing}
+use Rattle.book.specs.Book.{places, width, Entry, columnIn, present, taken, someMissing}
 
 abbrev pub orZeros : Option (List ℕ) → List ℕ
 orZeros none = replicate width 0
 orZeros (some column) = column
 
 unfoldable pub columnsOf : List Entry → ℕ → List ℕ
-columnsOf row p = orZeros (columnOf row p)
+columnsOf row p = orZeros (columnIn row p)
 
 module _ (row : List Entry) (p : ℕ) where
-  pub columns-taken : {column : List ℕ} → columnOf row p ≡ some column → columnsOf row p ≡ column
+  pub columns-taken : {column : List ℕ} → columnIn row p ≡ some column → columnsOf row p ≡ column
   unfolding columnsOf
   columns-taken e = ap orZeros e
 
-  pub columns-none : columnOf row p ≡ none → columnsOf row p ≡ replicate width 0
+  pub columns-none : columnIn row p ≡ none → columnsOf row p ≡ replicate width 0
   unfolding columnsOf
   columns-none e = ap orZeros e
 
-  pub column-taken : taken row p ≡ true → columnOf row p ≡ some (columnsOf row p)
+  pub column-taken : taken row p ≡ true → columnIn row p ≡ some (columnsOf row p)
   unfolding taken columnsOf
-  column-taken t = go (columnOf row p) t
+  column-taken t = go (columnIn row p) t
     where
       go : (o : Option (List ℕ)) → present o ≡ true → o ≡ some (orZeros o)
       go none e = absurd (false≢true e)
       go (some column) e = refl
 
-  pub column-free : taken row p ≡ false → columnOf row p ≡ none
+  pub column-free : taken row p ≡ false → columnIn row p ≡ none
   unfolding taken
-  column-free t = go (columnOf row p) t
+  column-free t = go (columnIn row p) t
     where
       go : (o : Option (List ℕ)) → present o ≡ false → o ≡ none
       go none e = refl
       go (some column) e = absurd (true≢false e)
 
-  pub none-free : columnOf row p ≡ none → taken row p ≡ false
+  pub none-free : columnIn row p ≡ none → taken row p ≡ false
   unfolding taken
   none-free e = ap present e
 
-module _ (row other : List Entry) (same : (p : ℕ) → columnOf row p ≡ columnOf other p) where
+module _ (row other : List Entry) (same : (p : ℕ) → columnIn row p ≡ columnIn other p) where
   pub taken-alike : (p : ℕ) → taken row p ≡ taken other p
   unfolding taken
   taken-alike p = ap present (same p)

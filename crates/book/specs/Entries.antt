@@ -15,20 +15,20 @@ use Prim.Native.Nat.{ℕ, _<_}
 use lib.Dec.{eqb, ltb}
 use borrow.Author.Tests.{eqb-true, eqb-false, eq-eqb, ne-eqb, ltb-true, lt-ltb, not-true}
 use Rattle.lists.specs.Distinct.{among, distinct, and-left, and-right, and-both}
-use Rattle.book.specs.Book.{places, Entry, columnOf, taken, missing, someMissing}
+use Rattle.book.specs.Book.{places, Entry, columnIn, taken, missing, someMissing}
 use Rattle.book.specs.Columns.{column-free, none-free}
 use Rattle.book.specs.RowLaws.{placesOf, missing-some, some-missing}
 
-column-nil : (p : ℕ) → columnOf [] p ≡ none
-unfolding columnOf
+column-nil : (p : ℕ) → columnIn [] p ≡ none
+unfolding columnIn
 column-nil p = refl
 
-column-here : (e : Entry) (row : List Entry) (p : ℕ) → e .place ≡ p → columnOf (e ∷ row) p ≡ some (e .column)
-unfolding columnOf
+column-here : (e : Entry) (row : List Entry) (p : ℕ) → e .place ≡ p → columnIn (e ∷ row) p ≡ some (e .column)
+unfolding columnIn
 column-here e row p q = rw (eq-eqb (e .place) p q)
 
-column-later : (e : Entry) (row : List Entry) (p : ℕ) → (e .place ≡ p → ⊥) → columnOf (e ∷ row) p ≡ columnOf row p
-unfolding columnOf
+column-later : (e : Entry) (row : List Entry) (p : ℕ) → (e .place ≡ p → ⊥) → columnIn (e ∷ row) p ≡ columnIn row p
+unfolding columnIn
 column-later e row p q = rw (ne-eqb (e .place) p q)
 
 pub place-among : (e : Entry) (row : List Entry) → List·Memᴰ e row → among (e .place) (placesOf row) ≡ true
@@ -42,7 +42,7 @@ place-among e (x ∷ row) m = go (eqb (x .place) (e .place)) refl (List·Memᴰ�
     go false f (inl q) ih = absurd (eqb-false (x .place) (e .place) f (ap (λ (y : Entry). y .place) (sym q)))
     go false f (inr l) ih = ih l
 
-pub entry-column : (e : Entry) (row : List Entry) → distinct (placesOf row) ≡ true → List·Memᴰ e row → columnOf row (e .place) ≡ some (e .column)
+pub entry-column : (e : Entry) (row : List Entry) → distinct (placesOf row) ≡ true → List·Memᴰ e row → columnIn row (e .place) ≡ some (e .column)
 unfolding placesOf distinct
 entry-column e [] d m = absurd (List·Memᴰ·not-nil m)
 entry-column e (x ∷ row) d m = go (List·Memᴰ·cases-cons m) (entry-column e row (and-right (not (among (x .place) (placesOf row))) (distinct (placesOf row)) d))
@@ -50,20 +50,20 @@ entry-column e (x ∷ row) d m = go (List·Memᴰ·cases-cons m) (entry-column e
     fresh : among (x .place) (placesOf row) ≡ false
     fresh = not-true (among (x .place) (placesOf row)) (and-left (not (among (x .place) (placesOf row))) (distinct (placesOf row)) d)
 
-    go : (e ≡ x) ⊎ List·Memᴰ e row → (List·Memᴰ e row → columnOf row (e .place) ≡ some (e .column)) → columnOf (x ∷ row) (e .place) ≡ some (e .column)
+    go : (e ≡ x) ⊎ List·Memᴰ e row → (List·Memᴰ e row → columnIn row (e .place) ≡ some (e .column)) → columnIn (x ∷ row) (e .place) ≡ some (e .column)
     go (inl q) ih = column-here x row (e .place) (ap (λ (y : Entry). y .place) (sym q)) ∙ ap (λ (y : Entry). some (y .column)) (sym q)
     go (inr l) ih =
         column-later x row (e .place)
         (λ q. true≢false (sym (place-among e row l) ∙ ap (λ p. among p (placesOf row)) (sym q) ∙ fresh))
         ∙ ih l
 
-pub column-entry : (row : List Entry) (p : ℕ) {column : List ℕ} → columnOf row p ≡ some column
+pub column-entry : (row : List Entry) (p : ℕ) {column : List ℕ} → columnIn row p ≡ some column
     → (e : Entry) × List·Memᴰ e row × (e .place ≡ p) × (e .column ≡ column)
 column-entry [] p {column} c = absurd (Option·none-ne-some column (sym (column-nil p) ∙ c))
 column-entry (x ∷ row) p {column} c = go (eqb (x .place) p) refl (λ f. column-entry row p f)
   where
     go : (b : Bool) → eqb (x .place) p ≡ b
-        → (columnOf row p ≡ some column → (e : Entry) × List·Memᴰ e row × (e .place ≡ p) × (e .column ≡ column))
+        → (columnIn row p ≡ some column → (e : Entry) × List·Memᴰ e row × (e .place ≡ p) × (e .column ≡ column))
         → (e : Entry) × List·Memᴰ e (x ∷ row) × (e .place ≡ p) × (e .column ≡ column)
     go true f ih =
         let q : x .place ≡ p = eqb-true (x .place) p f in
@@ -78,15 +78,15 @@ pub record Missing (row : List Entry) (p : ℕ) : Type 0 where
   pub one-of-them : p < places
   pub absent : (e : Entry) → List·Memᴰ e row → e .place ≢ p
 
-pub absent-none : (row : List Entry) (p : ℕ) → ((e : Entry) → List·Memᴰ e row → e .place ≢ p) → columnOf row p ≡ none
+pub absent-none : (row : List Entry) (p : ℕ) → ((e : Entry) → List·Memᴰ e row → e .place ≢ p) → columnIn row p ≡ none
 absent-none [] p f = column-nil p
 absent-none (x ∷ row) p f = column-later x row p (f x (List·Memᴰ·head refl)) ∙ absent-none row p (λ e m. f e (List·Memᴰ·tail m))
 
-pub none-absent : (row : List Entry) (p : ℕ) → columnOf row p ≡ none → (e : Entry) → List·Memᴰ e row → e .place ≢ p
+pub none-absent : (row : List Entry) (p : ℕ) → columnIn row p ≡ none → (e : Entry) → List·Memᴰ e row → e .place ≢ p
 none-absent [] p c e m q = List·Memᴰ·not-nil m
 none-absent (x ∷ row) p c e m q = go (eqb (x .place) p) refl (List·Memᴰ·cases-cons m) (λ d l. none-absent row p d e l q)
   where
-    go : (b : Bool) → eqb (x .place) p ≡ b → (e ≡ x) ⊎ List·Memᴰ e row → (columnOf row p ≡ none → List·Memᴰ e row → ⊥) → ⊥
+    go : (b : Bool) → eqb (x .place) p ≡ b → (e ≡ x) ⊎ List·Memᴰ e row → (columnIn row p ≡ none → List·Memᴰ e row → ⊥) → ⊥
     go true f d ih = Option·none-ne-some (x .column) (sym c ∙ column-here x row p (eqb-true (x .place) p f))
     go false f (inl r) ih = eqb-false (x .place) p f (ap (λ (y : Entry). y .place) (sym r) ∙ q)
     go false f (inr l) ih = ih (sym (column-later x row p (eqb-false (x .place) p f)) ∙ c) l

@@ -17,7 +17,7 @@ use lib.Seq.{length-take-le, drop-drop}
 use borrow.Author.Tests.{eq-eqb, ne-eqb, lt-ltb, le-ltb}
 use Rattle.refusals.specs.Refusal.{accepted}
 use Rattle.lists.specs.Distinct.{among, below, below-take, below-drop, distinct-all}
-use Rattle.book.specs.Book.{places, width, columnOf, Outcome}
+use Rattle.book.specs.Book.{places, width, columnIn, Outcome}
 use Rattle.book.specs.Capture.{recordLength, captureLength, costBytes, recordsOf}
 use Rattle.soft.specs.Column.{costsFrom}
 use Rattle.book.specs.CaptureOpening.{doubtIn, recordsIn, openCaptureOf}
@@ -29,10 +29,10 @@ use Rattle.book.specs.RoundTrip.{size-range, length-right}
 
 pub record Found (p n : ℕ) (bytes : List ℕ) : Type 0 where
   pub within : recordWith p n bytes < n
-  pub there : columnOf (recordsOf n bytes) p ≡ some (costsFrom width (take 32 (drop (1 + recordLength * recordWith p n bytes) bytes)))
+  pub there : columnIn (recordsOf n bytes) p ≡ some (costsFrom width (take 32 (drop (1 + recordLength * recordWith p n bytes) bytes)))
 
 pub record-found : (p n : ℕ) (bytes : List ℕ) → among p (placesOf (recordsOf n bytes)) ≡ true → Found p n bytes
-unfolding recordWith recordsOf columnOf placesOf among
+unfolding recordWith recordsOf columnIn placesOf among
 record-found p zero bytes a = absurd (false≢true a)
 record-found p (suc n) bytes a = go (eqb (getD bytes 0 0) p) refl a (record-found p n (drop recordLength bytes))
   where
@@ -115,12 +115,12 @@ module _ (bytes : List ℕ) (p : ℕ) (h : p < places) (n : openCaptureOf bytes 
 
   -- the column, if every byte is one
   pub look-up-column : below 256 bytes ≡ true
-      → (column : List ℕ) × (columnOf (openCaptureOf bytes .book .row) p ≡ some column) × (lookUpOf bytes p ≡ costBytes column)
+      → (column : List ℕ) × (columnIn (openCaptureOf bytes .book .row) p ≡ some column) × (lookUpOf bytes p ≡ costBytes column)
   unfolding bookIn records
   look-up-column b =
       let costs : List ℕ = take 32 (drop (1 + recordLength * recordWith p places records) records) in (
         costsFrom width costs,
-        ap (λ (o : Outcome). columnOf (o .book .row) p) (fit .opens) ∙ found .there,
+        ap (λ (o : Outcome). columnIn (o .book .row) p) (fit .opens) ∙ found .there,
         part
             ∙ sym
             (bytes-costs costs (sym (ap length part) ∙ look-up-length)

@@ -12,6 +12,7 @@ use lib.Dec.{leb}
 use lib.ListN.{length}
 use Rattle.lists.specs.Distinct.{below}
 use Rattle.refusals.specs.Refusal.{accepted, unknownRate, wrongDoubt}
+use Rattle.soft.specs.Doubt.{mostDoubt}
 use Rattle.code.specs.Encoding.{knownRate}
 use Rattle.book.specs.Book.{places, newBook, Outcome}
 
@@ -27,7 +28,7 @@ unfoldable pub fitPlaces : List ℕ → Bool
 fitPlaces list = below places list && rising list
 
 unfoldable pub fitDoubt : List ℕ → Bool
-fitDoubt list = leb (length list) 8 && fitPlaces list
+fitDoubt list = leb (length list) mostDoubt && fitPlaces list
 
 unfoldable pub refusedOpening : ℕ → Outcome
 refusedOpening n = record { number = n; book = newBook 39 [] }

@@ -25,7 +25,7 @@ use Rattle.refusals.specs.Refusal.{accepted, noPlace, placeTaken, unknownRate, 
 use Rattle.lists.specs.Every.{every, every-at, every-false, true-T, T-true}
 use Rattle.lists.specs.Distinct.{among, distinct, below, below-append, below-one, below-nil, distinct-nil, distinct-snoc, distinct-every, and-left, and-right, and-both}
 use Rattle.code.specs.Encoding.{knownRate}
-use Rattle.book.specs.Book.{places, width, Entry, Book, newBook, columnOf, present, taken, missing, someMissing}
+use Rattle.book.specs.Book.{places, width, Entry, Book, newBook, columnIn, present, taken, missing, someMissing}
 use Rattle.book.specs.Columns.{orZeros, columnsOf}
 use Rattle.book.specs.Opening.{fitDoubt, refusedOpening, openOf}
 use Rattle.book.specs.Delivery.{withEntry, deliverOf}
@@ -39,11 +39,11 @@ wide [] = true
 wide (e ∷ row) = eqb (length (e .column)) width && wide row
 
 pub columns-wide : (row : List Entry) → wide row ≡ true → (p : ℕ) → length (columnsOf row p) ≡ width
-unfolding columnsOf columnOf wide
+unfolding columnsOf columnIn wide
 columns-wide [] w p = refl
 columns-wide (e ∷ row) w p = go (eqb (e .place) p) (columns-wide row (and-right (eqb (length (e .column)) width) (wide row) w) p)
   where
-    go : (b : Bool) → length (orZeros (columnOf row p)) ≡ width → length (orZeros (cond b (some (e .column)) (columnOf row p))) ≡ width
+    go : (b : Bool) → length (orZeros (columnIn row p)) ≡ width → length (orZeros (cond b (some (e .column)) (columnIn row p))) ≡ width
     go true ih = eqb-true (length (e .column)) width (and-left (eqb (length (e .column)) width) (wide row) w)
     go false ih = ih
 
@@ -77,28 +77,28 @@ wide-append (e ∷ a) b =
     assoc false y z = refl
 
 pub taken-among : (row : List Entry) (p : ℕ) → taken row p ≡ among p (placesOf row)
-unfolding taken columnOf placesOf among
+unfolding taken columnIn placesOf among
 taken-among [] p = refl
 taken-among (e ∷ row) p = go (eqb (e .place) p) (taken-among row p)
   where
-    go : (b : Bool) → present (columnOf row p) ≡ among p (placesOf row)
-        → present (cond b (some (e .column)) (columnOf row p)) ≡ (b || among p (placesOf row))
+    go : (b : Bool) → present (columnIn row p) ≡ among p (placesOf row)
+        → present (cond b (some (e .column)) (columnIn row p)) ≡ (b || among p (placesOf row))
     go true ih = refl
     go false ih = ih
 
-pub column-append : (a b : List Entry) (p : ℕ) → columnOf (a ++ b) p ≡ cond (taken a p) (columnOf a p) (columnOf b p)
-unfolding taken columnOf
+pub column-append : (a b : List Entry) (p : ℕ) → columnIn (a ++ b) p ≡ cond (taken a p) (columnIn a p) (columnIn b p)
+unfolding taken columnIn
 column-append [] b p = refl
 column-append (e ∷ a) b p = go (eqb (e .place) p) (column-append a b p)
   where
-    go : (t : Bool) → columnOf (a ++ b) p ≡ cond (present (columnOf a p)) (columnOf a p) (columnOf b p)
-        → cond t (some (e .column)) (columnOf (a ++ b) p)
-        ≡ cond (present (cond t (some (e .column)) (columnOf a p))) (cond t (some (e .column)) (columnOf a p)) (columnOf b p)
+    go : (t : Bool) → columnIn (a ++ b) p ≡ cond (present (columnIn a p)) (columnIn a p) (columnIn b p)
+        → cond t (some (e .column)) (columnIn (a ++ b) p)
+        ≡ cond (present (cond t (some (e .column)) (columnIn a p))) (cond t (some (e .column)) (columnIn a p)) (columnIn b p)
     go true ih = refl
     go false ih = ih
 
-pub column-one : (e : Entry) → columnOf (e ∷ []) (e .place) ≡ some (e .column)
-unfolding columnOf
+pub column-one : (e : Entry) → columnIn (e ∷ []) (e .place) ≡ some (e .column)
+unfolding columnIn
 column-one e = rw (eq-eqb (e .place) (e .place) refl)
 
 -- ---- a missing place

@@ -48,7 +48,7 @@ use Rattle.interpolant.specs.LeastQ.{coefficient}
 use Rattle.interpolant.specs.Meaning.{IsLeastQ, Shown}
 use Rattle.interpolant.specs.Least.{leastQ-some}
 use Rattle.interpolant.specs.Reading.{reading-size, reading-plain, reading-z, missing-plain, missing-z, all-shown}
-use Rattle.book.specs.Book.{places, Entry, Book, newBook, columnOf, taken, someMissing, Outcome}
+use Rattle.book.specs.Book.{places, Entry, Book, newBook, columnIn, taken, someMissing, Outcome}
 use Rattle.book.specs.Opening.{fitDoubt, refusedOpening, openOf}
 use Rattle.book.specs.Delivery.{withEntry, deliverOf}
 use Rattle.book.specs.Capture.{captureLength}
@@ -289,7 +289,7 @@ closes {book} rate message report long eight =
 pub record Agree (a b : Book) : Type 0 where
   pub same-rate : a .rate ≡ b .rate
   pub same-list : a .doubtful ≡ b .doubtful
-  pub same-columns : (p : ℕ) → columnOf (a .row) p ≡ columnOf (b .row) p
+  pub same-columns : (p : ℕ) → columnIn (a .row) p ≡ columnIn (b .row) p
 
 module _ {a b : Book} (same : Agree a b) where
   settled-alike : (n : ℕ) → settledBelow a n ≡ settledBelow b n

@@ -35,7 +35,7 @@ use Rattle.soft.specs.ColumnLaws.{column-length, cost-column, costs-length}
 use Rattle.soft.specs.Doubt.{mostDoubt, doubtfulOf}
 use Rattle.soft.specs.DoubtLaws.{doubtful-length, doubtful-rising, doubtful-below}
 use Rattle.code.specs.Encoding.{knownRate}
-use Rattle.book.specs.Book.{places, width, Entry, Book, newBook, columnOf, taken, present, someMissing}
+use Rattle.book.specs.Book.{places, width, Entry, Book, newBook, columnIn, taken, present, someMissing}
 use Rattle.book.specs.Opening.{fitDoubt, openOf}
 use Rattle.book.specs.OpeningLaws.{list-fits}
 use Rattle.book.specs.RowLaws.{placesOf, open-accepted}
@@ -160,8 +160,8 @@ module _ (table : List ℕ) (doubt : ℕ) (few : doubt ≤ mostDoubt) where
 -- ---- as a session
 
 pub record Delivered (table : List ℕ) (row : List Entry) : Type 0 where
-  pub there : (p : ℕ) → p < places → columnOf row p ≡ some (tableColumns table p)
-  pub nothing-else : (p : ℕ) → places ≤ p → columnOf row p ≡ none
+  pub there : (p : ℕ) → p < places → columnIn row p ≡ some (tableColumns table p)
+  pub nothing-else : (p : ℕ) → places ≤ p → columnIn row p ≡ none
 
 -- behind the table there are zeros
 pub column-beyond : (costs : List ℕ) (p : ℕ) → length costs ≡ places * width → places ≤ p
@@ -222,13 +222,13 @@ entries-places columns [] = refl
 entries-places columns (p ∷ order) = ap (λ (l : List ℕ). p ∷ l) (entries-places columns order)
 
 pub entries-column : (columns : ℕ → List ℕ) (order : List ℕ) (p : ℕ)
-    → columnOf (entriesOf columns order) p ≡ cond (among p order) (some (columns p)) none
-unfolding entriesOf columnOf among
+    → columnIn (entriesOf columns order) p ≡ cond (among p order) (some (columns p)) none
+unfolding entriesOf columnIn among
 entries-column columns [] p = refl
 entries-column columns (q ∷ order) p = go (eqb q p) refl (entries-column columns order p)
   where
-    go : (b : Bool) → eqb q p ≡ b → columnOf (entriesOf columns order) p ≡ cond (among p order) (some (columns p)) none
-        → cond b (some (columns q)) (columnOf (entriesOf columns order) p) ≡ cond (b || among p order) (some (columns p)) none
+    go : (b : Bool) → eqb q p ≡ b → columnIn (entriesOf columns order) p ≡ cond (among p order) (some (columns p)) none
+        → cond b (some (columns q)) (columnIn (entriesOf columns order) p) ≡ cond (b || among p order) (some (columns p)) none
     go true e ih = ap (λ k. some (columns k)) (eqb-true q p e)
     go false e ih = ih
 

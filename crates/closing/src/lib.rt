@@ -11,7 +11,7 @@ use session::Session;
 use totals::report::REPORT_BYTES;
 ghost use Rattle.session.specs.Answering.{Closing};
 
-// A session record that was built by hand, with a rate or a doubtful list that no opening accepts, gets the number of that refusal.
+// A session record that was built by hand, with a rate or a doubtful list that no opening accepts, is refused: no contract says by which number.
 pub fn close(session: Session, message: &mut [u8], report: &mut [u8]) -> u8
     ensures { λ r. ⌜ Closing session (now (message .entry)) (now (report .entry)) r (now (message .exit)) (now (report .exit)) ⌝ }
 {

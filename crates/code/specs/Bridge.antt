@@ -3,7 +3,7 @@
 --   toF-power, toF-xorSum   powers and sums
 --   px, py                  the point of a place, in the field
 --   toF-monomial            a monomial's value is the ring's
---   toF-value               a function's value is the sum of its terms
+--   toF-valueAt               a function's value is the sum of its terms
 use mathlib.Core.Path.{_≡_, sym, ap, ap₂, _∙_}
 use Prim.Native.Nat.{ℕ, zero, suc}
 use lib.ListN.{getD}
@@ -39,8 +39,8 @@ pub toF-monomial : (o p : ℕ) → toF (monomial o p) ≡ Value.monomial K16 4 (
 unfolding monomial Value.monomial
 toF-monomial o p = toF-times _ _ ∙ ap₂ (λ x y. x ⊗ y) (toF-power (xOf p) _) (toF-power (yOf p) _)
 
-pub toF-value : (k : ℕ) (m : List ℕ) (p : ℕ)
+pub toF-valueAt : (k : ℕ) (m : List ℕ) (p : ℕ)
     → toF (valueAt k m p) ≡ sum K16 k (λ t. toF (getD m t 0) ⊗ Value.monomial K16 4 (px p) (py p) (orderOf 4 t))
 unfolding valueAt term
-toF-value k m p =
+toF-valueAt k m p =
     toF-xorSum k _ ∙ sum-ext K16 k _ _ (λ t l. toF-times _ _ ∙ ap (λ x. toF (getD m t 0) ⊗ x) (toF-monomial (orderOf 4 t) p))

@@ -16,7 +16,7 @@ use Rattle.lists.specs.Every.{T-true}
 use Rattle.lists.specs.Words.{Word, allBelow}
 use Rattle.code.specs.Encoding.{encodeOf, knownRate, readBackOf}
 use Rattle.code.specs.Rates.{known-small}
-use Rattle.code.specs.Calls.{Outcome, outcome, checked, found, readBackSizes, readBackCall}
+use Rattle.code.specs.Calls.{Answered, outcome, checked, found, readBackSizes, readBackCall}
 use Rattle.code.specs.Evaluation.{encode-length, encode-symbols}
 use Rattle.code.specs.Laws.{read-encoded, read-accepted, read-none}
 
@@ -37,7 +37,7 @@ module _ (k : ℕ) (known : knownRate k ≡ true) (buffer : List ℕ) (size : le
       last-check word (w .size) (T-true (allBelow 16 word) (w .symbols)) ∙ ap (λ r. found r buffer) (read-none k word other)
 
 -- the call by what its four checks say
-abbrev checks : Bool → Bool → Bool → Option (List ℕ) → List ℕ → Outcome
+abbrev checks : Bool → Bool → Bool → Option (List ℕ) → List ℕ → Answered
 checks rate sizes symbols read buffer =
     checked rate unknownRate buffer (checked sizes wrongSize buffer (checked symbols noSymbol buffer (found read buffer)))
 

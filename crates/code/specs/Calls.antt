@@ -1,6 +1,6 @@
 -- What encoding and reading back return and leave in the caller's buffer, for all arguments, in the order of document 01's checks.
 --
---   Outcome            a number returned and the lent buffer afterwards
+--   Answered            a number returned and the lent buffer afterwards
 --   checked b n l o    refused with n, the buffer l unchanged, unless the test b passes; else the outcome o
 --   fitsFrame          there are 64 bytes of the frame from the start
 --   placed frame start word   the frame with the word in it from the start; the other bytes stay
@@ -18,14 +18,14 @@ use Rattle.lists.specs.Words.{allBelow}
 use Rattle.code.specs.Encoding.{encodeOf, knownRate, readBackOf}
 use Rattle.refusals.specs.Refusal.{accepted, unknownRate, wrongSize, noSymbol, noCodeword}
 
-pub record Outcome : Type 0 where
+pub record Answered : Type 0 where
   pub number : ℕ
   pub buffer : List ℕ
 
-abbrev pub outcome : ℕ → List ℕ → Outcome
+abbrev pub outcome : ℕ → List ℕ → Answered
 outcome n l = record { number = n; buffer = l }
 
-abbrev pub checked : Bool → ℕ → List ℕ → Outcome → Outcome
+abbrev pub checked : Bool → ℕ → List ℕ → Answered → Answered
 checked true n l o = o
 checked false n l o = outcome n l
 
@@ -39,14 +39,14 @@ placed frame start word = take start frame ++ (word ++ drop (start + length word
 abbrev pub encodeSizes : ℕ → List ℕ → List ℕ → ℕ → Bool
 encodeSizes rate message frame start = both (eqb (length message) rate) (fitsFrame frame start)
 
-unfoldable pub encodeCall : ℕ → List ℕ → List ℕ → ℕ → Outcome
+unfoldable pub encodeCall : ℕ → List ℕ → List ℕ → ℕ → Answered
 encodeCall rate message frame start =
     checked (knownRate rate) unknownRate frame
     (checked (encodeSizes rate message frame start) wrongSize frame (checked (allBelow 16 message) noSymbol frame
     (outcome accepted (placed frame start (encodeOf rate message)))))
 
 -- a message found is written; where there is none the buffer stays
-abbrev pub found : Option (List ℕ) → List ℕ → Outcome
+abbrev pub found : Option (List ℕ) → List ℕ → Answered
 found none l = outcome noCodeword l
 found (some m) l = outcome accepted m
 
@@ -54,7 +54,7 @@ found (some m) l = outcome accepted m
 abbrev pub readBackSizes : ℕ → List ℕ → List ℕ → Bool
 readBackSizes rate word message = both (eqb (length word) 64) (eqb (length message) rate)
 
-unfoldable pub readBackCall : ℕ → List ℕ → List ℕ → Outcome
+unfoldable pub readBackCall : ℕ → List ℕ → List ℕ → Answered
 readBackCall rate word message =
     checked (knownRate rate) unknownRate message
     (checked (readBackSizes rate word message) wrongSize message (checked (allBelow 16 word) noSymbol message

@@ -3,10 +3,10 @@
 --   fibreSum v b x     the sum over the four places with this x of the word's symbol times y^b
 --   moment v a b       the sum over all places of the word's symbol times x^a y^b
 --   symbolOf v i j     the coefficient of x^i y^j in the function whose values are v, read off four moments
---   symbolAt v o       the coefficient of order o
+--   extractedAt v o       the coefficient of order o
 --   messageAt v t      message symbol t so read, and extractOf k v the first k of them
 --   momentRow v b      the moments with y^b by the power of x; momentsOf v for b from 0 to 3
---   symbolIn ms i j    the same coefficient from a table of moments; symbol-in: it is so from the word's own
+--   momentSymbol ms i j    the same coefficient from a table of moments; symbol-in: it is so from the word's own
 --   extract-word       they are symbols: a word of k numbers below 16
 --   extract-encode     what was encoded is read again (k up to 58, where no power of x is above 15)
 use mathlib.Core.Bool.{Bool, true, false}
@@ -38,7 +38,7 @@ use Rattle.curve.specs.Curve.{power, yOf}
 use Rattle.curve.specs.Points.{yTable, yTable-rule}
 use Rattle.code.specs.Encoding.{monomial, valueAt, encodeOf}
 use Rattle.code.specs.Evaluation.{order-below}
-use Rattle.code.specs.Bridge.{toF-power, toF-xorSum, px, py, toF-value}
+use Rattle.code.specs.Bridge.{toF-power, toF-xorSum, px, py, toF-valueAt}
 open Field K16 using (_⊕_, _⊗_, 𝟘, 𝟙)
 
 unfoldable pub fibreTerm : List ℕ → ℕ → ℕ → ℕ → ℕ
@@ -64,11 +64,11 @@ symbolOf v i j =
     bitXor (moment v (15 - i) (3 - j))
     (bitXor (atZero i (moment v 0 (3 - j))) (atZero j (bitXor (moment v (15 - i) 0) (atZero i (moment v 0 0)))))
 
-unfoldable pub symbolAt : List ℕ → ℕ → ℕ
-symbolAt v o = symbolOf v (xPower 4 o) (yPower 4 o)
+unfoldable pub extractedAt : List ℕ → ℕ → ℕ
+extractedAt v o = symbolOf v (xPower 4 o) (yPower 4 o)
 
 unfoldable pub messageAt : List ℕ → ℕ → ℕ
-messageAt v t = symbolAt v (orderOf 4 t)
+messageAt v t = extractedAt v (orderOf 4 t)
 
 unfoldable pub extractOf : ℕ → List ℕ → List ℕ
 extractOf k v = listed k (messageAt v)
@@ -83,8 +83,8 @@ momentRow v b = listed 16 (momentUpTo v b 16)
 unfoldable pub momentsOf : List ℕ → List (List ℕ)
 momentsOf v = listed 4 (momentRow v)
 
-unfoldable pub symbolIn : List (List ℕ) → ℕ → ℕ → ℕ
-symbolIn ms i j =
+unfoldable pub momentSymbol : List (List ℕ) → ℕ → ℕ → ℕ
+momentSymbol ms i j =
     bitXor (getD (getD ms (3 - j) []) (15 - i) 0)
     (bitXor (atZero i (getD (getD ms (3 - j) []) 0 0))
     (atZero j (bitXor (getD (getD ms 0 []) (15 - i) 0) (atZero i (getD (getD ms 0 []) 0 0)))))
@@ -94,8 +94,8 @@ unfolding momentsOf momentRow momentUpTo moment
 moment-in v a b h l =
     ap (λ r. getD r a 0) (listed-at 4 b (momentRow v) [] l) ∙ listed-at 16 a (momentUpTo v b 16) 0 h
 
-pub symbol-in : (v : List ℕ) (i j : ℕ) → symbolIn (momentsOf v) i j ≡ symbolOf v i j
-unfolding symbolIn symbolOf
+pub symbol-in : (v : List ℕ) (i j : ℕ) → momentSymbol (momentsOf v) i j ≡ symbolOf v i j
+unfolding momentSymbol symbolOf
 symbol-in v i j =
     ap₂ bitXor (moment-in v (15 - i) (3 - j) (omega arith) (omega arith))
     (ap₂ bitXor (ap (atZero i) (moment-in v 0 (3 - j) (omega arith) (omega arith)))
@@ -247,7 +247,7 @@ picks : (k : ℕ) (m : List ℕ) → k ≤ 58 → (s : ℕ) → s < k
     → sum K16 64 (λ p. toF (valueAt k m p) ⊗ dualAt (xPower 4 (orderOf 4 s)) (yPower 4 (orderOf 4 s)) p) ≡ toF (getD m s 0)
 unfolding Value.monomial powersAt
 picks k m most s within =
-    sum-ext K16 64 _ _ (λ p l. ap (λ x. x ⊗ dualAt i j p) (toF-value k m p) ∙ sym (sum-scale-right K16 k (dualAt i j p) _))
+    sum-ext K16 64 _ _ (λ p l. ap (λ x. x ⊗ dualAt i j p) (toF-valueAt k m p) ∙ sym (sum-scale-right K16 k (dualAt i j p) _))
     ∙ sum-swap K16 64 k _
     ∙ sum-ext K16 k _ _ (λ t l. sum-ext K16 64 _ _ (λ p h. mul-assoc K16 _ _ _) ∙ sum-scale K16 64 (toF (getD m t 0)) _
     ∙ ap (λ x. toF (getD m t 0) ⊗ x) (dual-powers (a t) (b t) i j (small t (omega arith)) (omega arith) (small s (omega arith)) (omega arith)))
@@ -277,8 +277,8 @@ picks k m most s within =
             absurd (n (orderOf-injective t s
             (sym (order-of 4 (orderOf 4 t) (orderOf-present 4 (lit≤ tt) t)) ∙ ap₂ (order 4) h g ∙ order-of 4 (orderOf 4 s) (orderOf-present 4 (lit≤ tt) s))))
 
-toF-symbolAt : (k : ℕ) (m : List ℕ) → k ≤ 58 → (s : ℕ) → s < k → toF (symbolAt (encodeOf k m) (orderOf 4 s)) ≡ toF (getD m s 0)
-unfolding symbolAt encodeOf
+toF-symbolAt : (k : ℕ) (m : List ℕ) → k ≤ 58 → (s : ℕ) → s < k → toF (extractedAt (encodeOf k m) (orderOf 4 s)) ≡ toF (getD m s 0)
+unfolding extractedAt encodeOf
 toF-symbolAt k m most s within =
     toF-symbolOf (listed 64 (valueAt k m)) _ _
     ∙ sum-ext K16 64 _ _ (λ p l. ap (λ x. toF x ⊗ dualAt (xPower 4 (orderOf 4 s)) (yPower 4 (orderOf 4 s)) p) (listed-at 64 p (valueAt k m) 0 l))
@@ -292,9 +292,9 @@ atZero-lt : (i n : ℕ) → n < 16 → atZero i n < 16
 atZero-lt zero n h = h
 atZero-lt (suc i) n h = lit< tt
 
-pub symbolAt-lt : (v : List ℕ) (o : ℕ) → symbolAt v o < 16
-unfolding symbolAt symbolOf
-symbolAt-lt v o =
+pub extractedAt-lt : (v : List ℕ) (o : ℕ) → extractedAt v o < 16
+unfolding extractedAt symbolOf
+extractedAt-lt v o =
     xor-below _ _ (moment-lt v _ _)
     (xor-below _ _ (atZero-lt (xPower 4 o) _ (moment-lt v _ _))
     (atZero-lt (yPower 4 o) _ (xor-below _ _ (moment-lt v _ _) (atZero-lt (xPower 4 o) _ (moment-lt v _ _)))))
@@ -304,12 +304,12 @@ unfolding extractOf messageAt
 extract-word k v =
     record {
       size = listed-length k _;
-      symbols = allBelow-from 16 _ (λ t h. subst (λ x. x < 16) (sym (listed-at k t _ 0 (omega (arith, listed-length k (messageAt v))))) (symbolAt-lt v (orderOf 4 t)));
+      symbols = allBelow-from 16 _ (λ t h. subst (λ x. x < 16) (sym (listed-at k t _ 0 (omega (arith, listed-length k (messageAt v))))) (extractedAt-lt v (orderOf 4 t)));
     }
 
 pub extract-encode : (k : ℕ) (m : List ℕ) → k ≤ 58 → Word 16 k m → extractOf k (encodeOf k m) ≡ m
 unfolding extractOf messageAt
 extract-encode k m most w =
-    listed-ext k _ (λ t. getD m t 0) (λ t h. toF-injective _ _ (symbolAt-lt _ _) (allBelow-at 16 m (w .symbols) t (omega (arith, w .size))) (toF-symbolAt k m most t h))
+    listed-ext k _ (λ t. getD m t 0) (λ t h. toF-injective _ _ (extractedAt-lt _ _) (allBelow-at 16 m (w .symbols) t (omega (arith, w .size))) (toF-symbolAt k m most t h))
     ∙ ap (λ n. listed n (λ t. getD m t 0)) (sym (w .size))
     ∙ listed-getD m 0

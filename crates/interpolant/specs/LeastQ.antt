@@ -3,7 +3,7 @@
 --   a node (`code`)     a settled place that is taken, with z the best symbol there
 --   coefficient q k     a Q is a list of coefficients by key, from the highest key down: that of key k has k others behind it
 --   functionAt f n p    the value at place p of the function with the n coefficients f, by order
---   valueAt M q n       the value of Q at a node: Q0's, and z times Q1's
+--   valueAtNode M q n       the value of Q at a node: Q0's, and z times Q1's
 --   isThrough M ns q    Q vanishes at every node of ns
 --   hasTerms M q        Q is zero at every key that is no term's
 --   isNonzero q         Q is not zero
@@ -45,12 +45,12 @@ unfoldable pub functionAt : (ℕ → ℕ) → ℕ → ℕ → ℕ
 functionAt f n p = xorSum n (λ o. times (f o) (monomial o p))
 
 -- no order is above its key, so the length of q bounds both sums
-unfoldable pub valueAt : ℕ → List ℕ → Node → ℕ
-valueAt M q n = bitXor (functionAt (plainOf M q) (length q) (n .place)) (times (n .symbol) (functionAt (zOf M q) (length q) (n .place)))
+unfoldable pub valueAtNode : ℕ → List ℕ → Node → ℕ
+valueAtNode M q n = bitXor (functionAt (plainOf M q) (length q) (n .place)) (times (n .symbol) (functionAt (zOf M q) (length q) (n .place)))
 
 unfoldable pub isThrough : ℕ → List Node → List ℕ → Bool
 isThrough M [] q = true
-isThrough M (n ∷ ns) q = both (eqb (valueAt M q n) 0) (isThrough M ns q)
+isThrough M (n ∷ ns) q = both (eqb (valueAtNode M q n) 0) (isThrough M ns q)
 
 -- 'missing orders hold 0': where no term stands, neither does a coefficient
 unfoldable pub termOrZero : ℕ → List ℕ → ℕ → Bool
@@ -82,9 +82,9 @@ unfoldable pub byteAt : ℕ → List ℕ → ℕ → ℕ
 byteAt M q i = coefficient q (byteKey M i)
 
 -- there is always a least Q: the theorem in specs/Least.antt
-unfoldable pub bytesOf : ℕ → Option (List ℕ) → List ℕ
-bytesOf M none = []
-bytesOf M (some q) = listed 82 (byteAt M q)
+unfoldable pub bytesOfQ : ℕ → Option (List ℕ) → List ℕ
+bytesOfQ M none = []
+bytesOfQ M (some q) = listed 82 (byteAt M q)
 
 unfoldable pub readingOf : ℕ → List Node → List ℕ
-readingOf M ns = bytesOf M (leastQ M ns)
+readingOf M ns = bytesOfQ M (leastQ M ns)

@@ -12,12 +12,12 @@ use lib.Dec.{T}
 use Rattle.lists.specs.Words.{allBelow}
 use Rattle.hermitian.specs.Keys.{Term, plain, timesZ, key, Before, IsKey}
 use Rattle.code.specs.Nodes.{Node}
-use Rattle.interpolant.specs.LeastQ.{coefficient, valueAt}
+use Rattle.interpolant.specs.LeastQ.{coefficient, valueAtNode}
 
 pub record QThrough (M : ℕ) (ns : List Node) (q : List ℕ) : Type 0 where
   pub symbols : T (allBelow 16 q)
   pub terms : (k : ℕ) → ¬ IsKey 4 M k → coefficient q k ≡ 0
-  pub vanishes : (n : Node) → List·Memᴰ n ns → valueAt M q n ≡ 0
+  pub vanishes : (n : Node) → List·Memᴰ n ns → valueAtNode M q n ≡ 0
 
 pub record Highest (M : ℕ) (q : List ℕ) (t : Term) : Type 0 where
   pub there : coefficient q (key M t) ≢ 0

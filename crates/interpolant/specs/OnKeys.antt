@@ -34,7 +34,7 @@ use Rattle.hermitian.specs.Interpolation as Interpolation
 use Rattle.code.specs.Encoding.{monomial}
 use Rattle.code.specs.Bridge.{toF-xorSum, px, py, toF-monomial}
 use Rattle.code.specs.Nodes.{Node, sampleAt, ThroughNodes}
-use Rattle.interpolant.specs.LeastQ.{coefficient, plainOf, zOf, functionAt, valueAt, isThrough, termOrZero, hasTerms, zeroAt, isNonzero, isCandidate}
+use Rattle.interpolant.specs.LeastQ.{coefficient, plainOf, zOf, functionAt, valueAtNode, isThrough, termOrZero, hasTerms, zeroAt, isNonzero, isCandidate}
 use Rattle.interpolant.specs.Meaning.{QThrough}
 open Field K16 using (_⊕_, _⊗_, 𝟘, 𝟙)
 
@@ -108,13 +108,13 @@ functionAt-below : (f : ℕ → ℕ) (n p : ℕ) → functionAt f n p < 16
 unfolding functionAt
 functionAt-below f n p = xorSum-below 4 n _ (λ o l. times-lt _ _)
 
-pub valueAt-below : (M : ℕ) (q : List ℕ) (n : Node) → valueAt M q n < 16
-unfolding valueAt
-valueAt-below M q n = xor-below _ _ (functionAt-below _ _ _) (times-lt _ _)
+pub valueAtNode-below : (M : ℕ) (q : List ℕ) (n : Node) → valueAtNode M q n < 16
+unfolding valueAtNode
+valueAtNode-below M q n = xor-below _ _ (functionAt-below _ _ _) (times-lt _ _)
 
 value-onKeys : (M : ℕ) (q : List ℕ) (n : Node) → Interpolant K16 4 M (coefficientsOf q)
-    → Interpolation.Value K16 4 M (sampleAt n) (coefficientsOf q) (toF (valueAt M q n))
-unfolding valueAt coefficientsOf
+    → Interpolation.Value K16 4 M (sampleAt n) (coefficientsOf q) (toF (valueAtNode M q n))
+unfolding valueAtNode coefficientsOf
 value-onKeys M q n i =
     record {
       interpolant = i;
@@ -144,23 +144,23 @@ module _ {M : ℕ} {ns : List Node} {q : List ℕ} where
         symbols = t;
         terms = λ k a. coefficient-zero q t k (h .member .absent k a);
         vanishes = λ n m.
-            toF-injective (valueAt M q n) 0 (valueAt-below M q n) (lit< tt)
+            toF-injective (valueAtNode M q n) 0 (valueAtNode-below M q n) (lit< tt)
             (Interpolation.value-unique K16 4 M (sampleAt n) (value-onKeys M q n (h .member)) (h .vanishes n m) ∙ sym toF-zero);
       }
 
 -- ---- the tests
-isThrough-at : (M : ℕ) (ns : List Node) (q : List ℕ) → T (isThrough M ns q) → (n : Node) → List·Memᴰ n ns → valueAt M q n ≡ 0
+isThrough-at : (M : ℕ) (ns : List Node) (q : List ℕ) → T (isThrough M ns q) → (n : Node) → List·Memᴰ n ns → valueAtNode M q n ≡ 0
 unfolding isThrough
 isThrough-at M [] q t n m = absurd (List·Memᴰ·not-nil m)
 isThrough-at M (r ∷ ns) q t n m =
-    ⊎-elim (λ (e : n ≡ r). ap (valueAt M q) e ∙ eqb→eq (valueAt M q r) 0 (both-left (eqb (valueAt M q r) 0) (isThrough M ns q) t))
-    (λ l. isThrough-at M ns q (both-right (eqb (valueAt M q r) 0) (isThrough M ns q) t) n l) (List·Memᴰ·cases-cons m)
+    ⊎-elim (λ (e : n ≡ r). ap (valueAtNode M q) e ∙ eqb→eq (valueAtNode M q r) 0 (both-left (eqb (valueAtNode M q r) 0) (isThrough M ns q) t))
+    (λ l. isThrough-at M ns q (both-right (eqb (valueAtNode M q r) 0) (isThrough M ns q) t) n l) (List·Memᴰ·cases-cons m)
 
-isThrough-of : (M : ℕ) (ns : List Node) (q : List ℕ) → ((n : Node) → List·Memᴰ n ns → valueAt M q n ≡ 0) → T (isThrough M ns q)
+isThrough-of : (M : ℕ) (ns : List Node) (q : List ℕ) → ((n : Node) → List·Memᴰ n ns → valueAtNode M q n ≡ 0) → T (isThrough M ns q)
 unfolding isThrough
 isThrough-of M [] q h = tt
 isThrough-of M (r ∷ ns) q h =
-    both-intro (eqb (valueAt M q r) 0) (isThrough M ns q) (true-T _ (eq-eqb (valueAt M q r) 0 (h r (List·Memᴰ·head refl))))
+    both-intro (eqb (valueAtNode M q r) 0) (isThrough M ns q) (true-T _ (eq-eqb (valueAtNode M q r) 0 (h r (List·Memᴰ·head refl))))
     (isThrough-of M ns q (λ n m. h n (List·Memᴰ·tail m)))
 
 hasTerms-at : (M : ℕ) (q : List ℕ) → T (hasTerms M q) → (k : ℕ) → ¬ IsKey 4 M k → coefficient q k ≡ 0

@@ -29,7 +29,7 @@ use Rattle.hermitian.specs.Orders.{rank, rank-least}
 use Rattle.hermitian.specs.Keys.{Term, plain, timesZ, key, weight, IsKey, isKey, decKey, key-even, key-odd}
 use Rattle.hermitian.specs.Size.{terms, terms-rank, least-size, terms-39, terms-49}
 use Rattle.code.specs.Nodes.{Node, sampleAt, ThroughNodes}
-use Rattle.interpolant.specs.LeastQ.{coefficient, keys, leastQ, byteKey, byteAt, bytesOf, readingOf}
+use Rattle.interpolant.specs.LeastQ.{coefficient, keys, leastQ, byteKey, byteAt, bytesOfQ, readingOf}
 use Rattle.interpolant.specs.Meaning.{IsLeastQ, Shown, of-Q0, of-Q1}
 use Rattle.interpolant.specs.OnKeys.{coefficient-beyond, coefficient-below, coefficient-wordOf, coefficient-ext}
 use Rattle.interpolant.specs.Least.{least-ends, least-first, isLeastQ-least, leastQ-some, leastQ-is, leastQ-any-order}
@@ -58,14 +58,14 @@ byteOf-z M c o = ap (λ k. value (c k)) (byteKey-z M o)
 
 module _ (M : ℕ) (ns : List Node) where
   pub reading-least : {c : ℕ → GF} {l : ℕ} → Least K16 (ThroughNodes M ns) c l → readingOf M ns ≡ listed 82 (byteOf M c)
-  unfolding readingOf bytesOf byteAt byteOf
+  unfolding readingOf bytesOfQ byteAt byteOf
   reading-least {c} h =
-      ap (bytesOf M) (least-first M ns h) ∙ listed-ext 82 _ _ (λ i l. coefficient-wordOf keys c (least-ends M ns h) (byteKey M i))
+      ap (bytesOfQ M) (least-first M ns h) ∙ listed-ext 82 _ _ (λ i l. coefficient-wordOf keys c (least-ends M ns h) (byteKey M i))
 
   -- the least Q and its bytes
   reading-some : {q : List ℕ} → leastQ M ns ≡ some q → readingOf M ns ≡ listed 82 (byteAt M q)
-  unfolding readingOf bytesOf
-  reading-some e = ap (bytesOf M) e
+  unfolding readingOf bytesOfQ
+  reading-some e = ap (bytesOfQ M) e
 
   pub reading-size : length (readingOf M ns) ≡ 82
   reading-size = ap length (reading-some (leastQ-some M ns .2)) ∙ listed-length 82 _
@@ -88,7 +88,7 @@ module _ (M : ℕ) (ns : List Node) where
 pub reading-any-order : (M : ℕ) (ns ms : List Node) → ((n : Node) → List·Memᴰ n ns → List·Memᴰ n ms)
     → ((n : Node) → List·Memᴰ n ms → List·Memᴰ n ns) → readingOf M ns ≡ readingOf M ms
 unfolding readingOf
-reading-any-order M ns ms there back = ap (bytesOf M) (leastQ-any-order M ns ms there back)
+reading-any-order M ns ms there back = ap (bytesOfQ M) (leastQ-any-order M ns ms there back)
 
 -- ---- how much there is of the least Q
 pub least-weight : (M W : ℕ) {ns : List Node} {q : List ℕ} {t : Term} → length ns < terms 4 M (suc (2 * W + 1)) → IsLeastQ M ns q t → weight M t ≤ W

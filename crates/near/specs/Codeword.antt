@@ -2,9 +2,9 @@
 --
 --   codeword-symbol, codeword-cost   a codeword has a symbol at each place, so its cost there is one of the column's
 --   symbolsOf word       a word as elements of the field, by place
---   functionOf k m       the function of a message
---   functionOf-fn, functionOf-order, encode-val   it is a function of order at most M, and the codeword holds its values
---   functionOf-at         its coefficient at the t-th present order is symbol t
+--   messageFunction k m       the function of a message
+--   messageFunction-fn, messageFunction-order, encode-val   it is a function of order at most M, and the codeword holds its values
+--   messageFunction-at         its coefficient at the t-th present order is symbol t
 --   messageFrom k f      the message read off a function's coefficients; messageFrom-word: k symbols
 --   messageFrom-function  it is the message again
 --   differing-le         words differ, as elements, in no more places than as numbers: equal numbers are equal elements
@@ -36,7 +36,7 @@ use Rattle.hermitian.specs.Orders.{orderOf}
 use Rattle.hermitian.specs.Message.{messageFn, message-at, message-fn, message-order, message-val}
 use Rattle.code.specs.Encoding.{encodeOf, valueAt}
 use Rattle.code.specs.Evaluation.{encode-at}
-use Rattle.code.specs.Bridge.{px, py, toF-value}
+use Rattle.code.specs.Bridge.{px, py, toF-valueAt}
 use Rattle.soft.specs.Column.{places, symbols}
 use Rattle.soft.specs.Total.{symbolAt, costIn, agree, differAt, differing}
 use Rattle.near.specs.Near.{mOf, reachOf, nearTo}
@@ -58,28 +58,28 @@ pub symbolsOf-at : (word : List ℕ) (p : ℕ) → symbolsOf word p ≡ toF (get
 unfolding symbolsOf
 symbolsOf-at word p = refl
 
-unfoldable pub functionOf : ℕ → List ℕ → ℕ → GF
-functionOf k m = messageFn K16 4 k (symbolsOf m)
+unfoldable pub messageFunction : ℕ → List ℕ → ℕ → GF
+messageFunction k m = messageFn K16 4 k (symbolsOf m)
 
 module _ {k : ℕ} (rate : Workable k) (m : List ℕ) where
-  pub functionOf-fn : Fn K16 4 (functionOf k m)
-  unfolding functionOf
-  functionOf-fn = message-fn K16 4 k (symbolsOf m) (mOf k) (ranks rate)
+  pub messageFunction-fn : Fn K16 4 (messageFunction k m)
+  unfolding messageFunction
+  messageFunction-fn = message-fn K16 4 k (symbolsOf m) (mOf k) (ranks rate)
 
-  pub functionOf-order : Below K16 (functionOf k m) (suc (mOf k))
-  unfolding functionOf
-  functionOf-order = message-order K16 4 k (symbolsOf m) (mOf k) (ranks rate)
+  pub messageFunction-order : Below K16 (messageFunction k m) (suc (mOf k))
+  unfolding messageFunction
+  messageFunction-order = message-order K16 4 k (symbolsOf m) (mOf k) (ranks rate)
 
   -- the codeword holds the function's values
-  pub encode-val : (p : ℕ) → p < 64 → Val K16 4 (px p) (py p) (functionOf k m) (symbolsOf (encodeOf k m) p)
-  unfolding functionOf encodeOf symbolsOf
+  pub encode-val : (p : ℕ) → p < 64 → Val K16 4 (px p) (py p) (messageFunction k m) (symbolsOf (encodeOf k m) p)
+  unfolding messageFunction encodeOf symbolsOf
   encode-val p h =
-      weighted-is K16 (sym (ap toF (listed-at 64 p (valueAt k m) 0 h) ∙ toF-value k m p))
+      weighted-is K16 (sym (ap toF (listed-at 64 p (valueAt k m) 0 h) ∙ toF-valueAt k m p))
       (message-val K16 4 k (symbolsOf m) (omega arith) (mOf k) (ranks rate) (px p) (py p))
 
-pub functionOf-at : (k : ℕ) (m : List ℕ) (t : ℕ) → t < k → functionOf k m (orderOf 4 t) ≡ toF (getD m t 0)
-unfolding functionOf symbolsOf
-functionOf-at k m t h = message-at K16 4 k (symbolsOf m) (omega arith) t h
+pub messageFunction-at : (k : ℕ) (m : List ℕ) (t : ℕ) → t < k → messageFunction k m (orderOf 4 t) ≡ toF (getD m t 0)
+unfolding messageFunction symbolsOf
+messageFunction-at k m t h = message-at K16 4 k (symbolsOf m) (omega arith) t h
 
 -- symbol t from its coefficient
 unfoldable pub symbolFrom : (ℕ → GF) → ℕ → ℕ
@@ -98,12 +98,12 @@ messageFrom-word k f =
           (λ t h. subst (λ s. s < 16) (sym (listed-at k t (symbolFrom f) 0 (omega (arith, listed-length k (symbolFrom f))))) (value-lt (f (orderOf 4 t))));
     }
 
-pub messageFrom-function : {k : ℕ} {m : List ℕ} → Word 16 k m → messageFrom k (functionOf k m) ≡ m
+pub messageFrom-function : {k : ℕ} {m : List ℕ} → Word 16 k m → messageFrom k (messageFunction k m) ≡ m
 unfolding messageFrom symbolFrom
 messageFrom-function {k} {m} w =
-    listed-ext k (symbolFrom (functionOf k m)) (λ t. getD m t 0)
+    listed-ext k (symbolFrom (messageFunction k m)) (λ t. getD m t 0)
     (λ t h.
-    ap value (functionOf-at k m t h) ∙ value-toF (getD m t 0)
+    ap value (messageFunction-at k m t h) ∙ value-toF (getD m t 0)
     ∙ mod-eq-of-lt (allBelow-at 16 m (w .symbols) t (omega (arith, w .size))))
     ∙ ap (λ n. listed n (λ t. getD m t 0)) (sym (w .size)) ∙ listed-getD m 0
 
@@ -131,12 +131,12 @@ differing-le (suc n) u v = go (agree u v n) refl (differing-le n u v)
     go false e ih = omega (arith, before ih false e, Distance.differing-suc-le-suc K16 n (symbolsOf u) (symbolsOf v))
 
 module _ {k : ℕ} (rate : Workable k) (word : List ℕ) where
-  pub near-function : (m : List ℕ) → T (nearTo k word m) → Near K16 4 (mOf k) (reachOf k) 64 px py (symbolsOf word) (functionOf k m)
+  pub near-function : (m : List ℕ) → T (nearTo k word m) → Near K16 4 (mOf k) (reachOf k) 64 px py (symbolsOf word) (messageFunction k m)
   unfolding nearTo
   near-function m t =
       record {
-        fn = functionOf-fn rate m;
-        order = functionOf-order rate m;
+        fn = messageFunction-fn rate m;
+        order = messageFunction-order rate m;
         value = symbolsOf (encodeOf k m);
         val = encode-val rate m;
         few = omega (arith, leb→le (differing 64 (encodeOf k m) word) (reachOf k) t, differing-le 64 (encodeOf k m) word);

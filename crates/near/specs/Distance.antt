@@ -15,22 +15,22 @@ use Rattle.soft.specs.Total.{differing}
 use Rattle.near.specs.Near.{mOf}
 use Rattle.near.specs.Reach.{Workable}
 use Rattle.near.specs.Places.{points}
-use Rattle.near.specs.Codeword.{symbolsOf, functionOf, functionOf-fn, functionOf-order, encode-val, messageFrom, messageFrom-function, differing-le}
+use Rattle.near.specs.Codeword.{symbolsOf, messageFunction, messageFunction-fn, messageFunction-order, encode-val, messageFrom, messageFrom-function, differing-le}
 
 module _ {k : ℕ} (rate : Workable k) {m n : List ℕ} (u : Word 16 k m) (v : Word 16 k n) (other : m ≡ n → ⊥) where
-  functions-differ : functionOf k m ≡ functionOf k n → ⊥
+  functions-differ : messageFunction k m ≡ messageFunction k n → ⊥
   functions-differ e = other (sym (messageFrom-function u) ∙ ap (messageFrom k) e ∙ messageFrom-function v)
 
   pub codewords-apart : 64 ≤ mOf k + differing 64 (encodeOf k m) (encodeOf k n)
   codewords-apart =
       omega (
         arith,
-        distance K16 4 (omega arith) points (functionOf-fn rate m) (functionOf-order rate m) (functionOf-fn rate n) (functionOf-order rate n)
+        distance K16 4 (omega arith) points (messageFunction-fn rate m) (messageFunction-order rate m) (messageFunction-fn rate n) (messageFunction-order rate n)
             (encode-val rate m) (encode-val rate n) functions-differ,
         differing-le 64 (encodeOf k m) (encodeOf k n),
       )
 
   pub codewords-agree : Counted.agreeing K16 64 (symbolsOf (encodeOf k m)) (symbolsOf (encodeOf k n)) ≤ mOf k
   codewords-agree =
-      agreements K16 4 (omega arith) points (functionOf-fn rate m) (functionOf-order rate m) (functionOf-fn rate n) (functionOf-order rate n)
+      agreements K16 4 (omega arith) points (messageFunction-fn rate m) (messageFunction-order rate m) (messageFunction-fn rate n) (messageFunction-order rate n)
       (encode-val rate m) (encode-val rate n) functions-differ

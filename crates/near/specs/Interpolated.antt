@@ -35,7 +35,7 @@ use Rattle.code.specs.Nodes.{Node, node, sampleAt, ThroughNodes}
 use Rattle.near.specs.Near.{mOf, reachOf, nearTo}
 use Rattle.near.specs.Reach.{Workable, radius}
 use Rattle.near.specs.Places.{points}
-use Rattle.near.specs.Codeword.{symbolsOf, functionOf, messageFrom, messageFrom-function, near-function}
+use Rattle.near.specs.Codeword.{symbolsOf, messageFunction, messageFrom, messageFrom-function, near-function}
 open Field K16 using (𝟘)
 
 unfoldable pub limitOf : ℕ → ℕ
@@ -102,15 +102,15 @@ module _ (word : List ℕ) where
               points .distinct i j l h (sym (x-here i hi) ∙ ex ∙ x-here j h) (sym (y-here i hi) ∙ ey ∙ y-here j h);
         })
 
-    word-near : (m : List ℕ) → T (nearTo k word m) → Near K16 4 (mOf k) (reachOf k) (length (nodesOf word)) X Y Z (functionOf k m)
+    word-near : (m : List ℕ) → T (nearTo k word m) → Near K16 4 (mOf k) (reachOf k) (length (nodesOf word)) X Y Z (messageFunction k m)
     word-near m t =
         let N = near-function rate word m t in
-        subst (λ n. Near K16 4 (mOf k) (reachOf k) n X Y Z (functionOf k m)) (sym size)
+        subst (λ n. Near K16 4 (mOf k) (reachOf k) n X Y Z (messageFunction k m)) (sym size)
         (record {
           fn = N .fn;
           order = N .order;
           value = N .value;
-          val = λ i h. subst₂ (λ x y. Val K16 4 x y (functionOf k m) (N .value i)) (sym (x-here i h)) (sym (y-here i h)) (N .val i h);
+          val = λ i h. subst₂ (λ x y. Val K16 4 x y (messageFunction k m) (N .value i)) (sym (x-here i h)) (sym (y-here i h)) (N .val i h);
           few =
               omega
               (arith, N .few, Distance.differing-ext K16 64 (N .value) Z (N .value) (symbolsOf word) (λ i h. refl) z-here);

@@ -1,15 +1,16 @@
 -- The laws of nearness, of the count of test words and of the answer.
 --
 --   near-answers        the answer in the sense of `lists`: it has a near codeword and beats every other such message; or there is none
---   near-nil, near-cons, near-append, near-member     near some test word of a list
+--   near-nil, near-cons, near-append, near-member, member-near     near some test word of a list
 --   tests-nil, tests-cons, tests-append, tests-none   the count of a list of test words
+--   tests-answerless    where there is no answer, it is 0
 --   tests-le            it is at most their number; tests-tree: d doubtful places have at most 2 ^ d
 --   answer-append       the answer of two lists is the better of their answers
 --   answer-one          the answer of one test word is the message within T of it, whatever the costs
 --   answer-none, codeword-none   where no codeword is near
 use mathlib.Core.Bool.{Bool, true, false, _||_}
 use mathlib.Core.Path.{_≡_, refl, sym, ap, _∙_, subst}
-use mathlib.Core.List.{List, [], _∷_, _++_, List·Memᴰ, List·Memᴰ·head, List·Memᴰ·tail}
+use mathlib.Core.List.{List, [], _∷_, _++_, List·Memᴰ, List·Memᴰ·head, List·Memᴰ·tail, List·Memᴰ·cases-cons, List·Memᴰ·not-nil}
 use mathlib.Core.Logic.{_↔_, _⊎_, inl, inr, ⊎-elim}
 use mathlib.Core.Option.{none}
 use Prim.Native.Nat.{ℕ, _+_, _^_, _≤_}
@@ -17,7 +18,7 @@ use native.Mathlib.Omega.{arith}
 use lib.Dec.{T}
 use lib.ListN.{length}
 use Rattle.lists.specs.Count.{bit, bit-le}
-use Rattle.lists.specs.Answers.{Answers, Found, answers-unique, answers-iff, answers-single, nobody, better, better-answers, free, firstThat-words, cheapest-words}
+use Rattle.lists.specs.Answers.{Answers, Found, answers-unique, answers-none, answers-iff, answers-single, nobody, better, better-answers, free, firstThat-words, cheapest-words}
 use Rattle.soft.specs.TestWord.{testWords}
 use Rattle.soft.specs.TestWordLaws.{testWords-count}
 use Rattle.near.specs.Near.{nearTo, codewordNear, near, isSome, testsNear, messageCost, answerOf}
@@ -65,6 +66,13 @@ near-member k (t ∷ ts) m h = go (either (nearTo k t m) (near k ts m) h) (near-
         → (u : List ℕ) × List·Memᴰ u (t ∷ ts) × T (nearTo k u m)
     go (inl a) ih = (t, List·Memᴰ·head refl, a)
     go (inr a) ih = let r = ih a in (r .0, List·Memᴰ·tail (r .1), r .2)
+
+pub member-near : (k : ℕ) (ts : List (List ℕ)) (t m : List ℕ) → List·Memᴰ t ts → T (nearTo k t m) → T (near k ts m)
+unfolding near
+member-near k [] t m i h = absurd (List·Memᴰ·not-nil i)
+member-near k (u ∷ ts) t m i h =
+    ⊎-elim (λ (e : t ≡ u). or-left (nearTo k u m) (near k ts m) (subst (λ x. T (nearTo k x m)) e h))
+    (λ j. or-right (nearTo k u m) (near k ts m) (member-near k ts t m j h)) (List·Memᴰ·cases-cons i)
 
 -- ---- the answer
 
@@ -135,6 +143,12 @@ tests-none k [] h = tests-nil k
 tests-none k (t ∷ ts) h =
     omega
     (arith, tests-cons k t ts, ap (λ o. bit (isSome o)) (h t (List·Memᴰ·head refl)), tests-none k ts (λ u m. h u (List·Memᴰ·tail m)))
+
+pub tests-answerless : (k : ℕ) (columns : ℕ → List ℕ) (ts : List (List ℕ)) → answerOf k columns ts ≡ none → testsNear k ts ≡ 0
+tests-answerless k columns ts e =
+    let a = subst (Answers (messageCost k columns) (Found 16 k (near k ts))) e (near-answers k columns ts) in
+    tests-none k ts
+    (λ t i. codeword-none k t (λ m f. answers-none a m (record { word = f .word; passed = member-near k ts t m i (f .passed) })))
 
 pub tests-le : (k : ℕ) (ts : List (List ℕ)) → testsNear k ts ≤ length ts
 tests-le k [] = omega (arith, tests-nil k)

@@ -17,7 +17,7 @@ use Rattle.hermitian.specs.Orders.{orderOf, orderOf-present}
 use Rattle.curve.specs.Curve.{yOf, power, power-nil, power-suc}
 use Rattle.code.specs.Evaluation.{order-below}
 use Rattle.reading_back.specs.Lanes.{timesPlus, timesPlus-at}
-use Rattle.code.specs.Extraction.{atZero, symbolIn, symbol-in, symbolAt, messageAt, momentsOf, fibreTerm, fibreSum, momentTerm, momentUpTo, momentRow}
+use Rattle.code.specs.Extraction.{atZero, momentSymbol, symbol-in, extractedAt, messageAt, momentsOf, fibreTerm, fibreSum, momentTerm, momentUpTo, momentRow}
 
 -- an entry of a list by a rule
 pub entry : (n i : ℕ) (f : ℕ → ℕ) {l : List ℕ} → l ≡ listed n f → i < n → getD l i 0 ≡ f i
@@ -86,8 +86,8 @@ other-dropped (suc i) a n = refl
 
 module _ (ms : List (List ℕ)) (i j : ℕ) where
   pub symbol-from : {y z u : ℕ} → y ≡ atZero i (getD (getD ms 0 []) 0 0) → z ≡ atZero i (getD (getD ms (3 - j) []) 0 0)
-      → u ≡ atZero j (bitXor (getD (getD ms 0 []) (15 - i) 0) y) → bitXor (getD (getD ms (3 - j) []) (15 - i) 0) (bitXor z u) ≡ symbolIn ms i j
-  unfolding symbolIn
+      → u ≡ atZero j (bitXor (getD (getD ms 0 []) (15 - i) 0) y) → bitXor (getD (getD ms (3 - j) []) (15 - i) 0) (bitXor z u) ≡ momentSymbol ms i j
+  unfolding momentSymbol
   symbol-from e f g =
       ap₂ (λ a b. bitXor (getD (getD ms (3 - j) []) (15 - i) 0) (bitXor a b)) f
       (g ∙ ap (λ a. atZero j (bitXor (getD (getD ms 0 []) (15 - i) 0) a)) e)
@@ -105,7 +105,7 @@ order-fits t {o} e =
     (p, omega (arith, order-below (t % 58) (omega arith)))
 
 pub message-entry : (v : List ℕ) (t : ℕ) {ms : List (List ℕ)} {o s : ℕ} → t < 58 → ms ≡ momentsOf v → o ≡ orderOf 4 (t % 58)
-    → s ≡ symbolIn ms (o / 4 - o % 4) (o % 4) → s ≡ messageAt v t
-unfolding messageAt symbolAt
+    → s ≡ momentSymbol ms (o / 4 - o % 4) (o % 4) → s ≡ messageAt v t
+unfolding messageAt extractedAt
 message-entry v t {ms} {o} h e f g =
-    g ∙ ap₂ (λ x k. symbolIn x (k / 4 - k % 4) (k % 4)) e (f ∙ ap (orderOf 4) (mod-eq-of-lt h)) ∙ symbol-in v _ _
+    g ∙ ap₂ (λ x k. momentSymbol x (k / 4 - k % 4) (k % 4)) e (f ∙ ap (orderOf 4) (mod-eq-of-lt h)) ∙ symbol-in v _ _

@@ -6,7 +6,7 @@ ghost use lib.ListN.{length};
 ghost use Rattle.lists.specs.Listed.{listed};
 ghost use Rattle.hermitian.specs.Present.{Present};
 ghost use Rattle.curve.specs.Curve.{power};
-ghost use Rattle.code.specs.Extraction.{atZero, extractOf, fibreSum, momentRow, momentsOf, symbolIn};
+ghost use Rattle.code.specs.Extraction.{atZero, extractOf, fibreSum, momentRow, momentsOf, momentSymbol};
 ghost use Rattle.reading_back.specs.Lanes.{timesPlus};
 ghost use Rattle.code.specs.Calls.{outcome, readBackCall};
 use curve::y_at;
@@ -118,7 +118,7 @@ fn at_zero(i: usize, a: u8) -> u8
 // The coefficient of a present order, from the moments.
 fn symbol(moments: [[u8; 16]; 4], order: usize) -> u8
     requires { ⌜ (Present 4 order) × (order < 64) ⌝ }
-    ensures { λ r. ⌜ r ≡ symbolIn moments (order / 4 - order % 4) (order % 4) ⌝ }
+    ensures { λ r. ⌜ r ≡ momentSymbol moments (order / 4 - order % 4) (order % 4) ⌝ }
 {
     let j = order % 4;
     let i = order / 4 - j;

@@ -27,7 +27,7 @@ use Rattle.lists.specs.Distinct.{among, below, distinct, among-nil, among-one, 
 use Rattle.lists.specs.Block.{block, putBlock, block-length, put-length, put-same, put-other, block-replicate, block-ext}
 use Rattle.lists.specs.Padded.{padded-length, padded-take, padded-rest}
 use Rattle.code.specs.Encoding.{knownRate}
-use Rattle.book.specs.Book.{places, width, Entry, Book, newBook, columnOf, taken, Outcome}
+use Rattle.book.specs.Book.{places, width, Entry, Book, newBook, columnIn, taken, Outcome}
 use Rattle.book.specs.Opening.{risingFrom, rising, fitPlaces, fitDoubt, refusedOpening, openOf}
 use Rattle.book.specs.Delivery.{withEntry}
 use Rattle.book.specs.RowLaws.{placesOf, wide, Proper, places-append, wide-append, column-append, column-one, taken-among, deliver-above, deliver-taken, deliver-accepted, open-refused-rate, open-refused-list, open-accepted}
@@ -309,12 +309,12 @@ module _ (rate : ℕ) (list : List ℕ) where
 -- ---- the table
 
 entry-column : (arrival costs : List ℕ) (i : ℕ)
-    → columnOf (entryAt arrival costs i ∷ []) (getD arrival i 0) ≡ some (block width (getD arrival i 0) costs)
+    → columnIn (entryAt arrival costs i ∷ []) (getD arrival i 0) ≡ some (block width (getD arrival i 0) costs)
 unfolding entryAt
 entry-column arrival costs i = column-one (entryAt arrival costs i)
 
 there : (arrival costs : List ℕ) (n p : ℕ) → n ≤ length arrival → among p (take n arrival) ≡ true
-    → columnOf (listed n (entryAt arrival costs)) p ≡ some (block width p costs)
+    → columnIn (listed n (entryAt arrival costs)) p ≡ some (block width p costs)
 there arrival costs zero p h a = absurd (false≢true (sym (among-nil p) ∙ a))
 there arrival costs (suc n) p h a =
     rw listed-suc
@@ -331,10 +331,10 @@ there arrival costs (suc n) p h a =
     parts = sym (ap (among p) (take-suc arrival n 0 h) ∙ among-append p (take n arrival) (q ∷ [])) ∙ a
 
     go : (t : Bool) → taken (listed n (entryAt arrival costs)) p ≡ t
-        → (among p (take n arrival) ≡ true → columnOf (listed n (entryAt arrival costs)) p ≡ some (block width p costs))
-        → cond t (columnOf (listed n (entryAt arrival costs)) p) (columnOf (entryAt arrival costs n ∷ []) p) ≡ some (block width p costs)
+        → (among p (take n arrival) ≡ true → columnIn (listed n (entryAt arrival costs)) p ≡ some (block width p costs))
+        → cond t (columnIn (listed n (entryAt arrival costs)) p) (columnIn (entryAt arrival costs n ∷ []) p) ≡ some (block width p costs)
     go true e ih = ih (sym before ∙ e)
-    go false e ih = ap (columnOf (entryAt arrival costs n ∷ [])) (sym same) ∙ entry-column arrival costs n ∙ ap (λ x. some (block width x costs)) same
+    go false e ih = ap (columnIn (entryAt arrival costs n ∷ [])) (sym same) ∙ entry-column arrival costs n ∙ ap (λ x. some (block width x costs)) same
       where
         second : (b c : Bool) → b ≡ false → (b || c) ≡ true → c ≡ true
         second true c x y = absurd (true≢false x)
@@ -345,7 +345,7 @@ there arrival costs (suc n) p h a =
 
 module _ (s : Session) (good : Good s) where
   pub column-there : (p : ℕ) → among p (take (s .taken) (s .arrival)) ≡ true
-      → columnOf (bookOf s .row) p ≡ some (block width p (s .costs))
+      → columnIn (bookOf s .row) p ≡ some (block width p (s .costs))
   unfolding bookOf
   column-there p a = there (s .arrival) (s .costs) (s .taken) p (omega (arith, good .taken-fits, good .row-room)) a
 
@@ -391,7 +391,7 @@ module _ (s t : Session) (a : Good s) (b : Good t) (same : bookOf s ≡ bookOf t
       go : (x : Bool) → among p (take (s .taken) (s .arrival)) ≡ x → block width p (s .costs) ≡ block width p (t .costs)
       go true e =
           Option·some-injective (block width p (s .costs)) (block width p (t .costs))
-          (sym (column-there s a p e) ∙ ap (λ (x : Book). columnOf (x .row) p) same
+          (sym (column-there s a p e) ∙ ap (λ (x : Book). columnIn (x .row) p) same
           ∙ column-there t b p (sym (ap (among p) same-places) ∙ e))
       go false e = a .table-rest p h e ∙ sym (b .table-rest p h (sym (ap (among p) same-places) ∙ e))
 

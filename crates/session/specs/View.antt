@@ -8,12 +8,13 @@
 use mathlib.Core.Bool.{true, false}
 use mathlib.Core.Path.{_≡_}
 use mathlib.Core.List.{List}
-use Prim.Native.Nat.{ℕ, _≤_, _<_}
+use Prim.Native.Nat.{ℕ, _*_, _≤_, _<_}
 use lib.ListN.{length, getD, take, drop, replicate}
 use Rattle.lists.specs.Listed.{listed}
 use Rattle.lists.specs.Distinct.{among, below, distinct}
 use Rattle.lists.specs.Block.{block}
 use Rattle.lists.specs.Padded.{padded}
+use Rattle.soft.specs.Doubt.{mostDoubt}
 use Rattle.code.specs.Encoding.{knownRate}
 use Rattle.book.specs.Book.{places, width, Entry, Book}
 use Rattle.book.specs.Opening.{fitDoubt}
@@ -24,10 +25,10 @@ newSession rate list =
     record {
       rate = rate;
       doubt = length list;
-      doubtful = padded 8 list;
+      doubtful = padded mostDoubt list;
       taken = 0;
-      arrival = replicate 64 0;
-      costs = replicate 1024 0;
+      arrival = replicate places 0;
+      costs = replicate (places * width) 0;
     }
 
 unfoldable pub entryAt : List ℕ → List ℕ → ℕ → Entry
@@ -43,14 +44,14 @@ bookOf s =
 
 pub record Good (s : Session) : Type 0 where
   pub rate-known : knownRate (s .rate) ≡ true
-  pub list-room : length (s .doubtful) ≡ 8
-  pub doubt-fits : s .doubt ≤ 8
+  pub list-room : length (s .doubtful) ≡ mostDoubt
+  pub doubt-fits : s .doubt ≤ mostDoubt
   pub list-fit : fitDoubt (take (s .doubt) (s .doubtful)) ≡ true
-  pub list-rest : drop (s .doubt) (s .doubtful) ≡ drop (s .doubt) (replicate 8 0)
+  pub list-rest : drop (s .doubt) (s .doubtful) ≡ drop (s .doubt) (replicate mostDoubt 0)
   pub row-room : length (s .arrival) ≡ places
   pub taken-fits : s .taken ≤ places
   pub in-range : below places (take (s .taken) (s .arrival)) ≡ true
   pub apart : distinct (take (s .taken) (s .arrival)) ≡ true
   pub row-rest : drop (s .taken) (s .arrival) ≡ drop (s .taken) (replicate places 0)
-  pub table-room : length (s .costs) ≡ 1024
+  pub table-room : length (s .costs) ≡ places * width
   pub table-rest : (p : ℕ) → p < places → among p (take (s .taken) (s .arrival)) ≡ false → block width p (s .costs) ≡ replicate width 0

@@ -120,8 +120,8 @@ module _ (column : List ℕ) (b : ℕ) where
             first = more {P = λ s. costOf column s ≡ costOf column r → r ≤ s} (h .first) (λ e q. at e);
           }
 
-      take : n ≢ b → costOf column n < costOf column r → Held column b (suc n) n
-      take e l =
+      exchanged : n ≢ b → costOf column n < costOf column r → Held column b (suc n) n
+      exchanged e l =
           record {
             place = inl (omega arith);
             other = e;
@@ -137,7 +137,7 @@ module _ (column : List ℕ) (b : ℕ) where
       go (yes e) d = rw (betterOf-left b r (costOf column r) n (costOf column n) e) (keep (λ z. absurd (z e)))
       go (no e) (yes l) = rw (betterOf-held b r (costOf column r) n (costOf column n) e l) (keep (λ z. l))
       go (no e) (no l) =
-          rw (betterOf-next b r (costOf column r) n (costOf column n) e (omega arith)) (take e (omega arith))
+          rw (betterOf-next b r (costOf column r) n (costOf column n) e (omega arith)) (exchanged e (omega arith))
 
   held-all : (n : ℕ) → Held column b n (bestBut column b n)
   held-all zero =
