@@ -5,8 +5,8 @@
  * it was. The library keeps no state, allocates nothing and calls nothing back: any two
  * calls on different buffers may run at once.
  *
- * Lengths. Every buffer is a pointer and the number of bytes behind it, and any number may
- * be passed: a wrong one is refused. k is the rate, 39 or 49.
+ * Lengths. Every buffer is a pointer and the true number of bytes behind it. A buffer that
+ * is not of the size that a call asks for is refused. k is the rate, 39 or 49.
  *
  *   message   exactly k bytes, one symbol each, 0 to 15
  *   word      exactly 64 bytes, one symbol each, place 0 first
@@ -15,6 +15,8 @@
  *             two bytes each, high byte first
  *   report    exactly 8 bytes, high byte first: the total (4), the test words with a
  *             codeword within T (2), the pinned places (1), the changed places (1)
+ *
+ * Stack: table decoding with eight doubtful places touches some 44 KiB of it (bench/stack).
  *
  * What C cannot check and the caller must see to:
  *   - a pointer is not null, also where its length is 0, and its bytes may be read, or
