@@ -2,10 +2,11 @@
 // the same calls and compare. The session is carried from call to call; the first is a new one of rate 39.
 // A call is a letter, two bytes of length and that many bytes of arguments; reference/src/calls.rs has the letters.
 // The input ends at the first call that is cut short or too long.
-mod answers;
-mod stream;
-
 use session::Session;
+use stream::answers::answer;
+use stream::bytes::MOST_BYTES;
+use stream::bytes::number;
+use stream::bytes::read;
 
 // The session after a call, and whether there was one.
 struct Turn {
@@ -23,10 +24,10 @@ fn ended(current: Session) -> Turn {
 // Reads a call's arguments into the space given for them, and answers it.
 fn answer_next(current: Session, letter: u8, arguments: &mut [u8]) -> Turn {
     let length = arguments.len();
-    if stream::read(arguments) < length {
+    if read(arguments) < length {
         return ended(current);
     }
-    let left = answers::answer(current, letter, arguments);
+    let left = answer(current, letter, arguments);
     Turn {
         called: true,
         session: left,
@@ -35,11 +36,11 @@ fn answer_next(current: Session, letter: u8, arguments: &mut [u8]) -> Turn {
 
 fn next_call(current: Session) -> Turn {
     let mut head = [0u8; 3];
-    if stream::read(&mut head) < 3 {
+    if read(&mut head) < 3 {
         return ended(current);
     }
-    let length = stream::number(head[1], head[2]);
-    if stream::MOST_BYTES < length {
+    let length = number(head[1], head[2]);
+    if MOST_BYTES < length {
         return ended(current);
     }
     let mut arguments = io::buffer();

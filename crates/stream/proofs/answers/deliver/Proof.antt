@@ -1,8 +1,8 @@
 -- The session is the one that delivery of the column leaves.
 use borrow.Author.Needs.{needs}
-use Rattle.replay.proofs.Answering.{delivered-as}
-use Rattle.replay.proofs.answers.deliver.Statement.{statement}
-use Rattle.replay.proofs.answers.deliver.Tie as tie
+use Rattle.stream.proofs.Answering.{delivered-as}
+use Rattle.stream.proofs.answers.deliver.Statement.{statement}
+use Rattle.stream.proofs.answers.deliver.Tie as tie
 
 column-from-requires : tie.Need-column-from-requires
 column-from-requires c κs = search needs

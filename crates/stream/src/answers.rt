@@ -1,6 +1,6 @@
 // The answer to each call: the refusal's number or 0, then all bytes of the lent buffers; to a look-up, the part's length and the part.
 // Each call takes the session and hands back the one that it leaves. The calls themselves are made by `runs`.
-use crate::stream;
+use crate::bytes;
 use columns::costs::SYMBOLS;
 use libc::STDOUT_FILENO;
 use runs::Kind;
@@ -11,7 +11,7 @@ ghost use lib.ListN.{length};
 ghost use Rattle.soft.specs.Column.{symbols, costsFrom};
 ghost use Rattle.book.specs.Opening.{openOf};
 ghost use Rattle.book.specs.CaptureOpening.{openCaptureOf};
-ghost use Rattle.replay.specs.Changes.{delivered, changeBy, numberedChange, changeOf, StandsFor, Leaves};
+ghost use Rattle.stream.specs.Changes.{delivered, changeBy, numberedChange, changeOf, StandsFor, Leaves};
 
 // What lent buffers hold before a call.
 const LENT: u8 = 0xEE;
@@ -105,7 +105,7 @@ fn deliver(current: Session, place: usize, column: &[u8]) -> Session
 fn read(current: Session, size: usize) -> Session
     ensures { λ r. ⌜ r ≡ current ⌝ }
 {
-    if stream::MOST_BYTES < size {
+    if bytes::MOST_BYTES < size {
         return current;
     }
     let none = [0u16; SYMBOLS];
@@ -115,7 +115,7 @@ fn read(current: Session, size: usize) -> Session
 fn write_capture(current: Session, size: usize) -> Session
     ensures { λ r. ⌜ r ≡ current ⌝ }
 {
-    if stream::MOST_BYTES < size {
+    if bytes::MOST_BYTES < size {
         return current;
     }
     let none = [0u16; SYMBOLS];
@@ -125,10 +125,10 @@ fn write_capture(current: Session, size: usize) -> Session
 fn close_into(current: Session, size: usize, report_size: usize) -> Session
     ensures { λ r. ⌜ r ≡ current ⌝ }
 {
-    if stream::MOST_BYTES < size {
+    if bytes::MOST_BYTES < size {
         return current;
     }
-    if stream::MOST_BYTES < report_size {
+    if bytes::MOST_BYTES < report_size {
         return current;
     }
     let none = [0u16; SYMBOLS];
@@ -141,7 +141,7 @@ fn close(current: Session, size: usize, rest: &[u8]) -> Session
     if rest.len() < 2 {
         return current;
     }
-    close_into(current, size, stream::number(rest[0], rest[1]))
+    close_into(current, size, bytes::number(rest[0], rest[1]))
 }
 
 fn look_up(current: Session, place: usize, bytes: &[u8]) -> Session
@@ -178,6 +178,6 @@ pub fn answer(current: Session, letter: u8, arguments: &[u8]) -> Session
     if arguments.len() < 2 {
         return current;
     }
-    let number = stream::number(arguments[0], arguments[1]);
+    let number = bytes::number(arguments[0], arguments[1]);
     answer_numbered(current, letter, number, &arguments[2..])
 }

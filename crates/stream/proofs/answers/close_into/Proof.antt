@@ -1,9 +1,9 @@
 -- Buffers of more than 4,096 bytes are not lent; closing leaves the session as it was.
 use borrow.Author.Needs.{needs}
-use Rattle.replay.specs.Changes.{changeBy}
-use Rattle.replay.proofs.Answering.{kept-same}
-use Rattle.replay.proofs.answers.close_into.Statement.{statement}
-use Rattle.replay.proofs.answers.close_into.Tie as tie
+use Rattle.stream.specs.Changes.{changeBy}
+use Rattle.stream.proofs.Answering.{kept-same}
+use Rattle.stream.proofs.answers.close_into.Statement.{statement}
+use Rattle.stream.proofs.answers.close_into.Tie as tie
 
 returns : tie.Need-returns
 returns c = search needs

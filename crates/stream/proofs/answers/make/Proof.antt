@@ -1,8 +1,8 @@
 -- The session is the one that the step leaves.
 use borrow.Author.Needs.{needs}
-use Rattle.replay.proofs.Answering.{leaves-step}
-use Rattle.replay.proofs.answers.make.Statement.{statement}
-use Rattle.replay.proofs.answers.make.Tie as tie
+use Rattle.stream.proofs.Answering.{leaves-step}
+use Rattle.stream.proofs.answers.make.Statement.{statement}
+use Rattle.stream.proofs.answers.make.Tie as tie
 
 step-requires : tie.Need-step-requires
 step-requires c κs = search needs

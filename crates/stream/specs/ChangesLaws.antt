@@ -9,7 +9,7 @@ use Rattle.book.specs.Delivery.{deliverOf}
 use Rattle.session.specs.declared.Session.{Session}
 use Rattle.session.specs.View.{bookOf, Good}
 use Rattle.session.specs.Laws.{one-session}
-use Rattle.replay.specs.Changes.{Change, renewed, delivered, kept, StandsFor, Leaves, leaves-renewed, leaves-delivered, leaves-kept}
+use Rattle.stream.specs.Changes.{Change, renewed, delivered, kept, StandsFor, Leaves, leaves-renewed, leaves-delivered, leaves-kept}
 
 unfoldable pub bookAfter : Book → Change → Book
 bookAfter book (renewed new) = new

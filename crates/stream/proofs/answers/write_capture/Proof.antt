@@ -1,9 +1,9 @@
 -- A buffer of more than 4,096 bytes is not lent; the call leaves the session as it was.
 use borrow.Author.Needs.{needs}
-use Rattle.replay.specs.Changes.{changeBy}
-use Rattle.replay.proofs.Answering.{kept-same}
-use Rattle.replay.proofs.answers.write_capture.Statement.{statement}
-use Rattle.replay.proofs.answers.write_capture.Tie as tie
+use Rattle.stream.specs.Changes.{changeBy}
+use Rattle.stream.proofs.Answering.{kept-same}
+use Rattle.stream.proofs.answers.write_capture.Statement.{statement}
+use Rattle.stream.proofs.answers.write_capture.Tie as tie
 
 returns : tie.Need-returns
 returns c = search needs

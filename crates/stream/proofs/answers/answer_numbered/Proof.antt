@@ -2,10 +2,10 @@
 use mathlib.Core.Path.{refl}
 use native.Mathlib.Omega.{arith}
 use borrow.Author.Needs.{needs}
-use Rattle.replay.specs.Changes.{leaves-renewed, leaves-kept}
-use Rattle.replay.proofs.Answering.{leaves-as, numbered-open, numbered-deliver, numbered-kept}
-use Rattle.replay.proofs.answers.answer_numbered.Statement.{statement}
-use Rattle.replay.proofs.answers.answer_numbered.Tie as tie
+use Rattle.stream.specs.Changes.{leaves-renewed, leaves-kept}
+use Rattle.stream.proofs.Answering.{leaves-as, numbered-open, numbered-deliver, numbered-kept}
+use Rattle.stream.proofs.answers.answer_numbered.Statement.{statement}
+use Rattle.stream.proofs.answers.answer_numbered.Tie as tie
 
 open-requires : tie.Need-open-requires
 open-requires c κs = search needs

@@ -3,8 +3,8 @@ use mathlib.Core.Path.{sym}
 use native.Mathlib.Omega.{arith}
 use lib.Seq.{length-take-le}
 use borrow.Author.Needs.{needs}
-use Rattle.replay.proofs.answers.lend.Statement.{statement}
-use Rattle.replay.proofs.answers.lend.Tie as tie
+use Rattle.stream.proofs.answers.lend.Statement.{statement}
+use Rattle.stream.proofs.answers.lend.Tie as tie
 
 lent-requires : tie.Need-lent-requires
 lent-requires c κs = search needs

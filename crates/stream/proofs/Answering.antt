@@ -23,7 +23,7 @@ use Rattle.runs.specs.declared.Kind.the-variants.{Deliver, Read, Write, Close}
 use Rattle.runs.specs.declared.Stepped.{Stepped}
 use Rattle.runs.specs.Step.{delivers}
 use Rattle.runs.specs.Stepping.{Stepping, callOf}
-use Rattle.replay.specs.Changes.{Change, renewed, delivered, kept, changeBy, openLetter, captureLetter, deliverLetter, numberIn, numberedChange, changeOf, Leaves, leaves-delivered, leaves-kept}
+use Rattle.stream.specs.Changes.{Change, renewed, delivered, kept, changeBy, openLetter, captureLetter, deliverLetter, numberIn, numberedChange, changeOf, Leaves, leaves-delivered, leaves-kept}
 
 pub leaves-as : {s t : Session} {change other : Change} → change ≡ other → Leaves s other t → Leaves s change t
 leaves-as {s} {t} e = subst (λ c. Leaves s c t) (sym e)

@@ -1,10 +1,10 @@
 -- A capture opens; arguments too short for a number change nothing; the rest goes by the letter.
 use mathlib.Core.Path.{refl}
 use borrow.Author.Needs.{needs}
-use Rattle.replay.specs.Changes.{leaves-renewed, leaves-kept}
-use Rattle.replay.proofs.Answering.{leaves-as, change-capture, change-short, change-numbered}
-use Rattle.replay.proofs.answers.answer.Statement.{statement}
-use Rattle.replay.proofs.answers.answer.Tie as tie
+use Rattle.stream.specs.Changes.{leaves-renewed, leaves-kept}
+use Rattle.stream.proofs.Answering.{leaves-as, change-capture, change-short, change-numbered}
+use Rattle.stream.proofs.answers.answer.Statement.{statement}
+use Rattle.stream.proofs.answers.answer.Tie as tie
 
 open-capture-requires : tie.Need-open-capture-requires
 open-capture-requires c κs = search needs
