@@ -1,8 +1,48 @@
 // Runs R1 to R6 of document 01's bench sheet on the library, by table and by session. A line is the name, the call's number, the eight bytes of
 // the report, and whether a bit is set anywhere in the message buffer, both as the call left them: they are lent filled with 1.
-use frames::filled;
-use frames::table;
 use libc::STDOUT_FILENO;
+use session::Session;
+
+// Is place p one of the first m of the places 0, 10, 20, 30, 40, 50, 60?
+fn leaning(place: usize, m: usize) -> bool {
+    if place % 10 == 0 {
+        return place / 10 < m;
+    }
+    false
+}
+
+// The column of a place in the frame S(m): where it leans, symbol 1 costs 0 and symbol 0 costs 30; elsewhere symbol 0 costs 0; others 40.
+fn column(place: usize, m: usize) -> [u16; 16] {
+    let mut out = [40u16; 16];
+    out[0] = 0;
+    if leaning(place, m) {
+        out[0] = 30;
+        out[1] = 0;
+    }
+    out
+}
+
+fn table(m: usize) -> [u8; 2048] {
+    let mut out = [0u8; 2048];
+    for i in 0..1024 {
+        let costs = column(i / 16, m);
+        out[i * 2 + 1] = (costs[i % 16] % 256) as u8;
+    }
+    out
+}
+
+// The session that got the frame S(m), the last place first.
+fn filled(rate: usize, list: &[u8], m: usize) -> Session {
+    let opened = session::open(rate, list);
+    let mut current = opened.session;
+    for i in 0..64 {
+        let place = 63 - i;
+        let delivered = session::deliver(current, place, column(place, m));
+        let left = delivered.session;
+        current = left;
+    }
+    current
+}
 
 fn show_byte(n: u8) {
     io::write_all(STDOUT_FILENO, b" ");

@@ -1,8 +1,8 @@
 -- `filled` is safe and ends: the place stays below 64.
 use Prim.Native.Nat.{_≤_, _-_}
 use borrow.Author.Needs.{needs}
-use Rattle.frames.proofs.filled.Statement.{statement}
-use Rattle.frames.proofs.filled.Tie as tie
+use Rattle.bench_sheet.proofs.filled.Statement.{statement}
+use Rattle.bench_sheet.proofs.filled.Tie as tie
 
 abbrev Inv-loop : tie.InvT-loop
 Inv-loop rate list m current₀ i₀ current i = i ≤ 64

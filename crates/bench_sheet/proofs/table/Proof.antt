@@ -1,8 +1,8 @@
 -- `table` is safe and ends: the index stays within the table.
 use Prim.Native.Nat.{_≤_, _-_}
 use borrow.Author.Needs.{needs}
-use Rattle.frames.proofs.table.Statement.{statement}
-use Rattle.frames.proofs.table.Tie as tie
+use Rattle.bench_sheet.proofs.table.Statement.{statement}
+use Rattle.bench_sheet.proofs.table.Tie as tie
 
 abbrev Inv-loop : tie.InvT-loop
 Inv-loop m out₀ i₀ out i = i ≤ 1024
