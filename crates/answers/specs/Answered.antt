@@ -15,6 +15,8 @@ use Rattle.lists.specs.Padded.{padded, padded-take}
 use Rattle.lists.specs.Words.{Word}
 use Rattle.lists.specs.Answers.{Answers, answers-some, Found as Passed}
 use Rattle.code.specs.Encoding.{encodeOf}
+use Rattle.code.specs.Rates.{mostRate}
+use Rattle.soft.specs.Column.{places, symbols}
 use Rattle.near.specs.Near.{near, testsNear, messageCost, answerOf}
 use Rattle.near.specs.Laws.{near-answers, tests-answerless}
 use Rattle.answers.specs.declared.Answer.{Answer}
@@ -27,9 +29,9 @@ unfoldable pub counted : ℕ → Found → Found
 counted n f = record { answer = f .answer; message = f .message; codeword = f .codeword; tests = n }
 
 pub record Sound (k : ℕ) (columns : ℕ → List ℕ) (f : Found) : Type 0 where
-  pub nothing : f .answer ≡ NoneNear → (f .message ≡ replicate 49 0) × (f .codeword ≡ replicate 64 0)
-  pub word : (t : ℕ) → f .answer ≡ Near t → Word 16 k (take k (f .message))
-  pub behind : (t : ℕ) → f .answer ≡ Near t → f .message ≡ padded 49 (take k (f .message))
+  pub nothing : f .answer ≡ NoneNear → (f .message ≡ replicate mostRate 0) × (f .codeword ≡ replicate places 0)
+  pub word : (t : ℕ) → f .answer ≡ Near t → Word symbols k (take k (f .message))
+  pub behind : (t : ℕ) → f .answer ≡ Near t → f .message ≡ padded mostRate (take k (f .message))
   pub encoded : (t : ℕ) → f .answer ≡ Near t → f .codeword ≡ encodeOf k (take k (f .message))
   pub cost : (t : ℕ) → f .answer ≡ Near t → t ≡ messageCost k columns (take k (f .message))
 
@@ -66,15 +68,15 @@ module _ {k : ℕ} {columns : ℕ → List ℕ} where
           found-same f (foundFor k columns (testsNear k ts) (some (take k (f .message)))) (e ∙ ap Near (q .1)) (s .behind t e) (s .encoded t e) (n .count)
           ∙ sym (ap (foundFor k columns (testsNear k ts)) (q .0))
 
-module _ (k : ℕ) (columns : ℕ → List ℕ) (ts : List (List ℕ)) (small : k ≤ 49) where
-  answer-word : {m : List ℕ} → answerOf k columns ts ≡ some m → Word 16 k m
-  answer-word e = answers-some (subst (Answers (messageCost k columns) (Passed 16 k (near k ts))) e (near-answers k columns ts)) .word
+module _ (k : ℕ) (columns : ℕ → List ℕ) (ts : List (List ℕ)) (small : k ≤ mostRate) where
+  answer-word : {m : List ℕ} → answerOf k columns ts ≡ some m → Word symbols k m
+  answer-word e = answers-some (subst (Answers (messageCost k columns) (Passed symbols k (near k ts))) e (near-answers k columns ts)) .word
 
   -- the answer's message is read back from the front
-  front : {m : List ℕ} → answerOf k columns ts ≡ some m → m ≡ take k (padded 49 m)
+  front : {m : List ℕ} → answerOf k columns ts ≡ some m → m ≡ take k (padded mostRate m)
   front {m} e =
       let l : length m ≡ k = answer-word e .size in
-      sym (ap (λ n. take n (padded 49 m)) (sym l) ∙ padded-take 49 m (omega arith))
+      sym (ap (λ n. take n (padded mostRate m)) (sym l) ∙ padded-take mostRate m (omega arith))
 
   pub found-nearest : Nearest k columns ts (foundOf k columns ts)
   unfolding foundOf foundFor
@@ -95,8 +97,8 @@ module _ (k : ℕ) (columns : ℕ → List ℕ) (ts : List (List ℕ)) (small : 
       go (some m) e =
           record {
             nothing = λ h. let z : _≡_ {A = ℕ} 0 1 = cc in absurd (omega arith);
-            word = λ t h. subst (Word 16 k) (front e) (answer-word e);
-            behind = λ t h. ap (padded 49) (front e);
+            word = λ t h. subst (Word symbols k) (front e) (answer-word e);
+            behind = λ t h. ap (padded mostRate) (front e);
             encoded = λ t h. ap (encodeOf k) (front e);
             cost = λ t h. let q : t ≡ messageCost k columns m = cc in q ∙ ap (messageCost k columns) (front e);
           }

@@ -16,6 +16,8 @@ use lib.ListN.{take, replicate}
 use Rattle.refusals.specs.Refusal.{accepted, noneNear}
 use Rattle.lists.specs.Padded.{padded}
 use Rattle.code.specs.Encoding.{encodeOf}
+use Rattle.code.specs.Rates.{mostRate}
+use Rattle.soft.specs.Column.{places}
 use Rattle.near.specs.Near.{testsNear, messageCost, answerOf}
 use Rattle.answers.specs.declared.Answer.{Answer}
 use Rattle.answers.specs.declared.Answer.the-variants.{NoneNear, Near}
@@ -42,13 +44,13 @@ unfoldable pub resultOf : ℕ → (ℕ → List ℕ) → List (List ℕ) → Res
 resultOf k columns tests = resultFor k columns (answerOf k columns tests)
 
 unfoldable pub nothingFound : Found
-nothingFound = record { answer = NoneNear; message = replicate 49 0; codeword = replicate 64 0; tests = 0 }
+nothingFound = record { answer = NoneNear; message = replicate mostRate 0; codeword = replicate places 0; tests = 0 }
 
 -- by the answer's message, if there is one
 unfoldable pub foundFor : ℕ → (ℕ → List ℕ) → ℕ → Option (List ℕ) → Found
 foundFor k columns tests none = nothingFound
 foundFor k columns tests (some m) =
-    record { answer = Near (messageCost k columns m); message = padded 49 m; codeword = encodeOf k m; tests = tests }
+    record { answer = Near (messageCost k columns m); message = padded mostRate m; codeword = encodeOf k m; tests = tests }
 
 unfoldable pub foundOf : ℕ → (ℕ → List ℕ) → List (List ℕ) → Found
 foundOf k columns tests = foundFor k columns (testsNear k tests) (answerOf k columns tests)

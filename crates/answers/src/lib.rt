@@ -4,6 +4,7 @@ ghost use mathlib.Core.Path.{_≡_};
 ghost use Prim.Native.Nat.{_+_, _≤_};
 ghost use lib.ListN.{take};
 ghost use Rattle.lists.specs.Words.{isBefore};
+ghost use Rattle.code.specs.Rates.{mostRate};
 ghost use Rattle.answers.specs.Result.{nothingFound};
 ghost use Rattle.answers.specs.Better.{betterOf};
 use candidate::Message;
@@ -38,7 +39,7 @@ pub fn none_near() -> Found
 
 // Compared from symbol 0 on.
 fn before(a: Message, b: Message, k: usize) -> bool
-    requires { ⌜ k ≤ 49 ⌝ }
+    requires { ⌜ k ≤ mostRate ⌝ }
     ensures { λ r. ⌜ r ≡ isBefore (take k a) (take k b) ⌝ }
 {
     let mut t = 0;
@@ -56,7 +57,7 @@ fn before(a: Message, b: Message, k: usize) -> bool
 
 // Two branches together: the counts add, the cheaper answer wins, equal totals go to the smaller message.
 pub fn better(a: Found, b: Found, k: usize) -> Found
-    requires { ⌜ (k ≤ 49) × (a .tests + b .tests ≤ 65535) ⌝ }
+    requires { ⌜ (k ≤ mostRate) × (a .tests + b .tests ≤ 65535) ⌝ }
     ensures { λ r. ⌜ r ≡ betterOf k a b ⌝ }
 {
     let tests = a.tests + b.tests;

@@ -20,7 +20,9 @@ use Rattle.galois.specs.Field16.{K16}
 use Rattle.hermitian.specs.Orders.{orderOf}
 use Rattle.rows.specs.Rows.{coef}
 use Rattle.code.specs.Encoding.{encodeOf}
+use Rattle.code.specs.Rates.{mostRate}
 use Rattle.code.specs.Nodes.{ThroughNodes}
+use Rattle.soft.specs.Column.{places, symbols}
 use Rattle.soft.specs.Total.{differing}
 use Rattle.near.specs.Near.{mOf, reachOf, nearTo, codewordNear}
 use Rattle.near.specs.Laws.{codeword-none}
@@ -38,26 +40,26 @@ pub record Held (k : ℕ) (word row : List ℕ) : Type 0 where
   pub unspent : lead ≤ limitOf k
 
 pub record CandidateOf (k : ℕ) (row : List ℕ) (r : Candidate) : Type 0 where
-  pub word : Word 16 k (take k (r .message))
-  pub behind : r .message ≡ padded 49 (take k (r .message))
+  pub word : Word symbols k (take k (r .message))
+  pub behind : r .message ≡ padded mostRate (take k (r .message))
   pub encoded : r .codeword ≡ encodeOf k (take k (r .message))
-  pub only : (word : List ℕ) → Held k word row → (m : List ℕ) → Found 16 k (nearTo k word) m → m ≡ take k (r .message)
+  pub only : (word : List ℕ) → Held k word row → (m : List ℕ) → Found symbols k (nearTo k word) m → m ≡ take k (r .message)
 
 module _ {k : ℕ} {row : List ℕ} {r : Candidate} (C : CandidateOf k row r) (word : List ℕ) (h : Held k word row) where
-  pub candidate-near : differing 64 (r .codeword) word ≤ reachOf k → codewordNear k word ≡ some (take k (r .message))
+  pub candidate-near : differing places (r .codeword) word ≤ reachOf k → codewordNear k word ≡ some (take k (r .message))
   unfolding codewordNear nearTo
   candidate-near close =
-      firstThat-only 16 k (nearTo k word) (take k (r .message))
-      (record { word = C .word; passed = le→leb _ _ (subst (λ c. differing 64 c word ≤ reachOf k) (C .encoded) close) }) (C .only word h)
+      firstThat-only symbols k (nearTo k word) (take k (r .message))
+      (record { word = C .word; passed = le→leb _ _ (subst (λ c. differing places c word ≤ reachOf k) (C .encoded) close) }) (C .only word h)
 
-  pub candidate-far : reachOf k < differing 64 (r .codeword) word → codewordNear k word ≡ none
+  pub candidate-far : reachOf k < differing places (r .codeword) word → codewordNear k word ≡ none
   unfolding nearTo
   candidate-far far =
       codeword-none k word
       (λ n f.
       omega (
         arith,
-        leb→le (differing 64 (encodeOf k n) word) (reachOf k) (f .passed),
-        ap (λ c. differing 64 c word) (C .encoded),
-        ap (λ m. differing 64 (encodeOf k m) word) (C .only word h n f),
+        leb→le (differing places (encodeOf k n) word) (reachOf k) (f .passed),
+        ap (λ c. differing places c word) (C .encoded),
+        ap (λ m. differing places (encodeOf k m) word) (C .only word h n f),
       ))

@@ -8,13 +8,14 @@
 use Prim.Native.Nat.{ℕ, _≤_}
 use native.Mathlib.Omega.{arith}
 use Rattle.hermitian.specs.Repair.{limit}
+use Rattle.code.specs.Rates.{mostRate}
 use Rattle.near.specs.Near.{mOf, reachOf}
 use Rattle.near.specs.Reach.{Workable, genus-4}
 use Rattle.near.specs.Interpolated.{limitOf}
 
 pub record Ranged (k : ℕ) : Type 0 where
   pub least : 27 ≤ k
-  pub most : k ≤ 49
+  pub most : k ≤ mostRate
 
 pub workable : {k : ℕ} → Ranged k → Workable k
 workable h = record { least = omega arith; most = omega arith }

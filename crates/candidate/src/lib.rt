@@ -7,6 +7,7 @@ ghost use lib.ListN.{take};
 ghost use Rattle.lists.specs.Listed.{listed};
 ghost use Rattle.lists.specs.Padded.{padded};
 ghost use Rattle.code.specs.Encoding.{encodeOf};
+ghost use Rattle.code.specs.Rates.{mostRate};
 ghost use Rattle.soft.specs.Column.{places};
 ghost use Rattle.soft.specs.Total.{differing};
 ghost use Rattle.candidate.specs.Ranged.{Ranged};
@@ -36,8 +37,8 @@ pub struct Candidate {
 
 // The message of a function by order, with zeros behind it.
 fn message_of(function: [u8; PLAIN], k: usize) -> Message
-    requires { ⌜ k ≤ 49 ⌝ }
-    ensures { λ r. ⌜ r ≡ padded 49 (listed k (symbolIn function)) ⌝ }
+    requires { ⌜ k ≤ mostRate ⌝ }
+    ensures { λ r. ⌜ r ≡ padded mostRate (listed k (symbolIn function)) ⌝ }
 {
     let mut out = [0u8; MOST_RATE];
     let mut t = 0;
@@ -49,7 +50,7 @@ fn message_of(function: [u8; PLAIN], k: usize) -> Message
 }
 
 fn encoded(message: Message, k: usize) -> Word
-    requires { ⌜ k ≤ 49 ⌝ }
+    requires { ⌜ k ≤ mostRate ⌝ }
     ensures { λ r. ⌜ r ≡ encodeOf k (take k message) ⌝ }
 {
     codeword_of(&message[0..k])

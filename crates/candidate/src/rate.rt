@@ -2,6 +2,7 @@
 // up to which key rows are kept.
 ghost use mathlib.Core.Path.{_≡_};
 ghost use Prim.Native.Nat.{_-_};
+ghost use Rattle.soft.specs.Column.{places};
 ghost use Rattle.near.specs.Near.{mOf, reachOf};
 ghost use Rattle.near.specs.Interpolated.{limitOf};
 ghost use Rattle.candidate.specs.Ranged.{Ranged};
@@ -26,7 +27,7 @@ pub fn top_order(k: usize) -> usize
 // Two codewords differ in at least so many places.
 pub fn least_distance(k: usize) -> usize
     requires { ⌜ Ranged k ⌝ }
-    ensures { λ r. ⌜ r ≡ 64 - mOf k ⌝ }
+    ensures { λ r. ⌜ r ≡ places - mOf k ⌝ }
 {
     PLACES - top_order(k)
 }
