@@ -145,8 +145,8 @@ module _ (k : ℕ) (costs doubtful : List ℕ) (doubt : ℕ) (f : Found) where
       (S′ .finds
       (record {
         nodes = settled word flags 64;
-        decided = settled-decided word flags (take doubt doubtful) (flagged (A .places));
+        decided = settled-decided word flags (take doubt doubtful) (flagged (A .fit));
         basis = subst₂ (λ n l. Basis K16 8 l (ThroughNodes n (settled word flags 64)) (polynomials n rows) (leadAt leads)) m-is L-is B;
       })
-      (A .places)) in
+      (A .fit)) in
       found-is N sound ∙ sym (nearest-asked k costs doubtful doubt A)

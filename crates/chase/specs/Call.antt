@@ -8,11 +8,12 @@
 use mathlib.Core.Bool.{Bool, true, cond, _&&_}
 use mathlib.Core.Path.{_≡_}
 use mathlib.Core.List.{List}
-use Prim.Native.Nat.{ℕ, _≤_}
+use Prim.Native.Nat.{ℕ, _*_, _≤_}
 use lib.Dec.{eqb, leb}
 use lib.ListN.{length, take}
 use Rattle.code.specs.Encoding.{encodeOf, knownRate}
-use Rattle.soft.specs.Column.{columnOf}
+use Rattle.soft.specs.Column.{places, symbols, columnOf}
+use Rattle.soft.specs.Doubt.{mostDoubt}
 use Rattle.soft.specs.TestWord.{testWords}
 use Rattle.near.specs.Tree.{Places}
 use Rattle.answers.specs.declared.Answer.the-variants.{Near}
@@ -23,21 +24,21 @@ use Rattle.chase.specs.Places.{arePlaces}
 
 pub record Asked (rate : ℕ) (costs doubtful : List ℕ) (doubt : ℕ) : Type 0 where
   pub known : knownRate rate ≡ true
-  pub size : length costs ≡ 1024
-  pub few : doubt ≤ 8
-  pub places : Places (take doubt doubtful)
+  pub size : length costs ≡ places * symbols
+  pub few : doubt ≤ mostDoubt
+  pub fit : Places (take doubt doubtful)
 
 unfoldable pub askedOf : ℕ → List ℕ → List ℕ → ℕ → Bool
 askedOf rate costs doubtful doubt =
-    knownRate rate && (eqb (length costs) 1024 && (leb doubt 8 && arePlaces (take doubt doubtful)))
+    knownRate rate && (eqb (length costs) (places * symbols) && (leb doubt mostDoubt && arePlaces (take doubt doubtful)))
 
 unfoldable pub nearestOf : ℕ → List ℕ → List ℕ → ℕ → Found
 nearestOf rate costs doubtful doubt =
-    cond (askedOf rate costs doubtful doubt) (foundOf rate (columnOf 16 costs) (testWords 64 (columnOf 16 costs) (take doubt doubtful)))
+    cond (askedOf rate costs doubtful doubt) (foundOf rate (columnOf symbols costs) (testWords places (columnOf symbols costs) (take doubt doubtful)))
     nothingFound
 
 pub record NearestCall (rate : ℕ) (costs doubtful : List ℕ) (doubt : ℕ) (f : Found) : Type 0 where
   pub asked : Asked rate costs doubtful doubt
-      → Nearest rate (columnOf 16 costs) (testWords 64 (columnOf 16 costs) (take doubt doubtful)) f
+      → Nearest rate (columnOf symbols costs) (testWords places (columnOf symbols costs) (take doubt doubtful)) f
   pub refused : ¬ Asked rate costs doubtful doubt → f ≡ nothingFound
   pub encoded : (t : ℕ) → f .answer ≡ Near t → f .codeword ≡ encodeOf rate (take rate (f .message))

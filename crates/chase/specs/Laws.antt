@@ -7,14 +7,15 @@
 use mathlib.Core.Bool.{Bool, true, false, cond, not, _&&_, false≢true}
 use mathlib.Core.Path.{_≡_, refl, sym, ap, _∙_, subst}
 use mathlib.Core.List.{List, [], _∷_, List·Memᴰ, List·Memᴰ·head, List·Memᴰ·tail}
-use Prim.Native.Nat.{ℕ}
+use Prim.Native.Nat.{ℕ, _*_}
 use lib.Dec.{ltb, leb, eqb}
 use lib.ListN.{length, take}
 use borrow.Author.Tests.{eq-eqb, ne-eqb, eqb-true, lt-ltb, le-leb, leb-true}
 use Rattle.lists.specs.Distinct.{among, below, distinct, and-left, and-right, and-both}
 use Rattle.code.specs.Encoding.{knownRate}
 use Rattle.code.specs.Rates.{known-bounds}
-use Rattle.soft.specs.Column.{columnOf}
+use Rattle.soft.specs.Column.{places, symbols, columnOf}
+use Rattle.soft.specs.Doubt.{mostDoubt}
 use Rattle.soft.specs.TestWord.{testWords}
 use Rattle.near.specs.Tree.{Places, places-nil, places-cons, places-of}
 use Rattle.answers.specs.declared.Found.{Found}
@@ -29,12 +30,12 @@ unfolding among
 not-among p [] n = refl
 not-among p (q ∷ ps) n = rw (ne-eqb q p (λ e. n (List·Memᴰ·head (sym e)))) (not-among p ps (λ m. n (List·Memᴰ·tail m)))
 
-places-test : {ps : List ℕ} → Places ps → (below 64 ps ≡ true) × (distinct ps ≡ true)
+places-test : {ps : List ℕ} → Places ps → (below places ps ≡ true) × (distinct ps ≡ true)
 unfolding below distinct
 places-test places-nil = (refl, refl)
 places-test (places-cons {p} {ps} h fresh P) =
     let t = places-test P in (
-      and-both (ltb p 64) (below 64 ps) (lt-ltb p 64 h) (t .0),
+      and-both (ltb p places) (below places ps) (lt-ltb p places h) (t .0),
       and-both (not (among p ps)) (distinct ps) (ap not (not-among p ps fresh)) (t .1),
     )
 
@@ -42,29 +43,29 @@ module _ (rate : ℕ) (costs doubtful : List ℕ) (doubt : ℕ) where
   pub asked-yes : askedOf rate costs doubtful doubt ≡ true → Asked rate costs doubtful doubt
   unfolding askedOf arePlaces
   asked-yes e =
-      let size = eqb (length costs) 1024 in
-      let few = leb doubt 8 in
-      let b = below 64 (take doubt doubtful) in
+      let size = eqb (length costs) (places * symbols) in
+      let few = leb doubt mostDoubt in
+      let b = below places (take doubt doubtful) in
       let d = distinct (take doubt doubtful) in
       let s = and-right (knownRate rate) (size && (few && (b && d))) e in
       let f = and-right size (few && (b && d)) s in
       let p = and-right few (b && d) f in
       record {
         known = and-left (knownRate rate) (size && (few && (b && d))) e;
-        size = eqb-true (length costs) 1024 (and-left size (few && (b && d)) s);
-        few = leb-true doubt 8 (and-left few (b && d) f);
-        places = places-of (take doubt doubtful) (and-left b d p) (and-right b d p);
+        size = eqb-true (length costs) (places * symbols) (and-left size (few && (b && d)) s);
+        few = leb-true doubt mostDoubt (and-left few (b && d) f);
+        fit = places-of (take doubt doubtful) (and-left b d p) (and-right b d p);
       }
 
   pub asked-is : Asked rate costs doubtful doubt → askedOf rate costs doubtful doubt ≡ true
   unfolding askedOf arePlaces
   asked-is A =
-      let t = places-test (A .places) in
-      rw (A .known, eq-eqb (length costs) 1024 (A .size), le-leb doubt 8 (A .few), t .0, t .1)
+      let t = places-test (A .fit) in
+      rw (A .known, eq-eqb (length costs) (places * symbols) (A .size), le-leb doubt mostDoubt (A .few), t .0, t .1)
 
   -- what the test words find
   abbrev found : Found
-  found = foundOf rate (columnOf 16 costs) (testWords 64 (columnOf 16 costs) (take doubt doubtful))
+  found = foundOf rate (columnOf symbols costs) (testWords places (columnOf symbols costs) (take doubt doubtful))
 
   pub nearest-asked : Asked rate costs doubtful doubt → nearestOf rate costs doubtful doubt ≡ found
   unfolding nearestOf
@@ -82,16 +83,16 @@ module _ (rate : ℕ) (costs doubtful : List ℕ) (doubt : ℕ) where
   nearest-call f e =
       record {
         asked = λ A.
-            subst (Nearest rate (columnOf 16 costs) (testWords 64 (columnOf 16 costs) (take doubt doubtful))) (sym (e ∙ nearest-asked A))
-            (found-nearest rate (columnOf 16 costs) (testWords 64 (columnOf 16 costs) (take doubt doubtful)) (known-bounds rate (A .known) .1));
+            subst (Nearest rate (columnOf symbols costs) (testWords places (columnOf symbols costs) (take doubt doubtful))) (sym (e ∙ nearest-asked A))
+            (found-nearest rate (columnOf symbols costs) (testWords places (columnOf symbols costs) (take doubt doubtful)) (known-bounds rate (A .known) .1));
         refused = λ n. e ∙ nearest-unasked n;
         encoded = go (askedOf rate costs doubtful doubt) refl .encoded;
       }
     where
-      go : (b : Bool) → askedOf rate costs doubtful doubt ≡ b → Sound rate (columnOf 16 costs) f
+      go : (b : Bool) → askedOf rate costs doubtful doubt ≡ b → Sound rate (columnOf symbols costs) f
       go true q =
           let A = asked-yes q in
-          subst (Sound rate (columnOf 16 costs)) (sym (e ∙ nearest-asked A))
-          (found-sound rate (columnOf 16 costs) (testWords 64 (columnOf 16 costs) (take doubt doubtful)) (known-bounds rate (A .known) .1))
+          subst (Sound rate (columnOf symbols costs)) (sym (e ∙ nearest-asked A))
+          (found-sound rate (columnOf symbols costs) (testWords places (columnOf symbols costs) (take doubt doubtful)) (known-bounds rate (A .known) .1))
       go false q =
-          subst (Sound rate (columnOf 16 costs)) (sym (e ∙ nearest-unasked (λ A. false≢true (sym q ∙ asked-is A)))) sound-nothing
+          subst (Sound rate (columnOf symbols costs)) (sym (e ∙ nearest-unasked (λ A. false≢true (sym q ∙ asked-is A)))) sound-nothing

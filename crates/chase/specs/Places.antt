@@ -8,11 +8,12 @@ use mathlib.Core.List.{List, List·Memᴰ}
 use Prim.Native.Nat.{ℕ, _<_}
 use lib.ListN.{length, getD}
 use Rattle.lists.specs.Distinct.{below, distinct}
+use Rattle.soft.specs.Column.{places}
 
 unfoldable pub arePlaces : List ℕ → Bool
-arePlaces ps = below 64 ps && distinct ps
+arePlaces ps = below places ps && distinct ps
 
 pub record Flagged (ps flags : List ℕ) : Type 0 where
-  pub size : length flags ≡ 64
-  pub on : (p : ℕ) → p < 64 → ¬ List·Memᴰ p ps → getD flags p 0 ≡ 1
+  pub size : length flags ≡ places
+  pub on : (p : ℕ) → p < places → ¬ List·Memᴰ p ps → getD flags p 0 ≡ 1
   pub off : (p : ℕ) → List·Memᴰ p ps → getD flags p 0 ≡ 0

@@ -3,6 +3,7 @@
 ghost use mathlib.Core.Path.{_≡_};
 ghost use Prim.Native.Nat.{_≤_};
 ghost use lib.ListN.{take};
+ghost use Rattle.soft.specs.Doubt.{mostDoubt};
 ghost use Rattle.near.specs.Tree.{Places};
 ghost use Rattle.chase.specs.Places.{arePlaces, Flagged};
 ghost use Rattle.chase.specs.Call.{askedOf, nearestOf};
@@ -23,7 +24,7 @@ use tree::search;
 
 // A flag of 1 for the settled places.
 fn settled_places(doubtful: [u8; MOST_DOUBT], doubt: usize) -> [u8; PLACES]
-    requires { ⌜ doubt ≤ 8 ⌝ }
+    requires { ⌜ doubt ≤ mostDoubt ⌝ }
     ensures { λ r. ⌜ (Places (take doubt doubtful) → Flagged (take doubt doubtful) r) ⌝ }
 {
     let mut out = [1u8; PLACES];
@@ -38,7 +39,7 @@ fn settled_places(doubtful: [u8; MOST_DOUBT], doubt: usize) -> [u8; PLACES]
 
 // Whether the doubtful places are different and below 64. A flag of 1 for the places not named so far.
 fn are_places(doubtful: [u8; MOST_DOUBT], doubt: usize) -> bool
-    requires { ⌜ doubt ≤ 8 ⌝ }
+    requires { ⌜ doubt ≤ mostDoubt ⌝ }
     ensures { λ r. ⌜ r ≡ arePlaces (take doubt doubtful) ⌝ }
 {
     let mut unnamed = [1u8; PLACES];

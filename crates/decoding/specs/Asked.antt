@@ -47,4 +47,4 @@ module _ (rate : ℕ) (costs doubtful : List ℕ) (doubt : ℕ) where
   pub asked-fit : knownRate rate ≡ true → fitDoubt (take doubt doubtful) ≡ true → length costs ≡ 1024 → doubt ≤ 8
       → Asked rate costs doubtful doubt
   asked-fit known fit size few =
-      record { known = known; size = size; few = few; places = fit-places (take doubt doubtful) fit }
+      record { known = known; size = size; few = few; fit = fit-places (take doubt doubtful) fit }

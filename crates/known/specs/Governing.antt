@@ -24,6 +24,7 @@ use Rattle.lists.specs.Distinct.{and-left, and-right}
 use Rattle.lists.specs.Words.{Word, Lex, lex-asym, lex-or}
 use Rattle.lists.specs.Answers.{Found, best, answers-unique}
 use Rattle.code.specs.Encoding.{encodeOf}
+use Rattle.soft.specs.Column.{places, symbols}
 use Rattle.soft.specs.Total.{differAt, differing}
 use Rattle.soft.specs.TotalLaws.{agree-true, differing-triangle, differing-comm}
 use Rattle.soft.specs.TestWord.{expand}
@@ -107,26 +108,26 @@ among p (q ∷ ps) = go (ℕ-discrete p q) (among p ps)
     go (no d) (inr n) = inr (λ m. ⊎-elim d n (List·Memᴰ·cases-cons m))
 
 module _ {ps word u v : List ℕ} (a : Outside ps word u) (b : Outside ps word v) where
-  outside-differing : differing 64 u v ≤ length ps
+  outside-differing : differing places u v ≤ length ps
   unfolding differing
-  outside-differing = count-members ps 64 (differAt u v) (λ p l t. ⊎-elim (λ m. m) (λ n. absurd (apart p l t n)) (among p ps))
+  outside-differing = count-members ps places (differAt u v) (λ p l t. ⊎-elim (λ m. m) (λ n. absurd (apart p l t n)) (among p ps))
     where
-      apart : (p : ℕ) → p < 64 → T (differAt u v p) → ¬ List·Memᴰ p ps → ⊥
+      apart : (p : ℕ) → p < places → T (differAt u v p) → ¬ List·Memᴰ p ps → ⊥
       apart p l t n =
           subst (λ c. T (not c)) (agree-true u v p (omega (arith, a .size)) (omega (arith, b .size)) (a .same p n ∙ sym (b .same p n))) t
 
 -- ---- the word filled with the known codeword
 
-filled-outside : (c : List ℕ) {ps : List ℕ} → Places ps → (word : List ℕ) → length word ≡ 64 → Outside ps word (filledOf c word ps)
+filled-outside : (c : List ℕ) {ps : List ℕ} → Places ps → (word : List ℕ) → length word ≡ places → Outside ps word (filledOf c word ps)
 unfolding filledOf
 filled-outside c places-nil word l = record { size = l; same = λ p n. refl }
 filled-outside c (places-cons {p} {ps} h fresh P) word l =
-    let s = getD c (p % 64) 0 in
-    let o = filled-outside c P (set word (p % 64) s) (length-set word (p % 64) s ∙ l) in
+    let s = getD c (p % places) 0 in
+    let o = filled-outside c P (set word (p % places) s) (length-set word (p % places) s ∙ l) in
     record {
       size = o .size;
       same = λ q n.
-          o .same q (λ m. n (List·Memᴰ·tail m)) ∙ getD-set-other word (p % 64) q s 0 (λ e. n (List·Memᴰ·head (e ∙ mod-eq-of-lt h)));
+          o .same q (λ m. n (List·Memᴰ·tail m)) ∙ getD-set-other word (p % places) q s 0 (λ e. n (List·Memᴰ·head (e ∙ mod-eq-of-lt h)));
     }
 
 -- ---- the test of the known codeword
@@ -138,19 +139,19 @@ near-total (Near t) e = (t, refl)
 
 -- a codeword that passes the test governs
 module _ (k : ℕ) (known : Answered) (word ps : List ℕ) (rate : Ranged k) where
-  pub governs-all : length word ≡ 64 → governsOf k known word ps ≡ true → Places ps → Governs k known word ps
+  pub governs-all : length word ≡ places → governsOf k known word ps ≡ true → Places ps → Governs k known word ps
   unfolding governsOf reachOf mOf
   governs-all size e P =
       let c = known .codeword in
       let agreed = filledOf c word ps in
       let near = isNear (known .answer) in
-      let test = ltb (differing 64 c agreed + length ps + reachOf k) (64 - mOf k) in
+      let test = ltb (differing places c agreed + length ps + reachOf k) (places - mOf k) in
       let n = near-total (known .answer) (and-left near test e) in
-      let close : differing 64 c agreed + length ps + reachOf k < 64 - mOf k = ltb-true _ _ (and-right near test e) in
+      let close : differing places c agreed + length ps + reachOf k < places - mOf k = ltb-true _ _ (and-right near test e) in
       record {
         total = n .0;
         near = n .1;
-        apart = λ v w. omega (arith, close, differing-triangle 64 c agreed v, outside-differing (filled-outside c P word size) w);
+        apart = λ v w. omega (arith, close, differing-triangle places c agreed v, outside-differing (filled-outside c P word size) w);
       }
 
 -- ---- how many test words are within T of a codeword
@@ -160,7 +161,7 @@ module _ (k : ℕ) (c : List ℕ) where
   unfolding testsWithin
   within-nil = refl
 
-  pub within-cons : (t : List ℕ) (ts : List (List ℕ)) → testsWithin k c (t ∷ ts) ≡ bit (leb (differing 64 c t) (reachOf k)) + testsWithin k c ts
+  pub within-cons : (t : List ℕ) (ts : List (List ℕ)) → testsWithin k c (t ∷ ts) ≡ bit (leb (differing places c t) (reachOf k)) + testsWithin k c ts
   unfolding testsWithin
   within-cons t ts = refl
 
@@ -170,9 +171,9 @@ module _ (k : ℕ) (c : List ℕ) where
 
 -- ---- near one codeword there is no other
 
-module _ {k : ℕ} (rate : Workable k) {m : List ℕ} (w : Word 16 k m) where
+module _ {k : ℕ} (rate : Workable k) {m : List ℕ} (w : Word symbols k m) where
   -- a message whose codeword is within T of a word that is close to the codeword of m, is m
-  only : (t n : List ℕ) → differing 64 (encodeOf k m) t + reachOf k + mOf k < 64 → Found 16 k (nearTo k t) n → n ≡ m
+  only : (t n : List ℕ) → differing places (encodeOf k m) t + reachOf k + mOf k < places → Found symbols k (nearTo k t) n → n ≡ m
   unfolding nearTo
   only t n close f =
       ⊎-elim (λ l. absurd (far (λ e. lex-asym m n l (subst (λ x. Lex n x) (sym e) (subst (λ x. Lex x n) e l)))))
@@ -183,14 +184,14 @@ module _ {k : ℕ} (rate : Workable k) {m : List ℕ} (w : Word 16 k m) where
           omega (
             arith,
             codewords-apart rate w (f .word) other,
-            differing-triangle 64 (encodeOf k m) t (encodeOf k n),
-            differing-comm 64 t (encodeOf k n),
-            leb→le (differing 64 (encodeOf k n) t) (reachOf k) (f .passed),
+            differing-triangle places (encodeOf k m) t (encodeOf k n),
+            differing-comm places t (encodeOf k n),
+            leb→le (differing places (encodeOf k n) t) (reachOf k) (f .passed),
           )
 
   module _ (columns : ℕ → List ℕ) where
     -- whether a codeword is within T of such a word
-    here : (t : List ℕ) → differing 64 (encodeOf k m) t + reachOf k + mOf k < 64 → isSome (codewordNear k t) ≡ nearTo k t m
+    here : (t : List ℕ) → differing places (encodeOf k m) t + reachOf k + mOf k < places → isSome (codewordNear k t) ≡ nearTo k t m
     here t close = go (nearTo k t m) refl
       where
         go : (b : Bool) → nearTo k t m ≡ b → isSome (codewordNear k t) ≡ b
@@ -198,7 +199,7 @@ module _ {k : ℕ} (rate : Workable k) {m : List ℕ} (w : Word 16 k m) where
         go false e =
             ap isSome (codeword-none k t (λ n f. subst T (ap (nearTo k t) (only t n close f) ∙ e) (f .passed)))
 
-    within-tests : (ts : List (List ℕ)) → ((t : List ℕ) → List·Memᴰ t ts → differing 64 (encodeOf k m) t + reachOf k + mOf k < 64)
+    within-tests : (ts : List (List ℕ)) → ((t : List ℕ) → List·Memᴰ t ts → differing places (encodeOf k m) t + reachOf k + mOf k < places)
         → testsNear k ts ≡ testsWithin k (encodeOf k m) ts
     unfolding nearTo
     within-tests [] h = tests-nil k ∙ sym (within-nil k (encodeOf k m))
@@ -214,9 +215,9 @@ module _ {k : ℕ} (rate : Workable k) {m : List ℕ} (w : Word 16 k m) where
     within-near : (ts : List (List ℕ)) → 0 < testsWithin k (encodeOf k m) ts → T (near k ts m)
     unfolding nearTo near
     within-near [] h = absurd (omega (arith, within-nil k (encodeOf k m)))
-    within-near (t ∷ ts) h = go (leb (differing 64 (encodeOf k m) t) (reachOf k)) refl (within-near ts)
+    within-near (t ∷ ts) h = go (leb (differing places (encodeOf k m) t) (reachOf k)) refl (within-near ts)
       where
-        go : (b : Bool) → leb (differing 64 (encodeOf k m) t) (reachOf k) ≡ b → (0 < testsWithin k (encodeOf k m) ts → T (near k ts m)) → T (nearTo k t m || near k ts m)
+        go : (b : Bool) → leb (differing places (encodeOf k m) t) (reachOf k) ≡ b → (0 < testsWithin k (encodeOf k m) ts → T (near k ts m)) → T (nearTo k t m || near k ts m)
         go true e ih = subst (λ b. T (b || near k ts m)) (sym e) tt
         go false e ih = subst (λ b. T (b || near k ts m)) (sym e) (ih (omega (arith, within-cons k (encodeOf k m) t ts, ap bit e)))
 
@@ -229,11 +230,11 @@ module _ {k : ℕ} (rate : Workable k) {m : List ℕ} (w : Word 16 k m) where
         omega (
           arith,
           within-cons k (encodeOf k m) u ts,
-          ap bit (le-leb (differing 64 (encodeOf k m) u) (reachOf k) (subst (λ v. differing 64 (encodeOf k m) v ≤ reachOf k) e (leb→le (differing 64 (encodeOf k m) t) (reachOf k) h))),
+          ap bit (le-leb (differing places (encodeOf k m) u) (reachOf k) (subst (λ v. differing places (encodeOf k m) v ≤ reachOf k) e (leb→le (differing places (encodeOf k m) t) (reachOf k) h))),
         ))
         (λ j. omega (arith, within-cons k (encodeOf k m) u ts, near-within ts t j h)) (List·Memᴰ·cases-cons i)
 
-    module _ (ts : List (List ℕ)) (h : (t : List ℕ) → List·Memᴰ t ts → differing 64 (encodeOf k m) t + reachOf k + mOf k < 64) where
+    module _ (ts : List (List ℕ)) (h : (t : List ℕ) → List·Memᴰ t ts → differing places (encodeOf k m) t + reachOf k + mOf k < places) where
       within-some : 0 < testsWithin k (encodeOf k m) ts → answerOf k columns ts ≡ some m
       within-some some-one =
           answers-unique (near-answers k columns ts)
@@ -286,7 +287,7 @@ module _ {k : ℕ} {columns : ℕ → List ℕ} {known : Answered} (s : Sound k 
       go true = sound-nothing
       go false = sound-counted tests s
 
-module _ {k : ℕ} (rate : Workable k) (columns : ℕ → List ℕ) (known : Answered) (word ps : List ℕ) (size : length word ≡ 64) (s : Sound k columns known)
+module _ {k : ℕ} (rate : Workable k) (columns : ℕ → List ℕ) (known : Answered) (word ps : List ℕ) (size : length word ≡ places) (s : Sound k columns known)
     (g : Governs k known word ps) where
   m : List ℕ
   m = take k (known .message)
@@ -294,14 +295,14 @@ module _ {k : ℕ} (rate : Workable k) (columns : ℕ → List ℕ) (known : Ans
   c : List ℕ
   c = encodeOf k m
 
-  symbols : Word 16 k m
+  known-word : Word symbols k m
   unfolding m
-  symbols = s .word (g .total) (g .near)
+  known-word = s .word (g .total) (g .near)
 
-  close : (t : List ℕ) → List·Memᴰ t (expand columns word ps) → differing 64 c t + reachOf k + mOf k < 64
+  close : (t : List ℕ) → List·Memᴰ t (expand columns word ps) → differing places c t + reachOf k + mOf k < places
   unfolding c m
   close t i =
-      subst (λ u. differing 64 u t + reachOf k + mOf k < 64) (s .encoded (g .total) (g .near))
+      subst (λ u. differing places u t + reachOf k + mOf k < places) (s .encoded (g .total) (g .near))
       (g .apart t (record { size = expand-length columns word ps t i ∙ size; same = λ p out. expand-settled columns word ps t i p out }))
 
   pub governed-nearest : (tests : ℕ) → tests ≡ testsWithin k (known .codeword) (expand columns word ps)
@@ -315,8 +316,8 @@ module _ {k : ℕ} (rate : Workable k) (columns : ℕ → List ℕ) (known : Ans
       go : Dec (tests ≡ 0) → Nearest k columns (expand columns word ps) (belowOf known tests)
       go (yes z) =
           subst (Nearest k columns (expand columns word ps)) (sym (below-none known tests z))
-          (nearest-nothing (within-none rate symbols columns (expand columns word ps) close (sym count ∙ z)))
+          (nearest-nothing (within-none rate known-word columns (expand columns word ps) close (sym count ∙ z)))
       go (no n) =
           subst (Nearest k columns (expand columns word ps)) (sym (below-some known tests n))
-          (nearest-some (counted tests known) (g .total) (g .near) (within-tests rate symbols columns (expand columns word ps) close ∙ sym count)
-          (within-some rate symbols columns (expand columns word ps) close (omega (arith, count))) (s .cost (g .total) (g .near)))
+          (nearest-some (counted tests known) (g .total) (g .near) (within-tests rate known-word columns (expand columns word ps) close ∙ sym count)
+          (within-some rate known-word columns (expand columns word ps) close (omega (arith, count))) (s .cost (g .total) (g .near)))

@@ -16,6 +16,7 @@ use Prim.Native.Nat.{ℕ, _+_, _-_, _%_, _^_, _<_, _≤_}
 use lib.Dec.{eqb, leb, ltb}
 use lib.ListN.{length, getD, set}
 use Rattle.lists.specs.Count.{bit}
+use Rattle.soft.specs.Column.{places}
 use Rattle.soft.specs.Total.{differing}
 use Rattle.soft.specs.TestWord.{expand}
 use Rattle.near.specs.Near.{mOf, reachOf}
@@ -35,25 +36,25 @@ laterOf first known = cond (isNear (first .answer)) first known
 
 unfoldable pub filledOf : List ℕ → List ℕ → List ℕ → List ℕ
 filledOf c word [] = word
-filledOf c word (p ∷ ps) = filledOf c (set word (p % 64) (getD c (p % 64) 0)) ps
+filledOf c word (p ∷ ps) = filledOf c (set word (p % places) (getD c (p % places) 0)) ps
 
 pub record Outside (ps u v : List ℕ) : Type 0 where
-  pub size : length v ≡ 64
+  pub size : length v ≡ places
   pub same : (p : ℕ) → ¬ List·Memᴰ p ps → getD v p 0 ≡ getD u p 0
 
 pub record Governs (k : ℕ) (known : Found) (word ps : List ℕ) : Type 0 where
   pub total : ℕ
   pub near : known .answer ≡ Near total
-  pub apart : (t : List ℕ) → Outside ps word t → differing 64 (known .codeword) t + reachOf k + mOf k < 64
+  pub apart : (t : List ℕ) → Outside ps word t → differing places (known .codeword) t + reachOf k + mOf k < places
 
 unfoldable pub governsOf : ℕ → Found → List ℕ → List ℕ → Bool
 governsOf k known word ps =
     isNear (known .answer)
-    && ltb (differing 64 (known .codeword) (filledOf (known .codeword) word ps) + length ps + reachOf k) (64 - mOf k)
+    && ltb (differing places (known .codeword) (filledOf (known .codeword) word ps) + length ps + reachOf k) (places - mOf k)
 
 unfoldable pub testsWithin : ℕ → List ℕ → List (List ℕ) → ℕ
 testsWithin k c [] = 0
-testsWithin k c (t ∷ tests) = bit (leb (differing 64 c t) (reachOf k)) + testsWithin k c tests
+testsWithin k c (t ∷ tests) = bit (leb (differing places c t) (reachOf k)) + testsWithin k c tests
 
 pub record WithinOf (k : ℕ) (columns : ℕ → List ℕ) (c word ps : List ℕ) (left n : ℕ) : Type 0 where
   pub few : n ≤ 2 ^ left

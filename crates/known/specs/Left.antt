@@ -16,10 +16,12 @@ use lib.Dec.{T, leb, leb→le}
 use lib.ListN.{length, getD, take, drop, length-take, drop-of-length-le}
 use lib.Seq.{drop-cons, getD-take}
 use Rattle.lists.specs.Every.{every, every-at}
+use Rattle.soft.specs.Column.{places}
+use Rattle.soft.specs.Doubt.{mostDoubt}
 use Rattle.near.specs.Tree.{Places, places-cons}
 
 module _ (doubtful : List ℕ) (doubt i : ℕ) where
-  pub left-cons : length doubtful ≡ 8 → doubt ≤ 8 → i < doubt → drop i (take doubt doubtful) ≡ getD doubtful i 0 ∷ drop (i + 1) (take doubt doubtful)
+  pub left-cons : length doubtful ≡ mostDoubt → doubt ≤ mostDoubt → i < doubt → drop i (take doubt doubtful) ≡ getD doubtful i 0 ∷ drop (i + 1) (take doubt doubtful)
   left-cons eight few h =
       drop-cons (take doubt doubtful) i 0 (omega (arith, length-take doubt doubtful))
       ∙ ap₂ (λ a m. a ∷ drop m (take doubt doubtful)) (getD-take doubt doubtful i 0 h) (sym (add-one i))
@@ -38,7 +40,7 @@ some-left left h = omega arith
 pub places-rest : {p : ℕ} {ps : List ℕ} → Places (p ∷ ps) → Places ps
 places-rest (places-cons h fresh P) = P
 
-module _ (doubtful : List ℕ) (doubt left : ℕ) (eight : length doubtful ≡ 8) (few : doubt ≤ 8) (within : left ≤ doubt) (some-left : 0 < left) where
+module _ (doubtful : List ℕ) (doubt left : ℕ) (eight : length doubtful ≡ mostDoubt) (few : doubt ≤ mostDoubt) (within : left ≤ doubt) (some-left : 0 < left) where
   abbrev x : ℕ
   x = getD doubtful (doubt - left) 0
 
@@ -50,10 +52,10 @@ module _ (doubtful : List ℕ) (doubt left : ℕ) (eight : length doubtful ≡ 8
       let n : doubt - left + 1 ≡ doubt - (left - 1) = omega arith in
       left-cons doubtful doubt (doubt - left) eight few (omega arith) ∙ ap (λ m. x ∷ drop m (take doubt doubtful)) n
 
-  same-place : (place : ℕ) → place ≡ x % 64 → Places (x ∷ rest) → place ≡ x
+  same-place : (place : ℕ) → place ≡ x % places → Places (x ∷ rest) → place ≡ x
   same-place place place-is (places-cons h fresh P) = place-is ∙ mod-eq-of-lt h
 
-  pub split-places : (place : ℕ) → place ≡ x % 64 → Places (drop (doubt - left) (take doubt doubtful)) → drop (doubt - left) (take doubt doubtful) ≡ place ∷ rest
+  pub split-places : (place : ℕ) → place ≡ x % places → Places (drop (doubt - left) (take doubt doubtful)) → drop (doubt - left) (take doubt doubtful) ≡ place ∷ rest
   split-places place place-is P = next-place ∙ ap (λ y. y ∷ rest) (sym (same-place place place-is (subst Places next-place P)))
 
 pub twice : (left : ℕ) → 0 < left → 2 ^ left ≡ 2 ^ (left - 1) + 2 ^ (left - 1)
@@ -62,12 +64,12 @@ twice left h =
     omega (arith, ap (λ m. 2 ^ m) n, pow-suc 2 (left - 1))
 
 -- a tree of at most eight places has few test words
-power-few : (n : ℕ) → n < 9 → 2 ^ n ≤ 256
+power-few : (n : ℕ) → n ≤ mostDoubt → 2 ^ n ≤ 256
 unfolding every
-power-few n h = leb→le (2 ^ n) 256 (every-at 9 (λ m. leb (2 ^ m) 256) (few-all) n h)
+power-few n h = leb→le (2 ^ n) 256 (every-at (suc mostDoubt) (λ m. leb (2 ^ m) 256) few-all n (omega arith))
   where
-    few-all : T (every 9 (λ m. leb (2 ^ m) 256))
+    few-all : T (every (suc mostDoubt) (λ m. leb (2 ^ m) 256))
     few-all = tt
 
-pub tests-fit : (a b n : ℕ) → n < 9 → a ≤ 2 ^ n → b ≤ 2 ^ n → a + b ≤ 65535
+pub tests-fit : (a b n : ℕ) → n ≤ mostDoubt → a ≤ 2 ^ n → b ≤ 2 ^ n → a + b ≤ 65535
 tests-fit a b n h p q = omega (arith, power-few n h)

@@ -6,6 +6,7 @@ ghost use lib.Dec.{leb};
 ghost use lib.ListN.{take, drop};
 ghost use Rattle.lists.specs.Count.{bit};
 ghost use Rattle.soft.specs.Column.{places, symbols, columnOf};
+ghost use Rattle.soft.specs.Doubt.{mostDoubt};
 ghost use Rattle.soft.specs.Total.{differing};
 ghost use Rattle.near.specs.Near.{reachOf};
 ghost use Rattle.candidate.specs.Ranged.{Ranged};
@@ -36,7 +37,7 @@ pub fn later(first: Found, known: Found) -> Found
 
 // The word with the codeword's symbols at the doubtful places left.
 fn filled(codeword: Word, word: Word, doubtful: [u8; MOST_DOUBT], doubt: usize, left: usize) -> Word
-    requires { ⌜ (doubt ≤ 8) × (left ≤ doubt) ⌝ }
+    requires { ⌜ (doubt ≤ mostDoubt) × (left ≤ doubt) ⌝ }
     ensures { λ r. ⌜ r ≡ filledOf codeword word (drop (doubt - left) (take doubt doubtful)) ⌝ }
 {
     let mut out = word;
@@ -59,7 +60,7 @@ pub fn governs(
     doubt: usize,
     left: usize,
 ) -> bool
-    requires { ⌜ Ranged k × (doubt ≤ 8) × (left ≤ doubt) ⌝ }
+    requires { ⌜ Ranged k × (doubt ≤ mostDoubt) × (left ≤ doubt) ⌝ }
     ensures { λ r. ⌜ r ≡ governsOf k known word (drop (doubt - left) (take doubt doubtful)) ⌝ }
 {
     let answer = known.answer;
@@ -92,7 +93,7 @@ pub fn tests_within(
     doubt: usize,
     left: usize,
 ) -> usize
-    requires { ⌜ Ranged k × (doubt ≤ 8) × (left ≤ doubt) ⌝ }
+    requires { ⌜ Ranged k × (doubt ≤ mostDoubt) × (left ≤ doubt) ⌝ }
     ensures { λ r.
         ⌜ WithinOf k (columnOf symbols (now (costs .entry))) codeword word (drop (doubt - left) (take doubt doubtful)) left r ⌝ }
 {

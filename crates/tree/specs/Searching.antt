@@ -11,6 +11,7 @@ use lib.ListN.{set}
 use Rattle.algebra.specs.Koetter.{Basis}
 use Rattle.galois.specs.Field16.{K16}
 use Rattle.basis.specs.Choice.{leadAt}
+use Rattle.basis.specs.Step.{classes}
 use Rattle.interpolation.specs.Polynomial.{polynomials}
 use Rattle.code.specs.Nodes.{Node, ThroughNodes}
 use Rattle.soft.specs.TestWord.{expand}
@@ -22,13 +23,13 @@ use Rattle.answers.specs.Nearest.{Nearest}
 use Rattle.candidate.specs.Candidate.{Held}
 
 pub record Lowest (leads : List ℕ) (n r : ℕ) : Type 0 where
-  pub within : r < 8
+  pub within : r < classes
   pub lowest : (q : ℕ) → q < n → leadAt leads r ≤ leadAt leads q
 
 pub record Ready (k : ℕ) (word ps : List ℕ) (rows : List (List ℕ)) (leads : List ℕ) : Type 0 where
   pub nodes : List Node
   pub decided : Decided word ps nodes
-  pub basis : Basis K16 8 (limitOf k) (ThroughNodes (mOf k) nodes) (polynomials (mOf k) rows) (leadAt leads)
+  pub basis : Basis K16 classes (limitOf k) (ThroughNodes (mOf k) nodes) (polynomials (mOf k) rows) (leadAt leads)
 
 pub record LeafOf (k : ℕ) (columns : ℕ → List ℕ) (word row : List ℕ) (f : Found) : Type 0 where
   pub few : f .tests ≤ 1

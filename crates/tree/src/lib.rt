@@ -4,7 +4,9 @@ ghost use mathlib.Core.Path.{_≡_};
 ghost use Prim.Native.Nat.{_-_, _<_, _≤_};
 ghost use lib.ListN.{take, drop};
 ghost use Rattle.basis.specs.Choice.{leadAt};
+ghost use Rattle.basis.specs.Step.{classes};
 ghost use Rattle.soft.specs.Column.{places, symbols, columnOf};
+ghost use Rattle.soft.specs.Doubt.{mostDoubt};
 ghost use Rattle.soft.specs.Total.{totalOf};
 ghost use Rattle.answers.specs.Answered.{Sound};
 ghost use Rattle.candidate.specs.Ranged.{Ranged};
@@ -64,8 +66,8 @@ fn leaf(row: Row, word: Word, costs: &[u16], k: usize) -> Found
 
 // Of two classes the one with the smaller lead.
 fn lower(leads: Leads, r: usize, q: usize) -> usize
-    requires { ⌜ (r < 8) × (q < 8) ⌝ }
-    ensures { λ p. ⌜ (p < 8) × (leadAt leads p ≤ leadAt leads r) × (leadAt leads p ≤ leadAt leads q) ⌝ }
+    requires { ⌜ (r < classes) × (q < classes) ⌝ }
+    ensures { λ p. ⌜ (p < classes) × (leadAt leads p ≤ leadAt leads r) × (leadAt leads p ≤ leadAt leads q) ⌝ }
 {
     if leads[q] < leads[r] {
         return q;
@@ -75,7 +77,7 @@ fn lower(leads: Leads, r: usize, q: usize) -> usize
 
 // The class of least lead.
 fn least(leads: Leads) -> usize
-    ensures { λ r. ⌜ Lowest leads 8 r ⌝ }
+    ensures { λ r. ⌜ Lowest leads classes r ⌝ }
 {
     let mut r = 0;
     let mut q = 0;
@@ -100,7 +102,7 @@ fn branch(
     place: usize,
     symbol: u8,
 ) -> Found
-    requires { ⌜ Ranged k × (doubt ≤ 8) × (left ≤ doubt) × (place < 64) × Sound k (columnOf symbols (now costs)) known ⌝ }
+    requires { ⌜ Ranged k × (doubt ≤ mostDoubt) × (left ≤ doubt) × (place < places) × Sound k (columnOf symbols (now costs)) known ⌝ }
     ensures { λ r.
         ⌜ BranchOf k (columnOf symbols (now (costs .entry))) word place symbol (drop (doubt - left) (take doubt doubtful)) rows leads left r
         × Sound k (columnOf symbols (now (costs .entry))) r ⌝ }
@@ -141,7 +143,7 @@ pub fn search(
     left: usize,
     known: Found,
 ) -> Found
-    requires { ⌜ Ranged k × (doubt ≤ 8) × (left ≤ doubt) × Sound k (columnOf symbols (now costs)) known ⌝ }
+    requires { ⌜ Ranged k × (doubt ≤ mostDoubt) × (left ≤ doubt) × Sound k (columnOf symbols (now costs)) known ⌝ }
     ensures { λ r.
         ⌜ SearchOf k (columnOf symbols (now (costs .entry))) word (drop (doubt - left) (take doubt doubtful)) rows leads left r
         × Sound k (columnOf symbols (now (costs .entry))) r ⌝ }
