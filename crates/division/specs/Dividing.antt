@@ -26,7 +26,7 @@ use Rattle.galois.specs.Field16.{GF, K16, toF, toF-add, toF-times, toF-inverse,
 use Rattle.hermitian.specs.Present.{Present, decPresent}
 use Rattle.hermitian.specs.Ring.{timesY, powY, powY-nil, powY-suc, below-powY, timesMonomial}
 use Rattle.hermitian.specs.Division.{quotientAt, divideStep, quotient}
-use Rattle.rows.specs.Rows.{coef, coef-at, coef-beyond}
+use Rattle.rows.specs.Rows.{plainWidth, coef, coef-at, coef-beyond}
 use Rattle.division.specs.Parts.{cut, cut-below, coef-cut, yAt, coef-y}
 open Field K16 using (_⊕_, _⊗_, 𝟘, inv)
 
@@ -37,15 +37,15 @@ unfoldable pub lessAt : List ℕ → ℕ → List ℕ → ℕ → ℕ → ℕ
 lessAt rest by f up o = cond (ltb o up) (getD rest o 0) (bitXor (getD rest o 0) (times by (getD f (o - up) 0)))
 
 unfoldable pub yOnce : List ℕ → List ℕ
-yOnce c = listed 64 (yAt c)
+yOnce c = listed plainWidth (yAt c)
 
 abbrev pub yPowers : List ℕ → List (List ℕ)
 yPowers c = c ∷ yOnce c ∷ yOnce (yOnce c) ∷ yOnce (yOnce (yOnce c)) ∷ []
 
 pub record Roomy (c : List ℕ) (l m : ℕ) : Type 0 where
   pub leads : Lead K16 (coef c) l
-  pub powers-fit : l + 15 < 64
-  pub terms-fit : l + m < 64
+  pub powers-fit : l + 15 < plainWidth
+  pub terms-fit : l + m < plainWidth
 
 pub record Divided (q0 q1 : List ℕ) (m : ℕ) (r : List ℕ) : Type 0 where
   pub symbols : T (allBelow 16 r)
@@ -71,20 +71,20 @@ module _ (rest : List ℕ) (by : ℕ) (f : List ℕ) (up o : ℕ) where
       ∙ ap₂ (λ x y. x ⊕ y) (sym (coef-at rest o))
       (toF-times by _ ∙ ap (λ x. toF by ⊗ x) (sym (coef-at f (o - up)) ∙ sym (shift-high K16 up o (coef f) l)))
 
-pub coef-less : (rest : List ℕ) (by : ℕ) (f : List ℕ) (up : ℕ) {r : List ℕ} → r ≡ listed 64 (lessAt rest by f up)
+pub coef-less : (rest : List ℕ) (by : ℕ) (f : List ℕ) (up : ℕ) {r : List ℕ} → r ≡ listed plainWidth (lessAt rest by f up)
     → coef r ≡ cut (plus K16 (coef rest) (scale K16 (toF by) (shift K16 up (coef f))))
 coef-less rest by f up e = ap coef e ∙ coef-cut (lessAt rest by f up) _ (λ o l. less-is rest by f up o (decLt o up))
 
 -- ---- powers of y
 
-coef-once : (c : List ℕ) (j : ℕ) (f : ℕ → GF) → coef c ≡ powY K16 4 j f → Below K16 (powY K16 4 (suc j) f) 64
+coef-once : (c : List ℕ) (j : ℕ) (f : ℕ → GF) → coef c ≡ powY K16 4 j f → Below K16 (powY K16 4 (suc j) f) plainWidth
     → coef (yOnce c) ≡ powY K16 4 (suc j) f
 unfolding yOnce
 coef-once c j f e b =
     coef-y c ∙ ap (λ g. cut (timesY K16 4 g)) e ∙ ap cut (sym (powY-suc K16 4 j f)) ∙ cut-below (powY K16 4 (suc j) f) b
 
 module _ (c : List ℕ) (l m : ℕ) (room : Roomy c l m) where
-  fits : (j : ℕ) → j < 4 → Below K16 (powY K16 4 j (coef c)) 64
+  fits : (j : ℕ) → j < 4 → Below K16 (powY K16 4 j (coef c)) plainWidth
   fits j h = below-mono K16 (omega (arith, room .powers-fit)) (below-powY K16 4 j (room .leads .above))
 
   first : coef (yOnce c) ≡ powY K16 4 1 (coef c)
@@ -128,18 +128,18 @@ module _ (c : List ℕ) (l m : ℕ) (room : Roomy c l m) where
             ∙ toF-zero ∙ sym (choose-no (no h) _ _ h)
 
     -- the multiple that is taken away ends by order 63
-    ends : (R : ℕ → GF) → Below K16 (scale K16 (quotientAt K16 4 l (coef c) o R) (timesMonomial K16 4 o (coef c))) 64
+    ends : (R : ℕ → GF) → Below K16 (scale K16 (quotientAt K16 4 l (coef c) o R) (timesMonomial K16 4 o (coef c))) plainWidth
     unfolding quotientAt timesMonomial
     ends R = go (decPresent 4 o)
       where
         go : (d : Dec (Present 4 o))
-            → Below K16 (scale K16 (choose d (R (l + o) ⊗ inv (coef c l)) 𝟘) (shift K16 ((o / 4 - o % 4) * 4) (powY K16 4 (o % 4) (coef c)))) 64
+            → Below K16 (scale K16 (choose d (R (l + o) ⊗ inv (coef c l)) 𝟘) (shift K16 ((o / 4 - o % 4) * 4) (powY K16 4 (o % 4) (coef c)))) plainWidth
         go (yes h) =
             below-scale K16 _ (below-mono K16 (omega (arith, room .terms-fit)) (below-shift K16 ((o / 4 - o % 4) * 4) (below-powY K16 4 (o % 4) (room .leads .above))))
         go (no h) =
             record { zero-from = λ k b. ap (λ x. x ⊗ shift K16 ((o / 4 - o % 4) * 4) (powY K16 4 (o % 4) (coef c)) k) (choose-no (no h) (R (l + o) ⊗ inv (coef c l)) 𝟘 h) ∙ zero-mul K16 _ }
 
-    pub step-is : (rest : List ℕ) (a : ℕ) (R : ℕ → GF) → length rest ≡ 64 → coef rest ≡ R → toF a ≡ quotientAt K16 4 l (coef c) o (coef rest)
+    pub step-is : (rest : List ℕ) (a : ℕ) (R : ℕ → GF) → length rest ≡ plainWidth → coef rest ≡ R → toF a ≡ quotientAt K16 4 l (coef c) o (coef rest)
         → cut (plus K16 (coef rest) (scale K16 (toF a) (shift K16 ((o / 4 - o % 4) * 4) (coef (getD (yPowers c) (o % 4) [])))))
         ≡ divideStep K16 4 l (coef c) o R
     unfolding divideStep timesMonomial
@@ -156,8 +156,8 @@ module _ (c : List ℕ) (l m : ℕ) (room : Roomy c l m) where
         same-is : timesMonomial K16 4 o (coef c) ≡ same
         same-is = refl
 
-        whole : (f : ℕ → GF) → Below K16 (scale K16 (quotientAt K16 4 l (coef c) o f) same) 64
-        whole f = subst (λ g. Below K16 (scale K16 (quotientAt K16 4 l (coef c) o f) g) 64) same-is (ends f)
+        whole : (f : ℕ → GF) → Below K16 (scale K16 (quotientAt K16 4 l (coef c) o f) same) plainWidth
+        whole f = subst (λ g. Below K16 (scale K16 (quotientAt K16 4 l (coef c) o f) g) plainWidth) same-is (ends f)
 
         monomial : (f : ℕ → GF) → plus K16 f (scale K16 (quotientAt K16 4 l (coef c) o f) same)
             ≡ plus K16 f (scale K16 (quotientAt K16 4 l (coef c) o f) (timesMonomial K16 4 o (coef c)))

@@ -22,7 +22,7 @@ use Rattle.algebra.specs.Field.{Field}
 use Rattle.algebra.specs.Coefficients.{choose, choose-yes, choose-no, Below, Lead, shift, shift-high, shift-low}
 use Rattle.galois.specs.Field16.{GF, K16, toF, toF-add, toF-zero}
 use Rattle.hermitian.specs.Ring.{timesY, top, descent, top-at, top-off}
-use Rattle.rows.specs.Rows.{coef, coef-at}
+use Rattle.rows.specs.Rows.{plainWidth, coef, coef-at}
 use Rattle.rows.specs.Bytes.{coef-listed}
 open Field K16 using (_⊕_, _⊗_, 𝟘)
 
@@ -30,7 +30,7 @@ abbrev pub plainAt : List ℕ → ℕ → ℕ
 plainAt row o = getD row o 0
 
 unfoldable pub zAt : List ℕ → ℕ → ℕ
-zAt row o = cond (ltb o 32) (getD row (64 + o) 0) 0
+zAt row o = cond (ltb o 32) (getD row (plainWidth + o) 0) 0
 
 unfoldable pub lowerAt : List ℕ → ℕ → ℕ
 lowerAt c o = cond (ltb o 5) 0 (getD c (o - 5) 0)
@@ -39,7 +39,7 @@ unfoldable pub foldedAt : List ℕ → ℕ → ℕ
 foldedAt c o = cond (eqb (o % 4) 1) (getD c (o + 10) 0) 0
 
 -- an array of 64 has nothing above order 63
-pub folded-beyond : (c : List ℕ) (o : ℕ) → length c ≡ 64 → 53 < o → 0 ≡ foldedAt c o
+pub folded-beyond : (c : List ℕ) (o : ℕ) → length c ≡ plainWidth → 53 < o → 0 ≡ foldedAt c o
 unfolding foldedAt
 folded-beyond c o e h = go (eqb (o % 4) 1)
   where
@@ -51,43 +51,43 @@ abbrev pub yAt : List ℕ → ℕ → ℕ
 yAt c o = bitXor (lowerAt c o) (foldedAt c o)
 
 pub record LeadFound (c : List ℕ) (r : ℕ) : Type 0 where
-  pub within : r < 64
+  pub within : r < plainWidth
   pub found : (l : ℕ) → Lead K16 (coef c) l → l ≡ r
   pub none : ((o : ℕ) → coef c o ≡ 𝟘) → r ≡ 0
 
 unfoldable pub cut : (ℕ → GF) → ℕ → GF
-cut f o = choose (decLt o 64) (f o) 𝟘
+cut f o = choose (decLt o plainWidth) (f o) 𝟘
 
-pub cut-low : (f : ℕ → GF) (o : ℕ) → o < 64 → cut f o ≡ f o
+pub cut-low : (f : ℕ → GF) (o : ℕ) → o < plainWidth → cut f o ≡ f o
 unfolding cut
-cut-low f o h = choose-yes (decLt o 64) _ _ h
+cut-low f o h = choose-yes (decLt o plainWidth) _ _ h
 
-pub cut-high : (f : ℕ → GF) (o : ℕ) → 64 ≤ o → cut f o ≡ 𝟘
+pub cut-high : (f : ℕ → GF) (o : ℕ) → plainWidth ≤ o → cut f o ≡ 𝟘
 unfolding cut
-cut-high f o h = choose-no (decLt o 64) _ _ (omega arith)
+cut-high f o h = choose-no (decLt o plainWidth) _ _ (omega arith)
 
 -- nothing is lost of what ends by order 63
-pub cut-below : (f : ℕ → GF) → Below K16 f 64 → cut f ≡ f
-cut-below f b = fun-ext (λ o. go o (decLt o 64))
+pub cut-below : (f : ℕ → GF) → Below K16 f plainWidth → cut f ≡ f
+cut-below f b = fun-ext (λ o. go o (decLt o plainWidth))
   where
-    go : (o : ℕ) → Dec (o < 64) → cut f o ≡ f o
+    go : (o : ℕ) → Dec (o < plainWidth) → cut f o ≡ f o
     go o (yes h) = cut-low f o h
     go o (no h) =
-        let l : 64 ≤ o = omega arith in
+        let l : plainWidth ≤ o = omega arith in
         cut-high f o l ∙ sym (b .zero-from o l)
 
 -- an array that holds f up to order 63
-pub coef-cut : (g : ℕ → ℕ) (f : ℕ → GF) → ((o : ℕ) → o < 64 → toF (g o) ≡ f o) → coef (listed 64 g) ≡ cut f
-coef-cut g f h = coef-listed 64 g (cut f) (λ o l. h o l ∙ sym (cut-low f o l)) (λ o l. cut-high f o l)
+pub coef-cut : (g : ℕ → ℕ) (f : ℕ → GF) → ((o : ℕ) → o < plainWidth → toF (g o) ≡ f o) → coef (listed plainWidth g) ≡ cut f
+coef-cut g f h = coef-listed plainWidth g (cut f) (λ o l. h o l ∙ sym (cut-low f o l)) (λ o l. cut-high f o l)
 
-pub coef-plain : (row : List ℕ) → coef (listed 64 (plainAt row)) ≡ cut (coef row)
+pub coef-plain : (row : List ℕ) → coef (listed plainWidth (plainAt row)) ≡ cut (coef row)
 coef-plain row = coef-cut (plainAt row) (coef row) (λ o l. sym (coef-at row o))
 
 -- Q1 of a row as a coefficient function
 unfoldable pub zPart : (ℕ → GF) → ℕ → GF
-zPart c o = choose (decLt o 32) (c (64 + o)) 𝟘
+zPart c o = choose (decLt o 32) (c (plainWidth + o)) 𝟘
 
-pub zPart-low : (c : ℕ → GF) (o : ℕ) → o < 32 → zPart c o ≡ c (64 + o)
+pub zPart-low : (c : ℕ → GF) (o : ℕ) → o < 32 → zPart c o ≡ c (plainWidth + o)
 unfolding zPart
 zPart-low c o h = choose-yes (decLt o 32) _ _ h
 
@@ -95,19 +95,19 @@ pub zPart-high : (c : ℕ → GF) (o : ℕ) → 32 ≤ o → zPart c o ≡ 𝟘
 unfolding zPart
 zPart-high c o h = choose-no (decLt o 32) _ _ (omega arith)
 
-zPart-ends : (c : ℕ → GF) → Below K16 (zPart c) 64
+zPart-ends : (c : ℕ → GF) → Below K16 (zPart c) plainWidth
 zPart-ends c = record { zero-from = λ o l. zPart-high c o (omega arith) }
 
-pub coef-z : (row : List ℕ) → coef (listed 64 (zAt row)) ≡ zPart (coef row)
+pub coef-z : (row : List ℕ) → coef (listed plainWidth (zAt row)) ≡ zPart (coef row)
 unfolding zAt
 coef-z row = coef-cut (zAt row) (zPart (coef row)) (λ o l. go o (decLt o 32)) ∙ cut-below (zPart (coef row)) (zPart-ends (coef row))
   where
     go : (o : ℕ) → Dec (o < 32) → toF (zAt row o) ≡ zPart (coef row) o
     go o (yes h) =
-        ap toF (ap (λ b. cond b (getD row (64 + o) 0) 0) (lt-ltb o 32 h)) ∙ sym (coef-at row (64 + o)) ∙ sym (zPart-low (coef row) o h)
+        ap toF (ap (λ b. cond b (getD row (plainWidth + o) 0) 0) (lt-ltb o 32 h)) ∙ sym (coef-at row (plainWidth + o)) ∙ sym (zPart-low (coef row) o h)
     go o (no h) =
         let l : 32 ≤ o = omega arith in
-        ap toF (ap (λ b. cond b (getD row (64 + o) 0) 0) (le-ltb o 32 l)) ∙ toF-zero ∙ sym (zPart-high (coef row) o l)
+        ap toF (ap (λ b. cond b (getD row (plainWidth + o) 0) 0) (le-ltb o 32 l)) ∙ toF-zero ∙ sym (zPart-high (coef row) o l)
 
 lower-is : (c : List ℕ) (o : ℕ) → toF (lowerAt c o) ≡ shift K16 5 (coef c) o
 unfolding lowerAt
@@ -130,6 +130,6 @@ folded-is c o = go (ℕ-discrete (o % 4) 1)
         ap toF (ap (λ b. cond b (getD c (o + 10) 0) 0) (ne-eqb (o % 4) 1 h)) ∙ toF-zero
         ∙ sym (top-off K16 4 (coef c) (o + 10) (λ (e : suc ((o + 10) % 4) ≡ 4). absurd (omega arith)))
 
-pub coef-y : (c : List ℕ) → coef (listed 64 (yAt c)) ≡ cut (timesY K16 4 (coef c))
+pub coef-y : (c : List ℕ) → coef (listed plainWidth (yAt c)) ≡ cut (timesY K16 4 (coef c))
 unfolding timesY descent
 coef-y c = coef-cut (yAt c) (timesY K16 4 (coef c)) (λ o l. toF-add _ _ ∙ ap₂ (λ x y. x ⊕ y) (lower-is c o) (folded-is c o))

@@ -2,6 +2,7 @@
 ghost use mathlib.Core.Path.{_≡_};
 ghost use Prim.Native.Nat.{_<_, _-_, _*_, _/_, _%_};
 ghost use Rattle.lists.specs.Listed.{listed};
+ghost use Rattle.rows.specs.Rows.{plainWidth};
 ghost use Rattle.division.specs.Dividing.{lessAt, nextAt, yPowers, Divided};
 use galois::inverse;
 use galois::product;
@@ -18,7 +19,7 @@ fn y_powers(c: [u8; 64]) -> [[u8; 64]; 4]
 
 // The rest and a multiple of a function moved up by some orders.
 fn less(rest: [u8; 64], by: u8, function: [u8; 64], up: usize) -> [u8; 64]
-    ensures { λ r. ⌜ r ≡ listed 64 (lessAt rest by function up) ⌝ }
+    ensures { λ r. ⌜ r ≡ listed plainWidth (lessAt rest by function up) ⌝ }
 {
     let mut out = rest;
     let mut k = up;
@@ -44,7 +45,7 @@ fn next_at(rest: [u8; 64], at: usize, order: usize, by: u8) -> u8
 
 // By how many orders the power of x in a monomial moves a function up.
 fn x_moves(order: usize) -> usize
-    requires { ⌜ order < 64 ⌝ }
+    requires { ⌜ order < plainWidth ⌝ }
     ensures { λ r. ⌜ r ≡ (order / 4 - order % 4) * 4 ⌝ }
 {
     if order / 4 < order % 4 {
@@ -55,7 +56,7 @@ fn x_moves(order: usize) -> usize
 
 // Q0 divided by Q1: the function of order at most m whose product with Q1 is Q0, if there is one.
 pub fn divide(q0: [u8; 64], q1: [u8; 64], m: usize) -> [u8; 64]
-    requires { ⌜ m < 64 ⌝ }
+    requires { ⌜ m < plainWidth ⌝ }
     ensures { λ r. ⌜ Divided q0 q1 m r ⌝ }
 {
     let lead = crate::parts::lead(q1);

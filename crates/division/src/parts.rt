@@ -2,11 +2,12 @@
 ghost use mathlib.Core.Path.{_≡_};
 ghost use Prim.Native.Nat.{_<_};
 ghost use Rattle.lists.specs.Listed.{listed};
+ghost use Rattle.rows.specs.Rows.{plainWidth};
 ghost use Rattle.division.specs.Parts.{plainAt, zAt, lowerAt, foldedAt, yAt, LeadFound};
 
 // Q0 of a row.
 pub fn without_z(row: [u8; 96]) -> [u8; 64]
-    ensures { λ r. ⌜ r ≡ listed 64 (plainAt row) ⌝ }
+    ensures { λ r. ⌜ r ≡ listed plainWidth (plainAt row) ⌝ }
 {
     let mut out = [0u8; 64];
     let mut o = 0;
@@ -28,7 +29,7 @@ fn z_at(row: [u8; 96], order: usize) -> u8
 
 // Q1 of a row: a row holds it up to order 31.
 pub fn with_z(row: [u8; 96]) -> [u8; 64]
-    ensures { λ r. ⌜ r ≡ listed 64 (zAt row) ⌝ }
+    ensures { λ r. ⌜ r ≡ listed plainWidth (zAt row) ⌝ }
 {
     let mut out = [0u8; 64];
     let mut o = 0;
@@ -55,7 +56,7 @@ pub fn lead(c: [u8; 64]) -> usize
 
 // What comes to an order from five below: y times a monomial without y^3.
 fn lower_at(c: [u8; 64], order: usize) -> u8
-    requires { ⌜ order < 64 ⌝ }
+    requires { ⌜ order < plainWidth ⌝ }
     ensures { λ r. ⌜ r ≡ lowerAt c order ⌝ }
 {
     if order < 5 {
@@ -66,7 +67,7 @@ fn lower_at(c: [u8; 64], order: usize) -> u8
 
 // What comes to an order from ten above: y^4 is x^5 and y, and this is the y.
 fn folded_at(c: [u8; 64], order: usize) -> u8
-    requires { ⌜ order < 64 ⌝ }
+    requires { ⌜ order < plainWidth ⌝ }
     ensures { λ r. ⌜ r ≡ foldedAt c order ⌝ }
 {
     if order % 4 != 1 {
@@ -80,7 +81,7 @@ fn folded_at(c: [u8; 64], order: usize) -> u8
 
 // y times a function; what passes order 63 is lost.
 pub fn times_y(c: [u8; 64]) -> [u8; 64]
-    ensures { λ r. ⌜ r ≡ listed 64 (yAt c) ⌝ }
+    ensures { λ r. ⌜ r ≡ listed plainWidth (yAt c) ⌝ }
 {
     let mut out = [0u8; 64];
     let mut o = 0;
