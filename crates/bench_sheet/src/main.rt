@@ -1,5 +1,6 @@
 // Runs R1 to R6 of document 01's bench sheet on the library, by table and by session. A line is the name, the call's number, the eight bytes of
 // the report, and whether a bit is set anywhere in the message buffer, both as the call left them: they are lent filled with 1.
+ghost use Prim.Native.Nat.{_≤_};
 use libc::STDOUT_FILENO;
 use session::Session;
 
@@ -31,15 +32,25 @@ fn table(m: usize) -> [u8; 2048] {
     out
 }
 
-// The session that got the frame S(m), the last place first.
-fn filled(rate: usize, list: &[u8], m: usize) -> Session {
-    let opened = session::open(rate, list);
-    let mut current = opened.session;
-    for i in 0..64 {
-        let place = 63 - i;
+// A new session whose doubtful list is the first so many of the places 0 and 10.
+fn fresh(rate: usize, doubt: usize) -> Session
+    requires { ⌜ doubt ≤ 2 ⌝ }
+{
+    let list = [0u8, 10];
+    let opened = session::open(rate, &list[..doubt]);
+    opened.session
+}
+
+// Such a session after it got the frame S(m), the last place first.
+fn filled(rate: usize, doubt: usize, m: usize) -> Session
+    requires { ⌜ doubt ≤ 2 ⌝ }
+{
+    let mut current = fresh(rate, doubt);
+    let mut place: usize = 64;
+    while 0 < place {
+        place -= 1;
         let delivered = session::deliver(current, place, column(place, m));
-        let left = delivered.session;
-        current = left;
+        current = delivered.session;
     }
     current
 }
@@ -62,55 +73,59 @@ fn show_report(report: [u8; 8]) {
     }
 }
 
-// Each bit that is set in some byte.
-fn seen(message: &[u8]) -> u8 {
+// Each bit that is set in some byte of a message of this rate.
+fn seen(message: [u8; 49], rate: usize) -> u8
+    requires { ⌜ rate ≤ 49 ⌝ }
+{
     let mut bits = 0u8;
-    let mut i = 0;
-    while i < message.len() {
+    for i in 0..rate {
         bits = bits | message[i];
-        i += 1;
     }
     bits
 }
 
-fn show_answer(number: u8, report: [u8; 8], message: &[u8]) {
+fn show_answer(number: u8, report: [u8; 8], message: [u8; 49], rate: usize)
+    requires { ⌜ rate ≤ 49 ⌝ }
+{
     show_byte(number);
     show_report(report);
-    show_byte(seen(message));
+    show_byte(seen(message, rate));
     io::write_all(STDOUT_FILENO, b"\n");
 }
 
-// The rate is the length of the message buffer.
-fn by_table(run: u64, room: &mut [u8], costs: &[u8], doubt: usize) {
-    let mut report = [1u8; 8];
+fn by_table(run: u64, rate: usize, costs: [u8; 2048], doubt: usize)
+    requires { ⌜ rate ≤ 49 ⌝ }
+{
     show_name(run, b" table");
-    let number = table_decoding::decode_table(room.len(), costs, doubt, room, &mut report);
-    show_answer(number, report, room);
-}
-
-fn by_session(run: u64, room: &mut [u8], list: &[u8], m: usize) {
+    let mut room = [1u8; 49];
     let mut report = [1u8; 8];
+    let number = table_decoding::decode_table(rate, &costs, doubt, &mut room[..rate], &mut report);
+    show_answer(number, report, room, rate);
+}
+
+fn by_session(run: u64, rate: usize, doubt: usize, m: usize)
+    requires { ⌜ (rate ≤ 49) × (doubt ≤ 2) ⌝ }
+{
     show_name(run, b" session");
-    let number = closing::close(filled(room.len(), list, m), room, &mut report);
-    show_answer(number, report, room);
+    let mut room = [1u8; 49];
+    let mut report = [1u8; 8];
+    let number = closing::close(filled(rate, doubt, m), &mut room[..rate], &mut report);
+    show_answer(number, report, room, rate);
 }
 
-fn both_at_39(run: u64, list: &[u8], m: usize) {
-    by_table(run, &mut [1u8; 39], &table(m), list.len());
-    by_session(run, &mut [1u8; 39], list, m);
-}
-
-fn both_at_49(run: u64, list: &[u8], m: usize) {
-    by_table(run, &mut [1u8; 49], &table(m), list.len());
-    by_session(run, &mut [1u8; 49], list, m);
+fn both(run: u64, rate: usize, doubt: usize, m: usize)
+    requires { ⌜ (rate ≤ 49) × (doubt ≤ 2) ⌝ }
+{
+    by_table(run, rate, table(m), doubt);
+    by_session(run, rate, doubt, m);
 }
 
 fn main() {
-    both_at_39(1, b"", 6);
-    both_at_39(2, b"", 7);
-    by_session(3, &mut [1u8; 39], b"\x00", 7);
-    both_at_39(4, b"\x00\x0a", 7);
-    both_at_49(5, b"", 1);
-    both_at_49(5, b"", 2);
-    by_table(6, &mut [1u8; 39], &[0u8; 2048], 0);
+    both(1, 39, 0, 6);
+    both(2, 39, 0, 7);
+    by_session(3, 39, 1, 7);
+    both(4, 39, 2, 7);
+    both(5, 49, 0, 1);
+    both(5, 49, 0, 2);
+    by_table(6, 39, [0u8; 2048], 0);
 }

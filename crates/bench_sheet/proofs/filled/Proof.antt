@@ -1,17 +1,17 @@
--- `filled` is safe and ends: the place stays below 64.
-use Prim.Native.Nat.{_≤_, _-_}
+-- `filled` is safe and ends: the place falls from 64.
+use Prim.Native.Nat.{_≤_}
 use borrow.Author.Needs.{needs}
 use Rattle.bench_sheet.proofs.filled.Statement.{statement}
 use Rattle.bench_sheet.proofs.filled.Tie as tie
 
 abbrev Inv-loop : tie.InvT-loop
-Inv-loop rate list m current₀ i₀ current i = i ≤ 64
+Inv-loop rate doubt m current₀ place₀ current place = place ≤ 64
 
 abbrev μ-loop : tie.MeasureT-loop
-μ-loop rate list m current₀ i₀ current i = 64 - i
+μ-loop rate doubt m current₀ place₀ current place = place
 
-open-requires : tie.Need-open-requires Inv-loop μ-loop
-open-requires c κs = search needs
+fresh-requires : tie.Need-fresh-requires Inv-loop μ-loop
+fresh-requires c κs = search needs
 
 loop-holds : tie.Need-loop-holds Inv-loop μ-loop
 loop-holds c = search needs
@@ -24,9 +24,6 @@ column-requires c κs = search needs
 
 deliver-requires : tie.Need-deliver-requires Inv-loop μ-loop
 deliver-requires c κs = search needs
-
-add-i : tie.Need-add-i Inv-loop μ-loop
-add-i c = search needs
 
 loop-less : tie.Need-loop-less Inv-loop μ-loop
 loop-less c = search needs
@@ -43,12 +40,11 @@ filled-spec =
     (tie.spec
     Inv-loop
     μ-loop
-    open-requires
+    fresh-requires
     loop-holds
     sub-place
     column-requires
     deliver-requires
-    add-i
     loop-less
     loop-again
     returns)
