@@ -17,13 +17,15 @@ use Rattle.lists.specs.Answers.{Answers, answers-some, Found as Passed}
 use Rattle.code.specs.Encoding.{encodeOf}
 use Rattle.code.specs.Rates.{mostRate}
 use Rattle.soft.specs.Column.{places, symbols}
-use Rattle.near.specs.Near.{near, testsNear, messageCost, answerOf}
+use Rattle.near.specs.Here.{reachOf, near, testsNear, messageCost, answerOf}
 use Rattle.near.specs.Laws.{near-answers, tests-answerless}
 use Rattle.answers.specs.declared.Answer.{Answer}
 use Rattle.answers.specs.declared.Answer.the-variants.{NoneNear, Near}
 use Rattle.answers.specs.declared.Found.{Found}
 use Rattle.answers.specs.Result.{nothingFound, foundFor, foundOf, found-same}
 use Rattle.answers.specs.Nearest.{Nearest, nearest-nobody, nearest-somebody, nearest-nothing, nearest-some}
+use Rattle.family.specs.Member.{m16}
+use Rattle.soft.specs.Total.{everywhere}
 
 unfoldable pub counted : ℕ → Found → Found
 counted n f = record { answer = f .answer; message = f .message; codeword = f .codeword; tests = n }
@@ -61,7 +63,7 @@ module _ {k : ℕ} {columns : ℕ → List ℕ} where
       go : (a : Answer) → f .answer ≡ a → f ≡ foundFor k columns (testsNear k ts) (answerOf k columns ts)
       go NoneNear e =
           let q = nearest-nobody n e in
-          found-same f nothingFound e (s .nothing e .0) (s .nothing e .1) (n .count ∙ tests-answerless k columns ts q)
+          found-same f nothingFound e (s .nothing e .0) (s .nothing e .1) (n .count ∙ tests-answerless m16 everywhere (reachOf k) k columns ts q)
           ∙ sym (ap (foundFor k columns (testsNear k ts)) q)
       go (Near t) e =
           let q = nearest-somebody n t e in
@@ -70,7 +72,7 @@ module _ {k : ℕ} {columns : ℕ → List ℕ} where
 
 module _ (k : ℕ) (columns : ℕ → List ℕ) (ts : List (List ℕ)) (small : k ≤ mostRate) where
   answer-word : {m : List ℕ} → answerOf k columns ts ≡ some m → Word symbols k m
-  answer-word e = answers-some (subst (Answers (messageCost k columns) (Passed symbols k (near k ts))) e (near-answers k columns ts)) .word
+  answer-word e = answers-some (subst (Answers (messageCost k columns) (Passed symbols k (near k ts))) e (near-answers m16 everywhere (reachOf k) k columns ts)) .word
 
   -- the answer's message is read back from the front
   front : {m : List ℕ} → answerOf k columns ts ≡ some m → m ≡ take k (padded mostRate m)

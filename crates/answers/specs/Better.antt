@@ -15,7 +15,7 @@ use lib.ListN.{take}
 use Rattle.lists.specs.Every.{both}
 use Rattle.lists.specs.Words.{isBefore}
 use Rattle.lists.specs.Answers.{beats, better, pick}
-use Rattle.near.specs.Near.{testsNear, messageCost, answerOf}
+use Rattle.near.specs.Here.{reachOf, testsNear, messageCost, answerOf}
 use Rattle.near.specs.Laws.{tests-append, answer-append}
 use Rattle.answers.specs.declared.Answer.{Answer}
 use Rattle.answers.specs.declared.Answer.the-variants.{NoneNear, Near}
@@ -23,6 +23,8 @@ use Rattle.answers.specs.declared.Found.{Found}
 use Rattle.answers.specs.Result.{resultFor, resultOf}
 use Rattle.answers.specs.Nearest.{Nearest, nearest-nobody, nearest-somebody}
 use Rattle.answers.specs.Answered.{counted, Sound, sound-counted}
+use Rattle.family.specs.Member.{m16}
+use Rattle.soft.specs.Total.{everywhere}
 
 unfoldable pub isBetter : ℕ → Answer → List ℕ → Answer → List ℕ → Bool
 isBetter k NoneNear m b n = false
@@ -64,7 +66,7 @@ beats-by cost m n {t} {u} p q =
 module _ {k : ℕ} {columns : ℕ → List ℕ} {ts us : List (List ℕ)} {a b : Found} (p : Nearest k columns ts a) (q : Nearest k columns us b) where
   both-answers : {o o′ : Option (List ℕ)} → answerOf k columns ts ≡ o → answerOf k columns us ≡ o′
       → answerOf k columns (ts ++ us) ≡ better (messageCost k columns) o o′
-  both-answers e f = answer-append k columns ts us ∙ ap₂ (better (messageCost k columns)) e f
+  both-answers e f = answer-append m16 everywhere (reachOf k) k columns ts us ∙ ap₂ (better (messageCost k columns)) e f
 
   answer-kept : (x y : Answer) → a .answer ≡ x → b .answer ≡ y
       → answerOf k columns (ts ++ us) ≡ cond (isBetter k x (a .message) y (b .message)) (answerOf k columns ts) (answerOf k columns us)
@@ -86,7 +88,7 @@ module _ {k : ℕ} {columns : ℕ → List ℕ} {ts us : List (List ℕ)} {a b :
   better-joins = go (isBetter k (a .answer) (a .message) (b .answer) (b .message)) (answer-kept (a .answer) (b .answer) refl refl)
     where
       counts : a .tests + b .tests ≡ testsNear k (ts ++ us)
-      counts = ap₂ (λ x y. x + y) (p .count) (q .count) ∙ sym (tests-append k ts us)
+      counts = ap₂ (λ x y. x + y) (p .count) (q .count) ∙ sym (tests-append m16 everywhere (reachOf k) k ts us)
 
       go : (c : Bool) → answerOf k columns (ts ++ us) ≡ cond c (answerOf k columns ts) (answerOf k columns us)
           → Nearest k columns (ts ++ us) (counted (a .tests + b .tests) (cond c a b))

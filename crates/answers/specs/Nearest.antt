@@ -10,11 +10,13 @@ use Prim.Native.Nat.{ℕ}
 use native.Mathlib.Omega.{arith}
 use lib.ListN.{take}
 use Rattle.refusals.specs.Refusal.{accepted, noneNear}
-use Rattle.near.specs.Near.{testsNear, messageCost, answerOf}
+use Rattle.near.specs.Here.{reachOf, testsNear, messageCost, answerOf}
 use Rattle.near.specs.Laws.{tests-answerless}
 use Rattle.answers.specs.declared.Answer.the-variants.{NoneNear, Near}
 use Rattle.answers.specs.declared.Found.{Found}
 use Rattle.answers.specs.Result.{Result, refusedResult, resultIn, resultFor, resultOf, nothingFound}
+use Rattle.family.specs.Member.{m16}
+use Rattle.soft.specs.Total.{everywhere}
 
 pub record Nearest (k : ℕ) (columns : ℕ → List ℕ) (tests : List (List ℕ)) (f : Found) : Type 0 where
   pub count : f .tests ≡ testsNear k tests
@@ -48,7 +50,7 @@ module _ {k : ℕ} {columns : ℕ → List ℕ} {ts : List (List ℕ)} where
 
   pub nearest-nothing : answerOf k columns ts ≡ none → Nearest k columns ts nothingFound
   unfolding nothingFound resultIn resultOf resultFor
-  nearest-nothing e = record { count = sym (tests-answerless k columns ts e); result = sym (ap (resultFor k columns) e) }
+  nearest-nothing e = record { count = sym (tests-answerless m16 everywhere (reachOf k) k columns ts e); result = sym (ap (resultFor k columns) e) }
 
   pub nearest-some : (f : Found) (t : ℕ) → f .answer ≡ Near t → testsNear k ts ≡ f .tests → answerOf k columns ts ≡ some (take k (f .message))
       → t ≡ messageCost k columns (take k (f .message)) → Nearest k columns ts f

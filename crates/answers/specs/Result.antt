@@ -18,7 +18,7 @@ use Rattle.lists.specs.Padded.{padded}
 use Rattle.code.specs.Encoding.{encodeOf}
 use Rattle.code.specs.Rates.{mostRate}
 use Rattle.soft.specs.Column.{places}
-use Rattle.near.specs.Near.{testsNear, messageCost, answerOf}
+use Rattle.near.specs.Here.{testsNear, messageCost, answerOf}
 use Rattle.answers.specs.declared.Answer.{Answer}
 use Rattle.answers.specs.declared.Answer.the-variants.{NoneNear, Near}
 use Rattle.answers.specs.declared.Found.{Found}

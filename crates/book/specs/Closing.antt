@@ -15,7 +15,7 @@ use Rattle.refusals.specs.Refusal.{accepted, wrongSize, placeMissing, noneNear}
 use Rattle.soft.specs.TestWord.{testWords}
 use Rattle.soft.specs.Total.{totalOf, pinnedOf, changedOf, reportOf}
 use Rattle.code.specs.Encoding.{encodeOf}
-use Rattle.near.specs.Near.{testsNear, answerOf}
+use Rattle.near.specs.Here.{testsNear, answerOf}
 use Rattle.book.specs.Book.{places, Book, someMissing}
 use Rattle.book.specs.Columns.{columnsOf}
 

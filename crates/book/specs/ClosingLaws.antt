@@ -20,11 +20,13 @@ use Rattle.refusals.specs.Refusal.{accepted, wrongSize, placeMissing, noneNear}
 use Rattle.soft.specs.TestWord.{testWords}
 use Rattle.lists.specs.Answers.{Answers, answers-some, Found}
 use Rattle.soft.specs.TotalLaws.{reportOf-length}
-use Rattle.near.specs.Near.{near, messageCost, answerOf}
+use Rattle.near.specs.Here.{reachOf, near, messageCost, answerOf}
 use Rattle.near.specs.Laws.{near-answers}
 use Rattle.book.specs.Book.{places, Book, someMissing}
 use Rattle.book.specs.Columns.{columnsOf}
 use Rattle.book.specs.Closing.{reportLength, Closed, refusedClosing, reportFor, answered, decodeOf, closingFits, closeOf}
+use Rattle.family.specs.Member.{m16}
+use Rattle.soft.specs.Total.{everywhere}
 
 -- the buffers of a closing that is refused
 pub record Kept (message report : List ℕ) (c : Closed) : Type 0 where
@@ -84,7 +86,7 @@ module _ (k : ℕ) (columns : ℕ → List ℕ) (doubtful message report : List 
 
   pub decode-sized : length message ≡ k → length report ≡ reportLength → Sized message report (decodeOf k columns doubtful message report)
   decode-sized long eight =
-      go (answerOf k columns (testWords places columns doubtful)) refl (near-answers k columns (testWords places columns doubtful))
+      go (answerOf k columns (testWords places columns doubtful)) refl (near-answers m16 everywhere (reachOf k) k columns (testWords places columns doubtful))
     where
       go : (o : Option (List ℕ)) → answerOf k columns (testWords places columns doubtful) ≡ o
           → Answers (messageCost k columns) (Found 16 k (near k (testWords places columns doubtful))) o

@@ -19,8 +19,7 @@ use borrow.Author.Tests.{lt-ltb, leb-true, le-leb}
 use Rattle.lists.specs.Distinct.{below, below-at, and-left, and-right, and-both}
 use Rattle.code.specs.Encoding.{knownRate}
 use Rattle.code.specs.Rates.{known-rates}
-use Rattle.near.specs.Near.{mOf, reachOf}
-use Rattle.near.specs.Reach.{reaches}
+use Rattle.near.specs.Here.{mOf, reachOf, reaches}
 use Rattle.book.specs.Book.{places}
 use Rattle.book.specs.Opening.{risingFrom, rising, fitPlaces, fitDoubt}
 

@@ -13,8 +13,8 @@ use lib.ListN.{length}
 use Rattle.lists.specs.Distinct.{among}
 use Rattle.refusals.specs.Refusal.{accepted, wrongSize}
 use Rattle.soft.specs.Column.{bestOf}
-use Rattle.code.specs.Nodes.{Node, node}
-use Rattle.near.specs.Near.{mOf}
+use Rattle.family.specs.Nodes.{Node, node}
+use Rattle.near.specs.Here.{mOf}
 use Rattle.interpolant.specs.LeastQ.{readingOf}
 use Rattle.book.specs.Book.{places, Book, taken}
 use Rattle.book.specs.Columns.{columnsOf}

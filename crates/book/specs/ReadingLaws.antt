@@ -21,7 +21,7 @@ use borrow.Author.Tests.{eqb-true, eqb-false, eq-eqb, ne-eqb, not-true}
 use Rattle.lists.specs.Distinct.{among, below-among, and-left, and-right, and-both}
 use Rattle.refusals.specs.Refusal.{accepted, wrongSize}
 use Rattle.soft.specs.Column.{bestOf}
-use Rattle.code.specs.Nodes.{Node, node}
+use Rattle.family.specs.Nodes.{Node, node}
 use Rattle.interpolant.specs.LeastQ.{readingOf}
 use Rattle.interpolant.specs.Reading.{reading-size, reading-any-order}
 use Rattle.book.specs.Book.{places, Entry, Book, taken}

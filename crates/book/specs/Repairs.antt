@@ -35,14 +35,14 @@ use Rattle.lists.specs.Words.{Word, Lex, lex-or, lex-asym}
 use Rattle.lists.specs.Answers.{Found}
 use Rattle.soft.specs.TestWord.{bestAt, Offered, bestWord, expand, testWords}
 use Rattle.soft.specs.TestWordLaws.{expand-nil, testWords-length, testWords-settled, chosen-test}
-use Rattle.soft.specs.Total.{symbolAt, changedAt, changedOf, totalOf, differAt, differing}
+use Rattle.soft.specs.Total.{everywhere, symbolAt, changedAt, changedOf, totalOf, differAt, differingIn, differing}
 use Rattle.soft.specs.TotalLaws.{agree-true, changed-differing}
 use Rattle.soft.specs.Doubt.{mostDoubt}
 use Rattle.soft.specs.DoubtLaws.{doubtful-none}
 use Rattle.code.specs.Encoding.{encodeOf}
-use Rattle.code.specs.Evaluation.{encode-length}
-use Rattle.near.specs.Near.{reachOf, nearTo}
-use Rattle.near.specs.Reach.{Workable}
+use Rattle.family.specs.Evaluation.{encode-length}
+use Rattle.near.specs.Here.{reachOf, nearTo, Workable, repairable}
+use Rattle.near.specs.Here as Here
 use Rattle.near.specs.Codeword.{near-one}
 use Rattle.book.specs.Book.{places, Entry, Book}
 use Rattle.book.specs.Columns.{columnsOf}
@@ -51,6 +51,8 @@ use Rattle.book.specs.Closing.{reportLength, Closed, reportFor, closeOf}
 use Rattle.book.specs.OpeningLaws.{Rate, rate-39, rate-49, rate-known, rate-reach}
 use Rattle.book.specs.Sentences.{testsOf, totalFor, IsNear, Dearer, IsAnswer, Closes, closes}
 use Rattle.book.specs.Table.{tableLength, tableColumns, pickedOf, tableOf, Delivered, delivered-columns, delivered-none-missing, table-as-session, entriesOf, order-delivered}
+use Rattle.family.specs.Member.{m16}
+use Rattle.near.specs.Near as Near
 
 -- ---- few wrong places
 
@@ -93,7 +95,7 @@ module _ (n : ℕ) (columns : ℕ → List ℕ) (doubtful word t : List ℕ) (si
       go false e false f = tt
 
   differing-wrong : differing n word t ≤ wrongOf n columns doubtful word
-  unfolding differing wrongOf
+  unfolding differingIn wrongOf
   differing-wrong = count-mono n (differAt word t) (wrongAt columns doubtful word) differ-wrong
 
 abbrev pub FewWrongIn : Book → ℕ → List ℕ → Type 0
@@ -112,7 +114,7 @@ few-near book T m few =
       few = omega (
         arith,
         few .at-settled,
-        differing-wrong places columns (book .doubtful) sent (r .0) (encode-length (book .rate) m) (r .1) (r .2),
+        differing-wrong places columns (book .doubtful) sent (r .0) (encode-length m16 (book .rate) m) (r .1) (r .2),
       );
     }
 
@@ -122,7 +124,7 @@ abbrev pub notBest : ℕ → (ℕ → List ℕ) → List ℕ → ℕ
 notBest k columns m = differing places (encodeOf k m) (bestWord places columns)
 
 pub not-best-changed : (k : ℕ) (columns : ℕ → List ℕ) (m : List ℕ) → changedOf places columns (encodeOf k m) ≡ notBest k columns m
-not-best-changed k columns m = changed-differing places columns (encodeOf k m) (encode-length k m)
+not-best-changed k columns m = changed-differing places columns (encodeOf k m) (encode-length m16 k m)
 
 pub record Repaired (k : ℕ) (columns : ℕ → List ℕ) (doubtful m : List ℕ) (c : Closed) : Type 0 where
   pub number : c .number ≡ accepted
@@ -149,8 +151,8 @@ equal-or m n =
     (lex-or m n)
 
 workable : {k T : ℕ} → Rate k T → Workable k
-workable rate-39 = record { least = omega arith; most = omega arith }
-workable rate-49 = record { least = omega arith; most = omega arith }
+workable rate-39 = Here.workable (omega arith) (omega arith)
+workable rate-49 = Here.workable (omega arith) (omega arith)
 
 abbrev bestIn : Book → List ℕ
 bestIn book = bestWord places (columnsOf (book .row))
@@ -210,7 +212,7 @@ module _ {book : Book} {T : ℕ} {c : Closed} (sentences : Closes book T c) (ful
   module _ (rate : Rate (book .rate) T) (none-doubtful : book .doubtful ≡ []) where
     -- near the only test word
     near-best : (n : List ℕ) → IsNear book T n → Found 16 (book .rate) (nearTo (book .rate) (bestIn book)) n
-    unfolding nearTo
+    unfolding Near.nearTo
     near-best n near =
         let e : near .test ≡ bestIn book = List·Memᴰ·eq-of-singleton (subst (List·Memᴰ (near .test)) (one-test book none-doubtful) (near .tested)) in
         record {
@@ -229,7 +231,7 @@ module _ {book : Book} {T : ℕ} {c : Closed} (sentences : Closes book T c) (ful
           tested = subst (List·Memᴰ (bestIn book)) (sym (one-test book none-doubtful)) (List·Memᴰ·head refl);
           few = few;
         } in
-        closes-only m near (λ n other. near-one (workable rate) (bestIn book) (near-best n other) (near-best m near))
+        closes-only m near (λ n other. near-one m16 everywhere (reachOf (book .rate)) (workable rate) (bestIn book) (repairable (workable rate)) (near-best n other) (near-best m near))
 
 -- ---- closing
 

@@ -21,11 +21,11 @@ use Rattle.refusals.specs.Refusal.{accepted}
 use Rattle.lists.specs.Distinct.{below, below-nil, below-one, below-append, and-both}
 use Rattle.soft.specs.Doubt.{mostDoubt}
 use Rattle.soft.specs.TestWord.{testWords}
-use Rattle.soft.specs.Total.{symbolAt, totalOf, pinnedOf, changedOf, bytesOf, reportOf}
+use Rattle.soft.specs.Total.{everywhere, symbolAt, totalOf, pinnedOf, changedOf, bytesOf, reportOf}
 use Rattle.soft.specs.TotalLaws.{total-bound, pinned-le, changed-le}
 use Rattle.soft.specs.Column.{ceiling}
 use Rattle.code.specs.Encoding.{encodeOf}
-use Rattle.near.specs.Near.{testsNear}
+use Rattle.near.specs.Here.{reachOf, testsNear}
 use Rattle.near.specs.Laws.{tests-tree}
 use Rattle.book.specs.Book.{places, Book, newBook}
 use Rattle.book.specs.Columns.{columnsOf}
@@ -39,6 +39,7 @@ use Rattle.book.specs.Calls.{Call, afterAll}
 use Rattle.book.specs.Sentences.{list-held}
 use Rattle.book.specs.Table.{tableColumns, pickedOf, picked-length, tableOf, table-accepted}
 use Rattle.book.specs.Costs.{AreColumns, column-cost, RowColumns, row-columns, table-costs, capture-costs, AllFit, new-costs, after-costs}
+use Rattle.family.specs.Member.{m16}
 
 abbrev pub totalIn : List ℕ → ℕ
 totalIn report = 16777216 * getD report 0 0 + 65536 * getD report 1 0 + 256 * getD report 2 0 + getD report 3 0
@@ -106,7 +107,7 @@ report-shows {columns} c k doubtful m few =
     total-bound columns word places ceiling (λ p h. column-cost (c .at p h) (symbolAt word p)) in
     let b : 2 ^ length doubtful ≤ 256 = pow-mono few in
     reads-back (totalOf places columns word) (testsNear k (testWords places columns doubtful)) (pinnedOf places columns word)
-    (changedOf places columns word) (omega arith) (omega (arith, tests-tree k places columns doubtful))
+    (changedOf places columns word) (omega arith) (omega (arith, tests-tree m16 everywhere (reachOf k) k places columns doubtful))
     (omega (arith, pinned-le columns word places)) (omega (arith, changed-le columns word places))
 
 -- ---- closing

@@ -38,11 +38,11 @@ use Rattle.lists.specs.Words.{Word, Lex}
 use Rattle.lists.specs.Answers.{Answers, nobody, best, cheaper, earlier, NoWorse, Found}
 use Rattle.soft.specs.TestWord.{testWords}
 use Rattle.soft.specs.TestWordLaws.{testWords-different}
-use Rattle.soft.specs.Total.{totalOf, differing}
+use Rattle.soft.specs.Total.{everywhere, totalOf, differing}
 use Rattle.code.specs.Encoding.{encodeOf, knownRate}
 use Rattle.hermitian.specs.Present.{Present}
 use Rattle.hermitian.specs.Keys.{Term, plain, timesZ, key}
-use Rattle.near.specs.Near.{reachOf, nearTo, near, messageCost, answerOf}
+use Rattle.near.specs.Here.{reachOf, nearTo, near, messageCost, answerOf}
 use Rattle.near.specs.Laws.{near-cons, near-member, near-answers}
 use Rattle.interpolant.specs.LeastQ.{coefficient}
 use Rattle.interpolant.specs.Meaning.{IsLeastQ, Shown}
@@ -65,6 +65,8 @@ use Rattle.book.specs.RowLaws.{Proper, columns-wide, deliver-above, deli
 use Rattle.book.specs.RoundTrip.{write-size, write-missing, write-accepted}
 use Rattle.book.specs.Calls.{Call, deliver, reading, writing, closing, Answer, firstLent, secondLent, answer, after, answers, afterAll}
 use Rattle.book.specs.OpeningLaws.{Rate, DoubtfulList, rate-known, known-rate, rate-reach, rate-orders, list-fits, fits-list}
+use Rattle.family.specs.Member.{m16}
+use Rattle.near.specs.Near as Near
 
 -- ---- 'For every rate and every strictly rising list of up to 8 doubtful places, none above 63, opening accepts'
 
@@ -159,7 +161,7 @@ tests-different {book} proper =
 member-near : (k : ℕ) (t : List ℕ) (ts : List (List ℕ)) (m : List ℕ) → List·Memᴰ t ts → Holds (nearTo k t m) → Holds (near k ts m)
 member-near k t [] m h n = absurd (List·Memᴰ·not-nil h)
 member-near k t (u ∷ ts) m h n =
-    subst Holds (sym (near-cons k u ts m)) (go (nearTo k u m) refl (List·Memᴰ·cases-cons h) (λ l. member-near k t ts m l n))
+    subst Holds (sym (near-cons m16 everywhere (reachOf k) k u ts m)) (go (nearTo k u m) refl (List·Memᴰ·cases-cons h) (λ l. member-near k t ts m l n))
   where
     go : (b : Bool) → nearTo k u m ≡ b → (t ≡ u) ⊎ List·Memᴰ t ts → (List·Memᴰ t ts → Holds (near k ts m)) → Holds (b || near k ts m)
     go true e c ih = tt
@@ -168,7 +170,7 @@ member-near k t (u ∷ ts) m h n =
 
 module _ (book : Book) {T : ℕ} (rate : Rate (book .rate) T) where
   near-found : {m : List ℕ} → IsNear book T m → Found 16 (book .rate) (near (book .rate) (testsOf book)) m
-  unfolding nearTo
+  unfolding Near.nearTo
   near-found {m} n =
       record {
         word = n .word;
@@ -178,9 +180,9 @@ module _ (book : Book) {T : ℕ} (rate : Rate (book .rate) T) where
       }
 
   found-near : {m : List ℕ} → Found 16 (book .rate) (near (book .rate) (testsOf book)) m → IsNear book T m
-  unfolding nearTo
+  unfolding Near.nearTo
   found-near {m} f =
-      let r = near-member (book .rate) (testsOf book) m (f .passed) in
+      let r = near-member m16 everywhere (reachOf (book .rate)) (book .rate) (testsOf book) m (f .passed) in
       record {
         word = f .word;
         test = r .0;
@@ -205,10 +207,10 @@ module _ (book : Book) (message report : List ℕ) where
     -- what decoding answers, whether or not a codeword is near
     decoded : someMissing (book .row) ≡ false
         → ((closeOf book message report .number ≡ noneNear) × ((m : List ℕ) → IsNear book T m → ⊥)) ⊎ IsAnswer book T (closeOf book message report)
-    unfolding testsOf totalFor messageCost
+    unfolding testsOf totalFor Near.messageCost
     decoded e =
         go (answerOf (book .rate) (columnsOf (book .row)) (testsOf book)) refl
-        (near-answers (book .rate) (columnsOf (book .row)) (testsOf book))
+        (near-answers m16 everywhere (reachOf (book .rate)) (book .rate) (columnsOf (book .row)) (testsOf book))
       where
         close : closeOf book message report ≡ decodeOf (book .rate) (columnsOf (book .row)) (book .doubtful) message report
         close = close-decoded book message report fits e

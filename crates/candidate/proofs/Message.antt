@@ -12,14 +12,16 @@ use Rattle.lists.specs.Over.{over}
 use Rattle.lists.specs.Padded.{padded, padded-over}
 use Rattle.hermitian.specs.Orders.{orderOf}
 use Rattle.code.specs.Encoding.{encodeOf}
-use Rattle.code.specs.Evaluation.{order-below, encode-beyond}
+use Rattle.code.specs.Rates.{longest, longest-is}
+use Rattle.family.specs.Evaluation.{order-below, encode-beyond}
 use Rattle.candidate.specs.Candidate.{symbolIn}
+use Rattle.family.specs.Member.{m16}
 
 -- the order of a symbol, and what stands there
-pub order-fits : (t : ℕ) {o : ℕ} → o ≡ orderOf 4 (t % 58) → o < 64
-order-fits t e = omega (arith, order-below (t % 58) (omega arith))
+pub order-fits : (t : ℕ) {o : ℕ} → o ≡ orderOf 4 (t % longest) → o < 64
+order-fits t e = omega (arith, order-below m16 (t % longest) (omega (arith, longest-is)))
 
-pub symbol-at : (function : List ℕ) (t : ℕ) {o : ℕ} → t < 58 → o ≡ orderOf 4 (t % 58) → getD function o 0 ≡ symbolIn function t
+pub symbol-at : (function : List ℕ) (t : ℕ) {o : ℕ} → t < longest → o ≡ orderOf 4 (t % longest) → getD function o 0 ≡ symbolIn function t
 unfolding symbolIn
 symbol-at function t h e = ap (λ k. getD function k 0) (e ∙ ap (orderOf 4) (mod-eq-of-lt h))
 
@@ -35,8 +37,8 @@ message-end w k t out f e h =
 
 -- the first k symbols of a message, lent as a part
 pub lent-message : (k : ℕ) (message : List ℕ) → k ≤ 49 → length message ≡ 49
-    → encodeOf 58 (take (k - 0) (drop 0 message)) ≡ encodeOf k (take k message)
+    → encodeOf longest (take (k - 0) (drop 0 message)) ≡ encodeOf k (take k message)
 lent-message k message h e =
     let z : k - 0 ≡ k = omega arith in
     let l : length (take k message) ≤ k = omega (arith, length-take k message) in
-    ap (λ n. encodeOf 58 (take n message)) z ∙ encode-beyond 58 k (take k message) (omega arith) l
+    ap (λ n. encodeOf longest (take n message)) z ∙ encode-beyond m16 longest k (take k message) (omega arith) l

@@ -22,13 +22,16 @@ use Rattle.division.specs.Parts.{plainAt, zAt, cut, zPart, coef-plain, coef-z}
 use Rattle.division.specs.Dividing.{Divided}
 use Rattle.interpolation.specs.Polynomial.{part, polynomial, polynomial-plain, polynomial-z}
 use Rattle.code.specs.Encoding.{encodeOf}
-use Rattle.near.specs.Near.{mOf, reachOf, nearTo}
-use Rattle.near.specs.Reach.{Workable, radius, genus-4}
+use Rattle.near.specs.Here.{mOf, reachOf, nearTo, Workable, repairable, genus-4}
+use Rattle.soft.specs.Total.{everywhere}
+use Rattle.family.specs.Member.{m16}
+use Rattle.near.specs.Reach.{reach-fits}
 use Rattle.near.specs.Codeword.{symbolFrom, messageFrom, messageFrom-word}
 use Rattle.near.specs.Interpolated.{held-small, near-lead, near-divides}
 use Rattle.candidate.specs.declared.Candidate.{Candidate}
 use Rattle.candidate.specs.Candidate.{symbolIn, Held, CandidateOf}
 use Rattle.candidate.specs.Ranged.{Ranged, workable}
+use Rattle.near.specs.Near as Near
 open Field K16 using (𝟘)
 
 -- what the arrays hold, in the interpolation's terms
@@ -42,10 +45,10 @@ unfolding zPart part
 z-is row M = coef-z row ∙ sym (polynomial-z M (coef row))
 
 module _ {k : ℕ} (rate : Ranged k) (row function : List ℕ) (divided : Divided (listed 64 (plainAt row)) (listed 64 (zAt row)) (mOf k) function) where
-  candidate-is : listed k (symbolIn function) ≡ messageFrom k (coef function)
+  candidate-is : listed k (symbolIn function) ≡ messageFrom m16 k (coef function)
   unfolding messageFrom symbolFrom symbolIn
   candidate-is =
-      listed-ext k (symbolIn function) (symbolFrom (coef function))
+      listed-ext k (symbolIn function) (symbolFrom m16 (coef function))
       (λ t h. sym (ap value (coef-at function (orderOf 4 t)) ∙ value-toF (getD function (orderOf 4 t) 0) ∙ mod-eq-of-lt (below (orderOf 4 t))))
     where
       below : (o : ℕ) → getD function o 0 < 16
@@ -56,24 +59,24 @@ module _ {k : ℕ} (rate : Ranged k) (row function : List ℕ) (divided : Divide
           go (no h) = let b : length function ≤ o = omega arith in omega (arith, List·getD-eq-default function 0 b)
 
   candidate-word : Word 16 k (listed k (symbolIn function))
-  candidate-word = subst (Word 16 k) (sym candidate-is) (messageFrom-word k (coef function))
+  candidate-word = subst (Word 16 k) (sym candidate-is) (messageFrom-word m16 k (coef function))
 
   only : (word : List ℕ) → Held k word row → (m : List ℕ) → Found 16 k (nearTo k word) m → listed k (symbolIn function) ≡ m
-  unfolding mOf
+  unfolding Near.mOf genus
   only word h m f =
       let w : Workable k = workable rate in
-      let j = near-lead word w (h .through) (h .leads) (h .unspent) m (f .passed) in
-      let b : j .0 < suc (reachOf k + genus 4) = lead-below K16 (j .1) (held-small k (h .through .member) (h .leads) (h .unspent) .order-withZ) in
+      let j = near-lead m16 everywhere (reachOf k) word w (repairable w) (h .through) (h .leads) (h .unspent) m (f .passed) in
+      let b : j .0 < suc (reachOf k + genus 4) = lead-below K16 (j .1) (held-small m16 everywhere (reachOf k) k (h .through .member) (h .leads) (h .unspent) .order-withZ) in
       candidate-is
-      ∙ ap (messageFrom k)
+      ∙ ap (messageFrom m16 k)
       (divided .exact (j .0)
       (record {
         leads = subst (λ g. Lead K16 g (j .0)) (sym (z-is row (mOf k))) (j .1);
-        powers-fit = omega (arith, b, radius w, genus-4, rate .least);
-        terms-fit = omega (arith, b, radius w, genus-4);
+        powers-fit = omega (arith, b, reach-fits m16 w, genus-4, rate .least);
+        terms-fit = omega (arith, b, reach-fits m16 w, genus-4);
       })
       ∙ ap₂ (λ r q. quotient K16 4 (j .0) r (mOf k) q) (z-is row (mOf k)) (plain-is row (mOf k)))
-      ∙ near-divides word w (h .through) (h .leads) (h .unspent) m (j .1) f
+      ∙ near-divides m16 everywhere (reachOf k) word w (repairable w) (h .through) (h .leads) (h .unspent) m (j .1) f
 
 -- from the steps of the code
 pub candidate-made : {k : ℕ} → Ranged k → (row function q0 q1 : List ℕ) (m : ℕ) (r : Candidate) → q0 ≡ listed 64 (plainAt row) → q1 ≡ listed 64 (zAt row)

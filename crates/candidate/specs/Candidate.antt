@@ -23,12 +23,13 @@ use Rattle.code.specs.Encoding.{encodeOf}
 use Rattle.code.specs.Rates.{mostRate}
 use Rattle.code.specs.Nodes.{ThroughNodes}
 use Rattle.soft.specs.Column.{places, symbols}
-use Rattle.soft.specs.Total.{differing}
-use Rattle.near.specs.Near.{mOf, reachOf, nearTo, codewordNear}
+use Rattle.soft.specs.Total.{everywhere, differing}
+use Rattle.near.specs.Here.{mOf, reachOf, nearTo, codewordNear, limitOf, nodesOf}
 use Rattle.near.specs.Laws.{codeword-none}
-use Rattle.near.specs.Interpolated.{limitOf, nodesOf}
 use Rattle.interpolation.specs.Polynomial.{polynomial}
 use Rattle.candidate.specs.declared.Candidate.{Candidate}
+use Rattle.family.specs.Member.{m16}
+use Rattle.near.specs.Near as Near
 
 unfoldable pub symbolIn : List ℕ → ℕ → ℕ
 symbolIn function t = getD function (orderOf 4 t) 0
@@ -47,15 +48,15 @@ pub record CandidateOf (k : ℕ) (row : List ℕ) (r : Candidate) : Type 0 where
 
 module _ {k : ℕ} {row : List ℕ} {r : Candidate} (C : CandidateOf k row r) (word : List ℕ) (h : Held k word row) where
   pub candidate-near : differing places (r .codeword) word ≤ reachOf k → codewordNear k word ≡ some (take k (r .message))
-  unfolding codewordNear nearTo
+  unfolding Near.codewordNear Near.nearTo
   candidate-near close =
       firstThat-only symbols k (nearTo k word) (take k (r .message))
       (record { word = C .word; passed = le→leb _ _ (subst (λ c. differing places c word ≤ reachOf k) (C .encoded) close) }) (C .only word h)
 
   pub candidate-far : reachOf k < differing places (r .codeword) word → codewordNear k word ≡ none
-  unfolding nearTo
+  unfolding Near.nearTo
   candidate-far far =
-      codeword-none k word
+      codeword-none m16 everywhere (reachOf k) k word
       (λ n f.
       omega (
         arith,

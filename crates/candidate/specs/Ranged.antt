@@ -9,25 +9,26 @@ use Prim.Native.Nat.{ℕ, _≤_}
 use native.Mathlib.Omega.{arith}
 use Rattle.hermitian.specs.Repair.{limit}
 use Rattle.code.specs.Rates.{mostRate}
-use Rattle.near.specs.Near.{mOf, reachOf}
-use Rattle.near.specs.Reach.{Workable, genus-4}
-use Rattle.near.specs.Interpolated.{limitOf}
+use Rattle.near.specs.Here.{mOf, reachOf, Workable, genus-4, limitOf, workable as within}
+use Rattle.near.specs.Interpolated as Interpolated
+use Rattle.near.specs.Near as Near
+use Rattle.hermitian.specs.Present.{genus}
 
 pub record Ranged (k : ℕ) : Type 0 where
   pub least : 27 ≤ k
   pub most : k ≤ mostRate
 
 pub workable : {k : ℕ} → Ranged k → Workable k
-workable h = record { least = omega arith; most = omega arith }
+workable h = within (omega arith) (omega arith)
 
 pub top-small : {k : ℕ} → Ranged k → (32 ≤ mOf k) × (mOf k ≤ 54)
-unfolding mOf
+unfolding Near.mOf genus
 top-small h = omega arith
 
 pub reach-small : (k : ℕ) → reachOf k ≤ 28
-unfolding reachOf
+unfolding Near.reachOf genus
 reach-small k = omega arith
 
 pub limit-small : {k : ℕ} → Ranged k → limitOf k ≤ 127
-unfolding limitOf limit reachOf mOf
+unfolding Interpolated.limitOf limit Near.reachOf genus Near.mOf
 limit-small h = omega (arith, genus-4)

@@ -3,8 +3,7 @@
 ghost use mathlib.Core.Path.{_≡_};
 ghost use Prim.Native.Nat.{_-_};
 ghost use Rattle.soft.specs.Column.{places};
-ghost use Rattle.near.specs.Near.{mOf, reachOf};
-ghost use Rattle.near.specs.Interpolated.{limitOf};
+ghost use Rattle.near.specs.Here.{mOf, reachOf, limitOf};
 ghost use Rattle.candidate.specs.Ranged.{Ranged};
 use interpolation::PLACES;
 

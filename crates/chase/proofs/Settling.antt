@@ -12,19 +12,19 @@ use lib.Dec.{eqb}
 use lib.ListN.{length, getD, take, drop, set, replicate, length-set, length-take, getD-replicate}
 use lib.Seq.{take-suc, getD-set-same, getD-set-other, getD-take}
 use borrow.Author.Tests.{eq-eqb, eqb-true}
-use Rattle.code.specs.Nodes.{Node, node, ThroughNodes}
+use Rattle.code.specs.Nodes.{ThroughNodes}
+use Rattle.family.specs.Nodes.{Node, node}
 use Rattle.code.specs.Encoding.{knownRate}
 use Rattle.code.specs.Rates.{known-bounds}
 use Rattle.interpolation.specs.Settled.{settled, settled-nil, settled-suc}
-use Rattle.near.specs.Tree.{Places, places-nil, places-cons, Decided}
+use Rattle.near.specs.Here.{Places, Decided, mOf, limitOf}
+use Rattle.near.specs.Tree.{places-nil, places-cons}
 use Rattle.algebra.specs.Koetter.{Basis}
 use Rattle.galois.specs.Field16.{K16}
 use Rattle.basis.specs.Choice.{leadAt}
 use Rattle.interpolation.specs.Polynomial.{polynomials}
 use Rattle.soft.specs.Column.{columnOf}
 use Rattle.soft.specs.TestWord.{bestWord, expand, testWords}
-use Rattle.near.specs.Near.{mOf}
-use Rattle.near.specs.Interpolated.{limitOf}
 use Rattle.answers.specs.declared.Found.{Found}
 use Rattle.chase.specs.Call.{Asked, nearestOf}
 use Rattle.chase.specs.Laws.{nearest-asked}
@@ -118,8 +118,8 @@ module _ (word flags : List ℕ) where
       record {
         inside = λ n m.
             let r = settled-inside 64 n m in
-            (r .0, r .1, (λ i. let z : _≡_ {A = ℕ} 0 1 = sym (F .off (r .0) i) ∙ r .2 in absurd (omega arith)), r .3);
-        covers = λ p h n. settled-covers 64 p h (F .on p h n);
+            (r .0, r .1, tt, (λ i. let z : _≡_ {A = ℕ} 0 1 = sym (F .off (r .0) i) ∙ r .2 in absurd (omega arith)), r .3);
+        covers = λ p h t n. settled-covers 64 p h (F .on p h n);
       }
 
 pub place-small : (doubtful : List ℕ) (doubt i : ℕ) → length doubtful ≡ 8 → doubt ≤ 8 → i < doubt → Places (take doubt doubtful) → getD doubtful i 0 < 64

@@ -15,7 +15,7 @@ use Rattle.code.specs.Encoding.{encodeOf, knownRate}
 use Rattle.soft.specs.Column.{places, symbols, columnOf}
 use Rattle.soft.specs.Doubt.{mostDoubt}
 use Rattle.soft.specs.TestWord.{testWords}
-use Rattle.near.specs.Tree.{Places}
+use Rattle.near.specs.Here.{Places}
 use Rattle.answers.specs.declared.Answer.the-variants.{Near}
 use Rattle.answers.specs.declared.Found.{Found}
 use Rattle.answers.specs.Result.{nothingFound, foundOf}

@@ -17,7 +17,8 @@ use Rattle.code.specs.Rates.{known-bounds}
 use Rattle.soft.specs.Column.{places, symbols, columnOf}
 use Rattle.soft.specs.Doubt.{mostDoubt}
 use Rattle.soft.specs.TestWord.{testWords}
-use Rattle.near.specs.Tree.{Places, places-nil, places-cons, places-of}
+use Rattle.near.specs.Here.{Places}
+use Rattle.near.specs.Tree.{places-nil, places-cons, places-of}
 use Rattle.answers.specs.declared.Found.{Found}
 use Rattle.answers.specs.Result.{nothingFound, foundOf}
 use Rattle.answers.specs.Nearest.{Nearest}
@@ -54,7 +55,7 @@ module _ (rate : ℕ) (costs doubtful : List ℕ) (doubt : ℕ) where
         known = and-left (knownRate rate) (size && (few && (b && d))) e;
         size = eqb-true (length costs) (places * symbols) (and-left size (few && (b && d)) s);
         few = leb-true doubt mostDoubt (and-left few (b && d) f);
-        fit = places-of (take doubt doubtful) (and-left b d p) (and-right b d p);
+        fit = places-of places (take doubt doubtful) (and-left b d p) (and-right b d p);
       }
 
   pub asked-is : Asked rate costs doubtful doubt → askedOf rate costs doubtful doubt ≡ true

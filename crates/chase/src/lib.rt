@@ -4,7 +4,7 @@ ghost use mathlib.Core.Path.{_≡_};
 ghost use Prim.Native.Nat.{_≤_};
 ghost use lib.ListN.{take};
 ghost use Rattle.soft.specs.Doubt.{mostDoubt};
-ghost use Rattle.near.specs.Tree.{Places};
+ghost use Rattle.near.specs.Here.{Places};
 ghost use Rattle.chase.specs.Places.{arePlaces, Flagged};
 ghost use Rattle.chase.specs.Call.{askedOf, nearestOf};
 use answers::Found;

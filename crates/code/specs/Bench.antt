@@ -22,7 +22,11 @@ use Rattle.galois.specs.Field16.{times-comm, times-zero, times-one, times-lt}
 use Rattle.hermitian.specs.Present.{genus}
 use Rattle.hermitian.specs.Orders.{xPower, yPower, presents, isPresent, orderOf}
 use Rattle.curve.specs.Curve.{power, isOnCurve, fibre, xOf, yOf}
-use Rattle.code.specs.Encoding.{monomial, term, valueAt, encodeOf}
+use Rattle.code.specs.Encoding.{monomial, valueAt, encodeOf}
+use Rattle.family.specs.Encoding.{term}
+use Rattle.family.specs.Curve as Curve
+use Rattle.family.specs.Encoding as Encoding
+use Rattle.family.specs.Member.{m16}
 
 unfoldable pub oneAt : ℕ → ℕ → ℕ
 oneAt s t = cond (eqb t s) 1 0
@@ -34,23 +38,23 @@ unfoldable pub monomialOf : ℕ → ℕ → ℕ
 monomialOf s p = monomial (orderOf 4 s) p
 
 one-times : (o p : ℕ) → times 1 (monomial o p) ≡ monomial o p
-unfolding monomial
+unfolding Encoding.monomial
 one-times o p = times-comm 1 _ ∙ times-one _ (times-lt _ _)
 
-alone-term : (k s p : ℕ) → s < k → term (alone k s) p s ≡ monomialOf s p
-unfolding term alone oneAt monomialOf
+alone-term : (k s p : ℕ) → s < k → term m16 (alone k s) p s ≡ monomialOf s p
+unfolding Encoding.term alone oneAt monomialOf
 alone-term k s p h =
     ap (λ a. times a (monomial (orderOf 4 s) p)) (listed-at k s (oneAt s) 0 h ∙ ap (λ b. cond b 1 0) (eq-eqb s s refl)) ∙ one-times _ p
 
-other-term : (k s p t : ℕ) → t < k → t ≢ s → term (alone k s) p t ≡ 0
-unfolding term alone oneAt
+other-term : (k s p t : ℕ) → t < k → t ≢ s → term m16 (alone k s) p t ≡ 0
+unfolding Encoding.term alone oneAt
 other-term k s p t h n =
     ap (λ a. times a (monomial (orderOf 4 t) p)) (listed-at k t (oneAt s) 0 h ∙ ap (λ b. cond b 1 0) (ne-eqb t s n)) ∙ times-comm 0 _ ∙ times-zero _
 
 pub alone-encodes : (k s : ℕ) → s < k → encodeOf k (alone k s) ≡ listed 64 (monomialOf s)
-unfolding encodeOf valueAt
+unfolding Encoding.encodeOf Encoding.valueAt
 alone-encodes k s h =
-    listed-ext 64 _ _ (λ p l. xorSum-single k s (term (alone k s) p) h (λ t b n. other-term k s p t b n) ∙ alone-term k s p h)
+    listed-ext 64 _ _ (λ p l. xorSum-single k s (term m16 (alone k s) p) h (λ t b n. other-term k s p t b n) ∙ alone-term k s p h)
 
 -- ---- the lines
 unfoldable pub isPoint : ℕ → ℕ → ℕ → Bool
@@ -92,11 +96,11 @@ unfoldable pub case8 : Bool
 case8 = both (starts 39 2 firstTwelve) (starts 49 2 firstTwelve)
 
 pub c3 : T case3
-unfolding case3 isPoint yOf fibre kept isOnCurve power times Binary.times Binary.shiftAdd Binary.xtime
+unfolding case3 isPoint Curve.yOf Curve.fibre kept Curve.isOnCurve Binary.power Binary.times Binary.shiftAdd Binary.xtime
 c3 = tt
 
 pub c4 : T case4
-unfolding case4 isPoint yOf fibre kept isOnCurve power times Binary.times Binary.shiftAdd Binary.xtime
+unfolding case4 isPoint Curve.yOf Curve.fibre kept Curve.isOnCurve Binary.power Binary.times Binary.shiftAdd Binary.xtime
 c4 = tt
 
 pub c5 : T case5
@@ -113,11 +117,11 @@ unfolding starts
 starts-by k s l h t = subst (λ w. T (same (take (length l) w) l)) (sym (alone-encodes k s h)) t
 
 x-word : T (same (take (length (listed 64 xOf)) (listed 64 (monomialOf 1))) (listed 64 xOf))
-unfolding same listed monomialOf orderOf presents isPresent genus monomial yOf fibre kept isOnCurve power times Binary.times Binary.shiftAdd Binary.xtime
+unfolding same listed monomialOf orderOf presents isPresent genus Encoding.monomial Curve.yOf Curve.fibre kept Curve.isOnCurve Binary.power Binary.times Binary.shiftAdd Binary.xtime
 x-word = tt
 
 y-word : T (same (take (length firstTwelve) (listed 64 (monomialOf 2))) firstTwelve)
-unfolding same listed firstTwelve monomialOf orderOf presents isPresent genus monomial yOf fibre kept isOnCurve power times Binary.times Binary.shiftAdd Binary.xtime
+unfolding same listed firstTwelve monomialOf orderOf presents isPresent genus Encoding.monomial Curve.yOf Curve.fibre kept Curve.isOnCurve Binary.power Binary.times Binary.shiftAdd Binary.xtime
 y-word = tt
 
 pub c7 : T case7

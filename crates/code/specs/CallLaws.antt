@@ -15,10 +15,11 @@ use Rattle.refusals.specs.Refusal.{accepted, unknownRate, wrongSize, noSymbol, 
 use Rattle.lists.specs.Every.{T-true}
 use Rattle.lists.specs.Words.{Word, allBelow}
 use Rattle.code.specs.Encoding.{encodeOf, knownRate, readBackOf}
-use Rattle.code.specs.Rates.{known-small}
+use Rattle.code.specs.Rates.{longest-is, known-small}
 use Rattle.code.specs.Calls.{Answered, outcome, checked, found, readBackSizes, readBackCall}
-use Rattle.code.specs.Evaluation.{encode-length, encode-symbols}
-use Rattle.code.specs.Laws.{read-encoded, read-accepted, read-none}
+use Rattle.family.specs.Evaluation.{encode-length, encode-symbols}
+use Rattle.family.specs.Laws.{read-encoded, read-accepted, read-none}
+use Rattle.family.specs.Member.{m16}
 
 module _ (k : ℕ) (known : knownRate k ≡ true) (buffer : List ℕ) (size : length buffer ≡ k) where
   -- a word of 64 symbols passes every check but the last
@@ -28,13 +29,13 @@ module _ (k : ℕ) (known : knownRate k ≡ true) (buffer : List ℕ) (size : le
 
   pub codeword-read : (m : List ℕ) → Word 16 k m → readBackCall k (encodeOf k m) buffer ≡ outcome accepted m
   codeword-read m w =
-      last-check (encodeOf k m) (encode-length k m) (encode-symbols k m)
-      ∙ ap (λ r. found r buffer) (read-encoded k (known-small k known) m w)
+      last-check (encodeOf k m) (encode-length m16 k m) (encode-symbols m16 k m)
+      ∙ ap (λ r. found r buffer) (read-encoded m16 k (omega (arith, longest-is, known-small k known)) m w)
 
   pub other-refused : (word : List ℕ) → Word 16 64 word → ((m : List ℕ) → Word 16 k m → encodeOf k m ≡ word → ⊥)
       → readBackCall k word buffer ≡ outcome noCodeword buffer
   other-refused word w other =
-      last-check word (w .size) (T-true (allBelow 16 word) (w .symbols)) ∙ ap (λ r. found r buffer) (read-none k word other)
+      last-check word (w .size) (T-true (allBelow 16 word) (w .symbols)) ∙ ap (λ r. found r buffer) (read-none m16 k word other)
 
 -- the call by what its four checks say
 abbrev checks : Bool → Bool → Bool → Option (List ℕ) → List ℕ → Answered
@@ -52,4 +53,4 @@ accepted-codeword rate word buffer = go (knownRate rate) (readBackSizes rate wor
     go true false c read r e = absurd (omega arith)
     go true true false read r e = absurd (omega arith)
     go true true true none r e = absurd (omega arith)
-    go true true true (some m) r e = read-accepted rate word m r
+    go true true true (some m) r e = read-accepted m16 rate word m r

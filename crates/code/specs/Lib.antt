@@ -2,9 +2,7 @@ pub mod Encoding
 pub mod Rates
 pub mod Calls
 pub mod Evaluation
-pub mod Bridge
 pub mod Extraction
-pub mod Laws
 pub mod CallLaws
 pub mod Nodes
 pub mod Bench

@@ -1,3 +1,1 @@
 pub mod Curve
-pub mod Fibres
-pub mod Points

@@ -14,9 +14,9 @@ use lib.Pow.{pow-mono}
 use Rattle.refusals.specs.Refusal.{accepted, noneNear}
 use Rattle.lists.specs.Over.{over, over-same, over-short}
 use Rattle.soft.specs.TestWord.{testWords}
-use Rattle.soft.specs.Total.{pinnedOf, changedOf, reportOf}
+use Rattle.soft.specs.Total.{everywhere, pinnedOf, changedOf, reportOf}
 use Rattle.code.specs.Encoding.{encodeOf}
-use Rattle.near.specs.Near.{messageCost}
+use Rattle.near.specs.Here.{reachOf, messageCost}
 use Rattle.near.specs.Laws.{tests-tree}
 use Rattle.book.specs.Closing.{refusedClosing, reportFor, decodeOf}
 use Rattle.book.specs.ClosingLaws.{decode-none, decode-some}
@@ -25,6 +25,8 @@ use Rattle.answers.specs.declared.Answer.the-variants.{NoneNear, Near}
 use Rattle.answers.specs.declared.Found.{Found}
 use Rattle.answers.specs.Nearest.{Nearest, nearest-nobody, nearest-somebody}
 use Rattle.chase.specs.Call.{Asked}
+use Rattle.family.specs.Member.{m16}
+use Rattle.near.specs.Near as Near
 
 pub list-few : {rate doubt : ℕ} {costs doubtful : List ℕ} → Asked rate costs doubtful doubt → length (take doubt doubtful) ≤ 8
 list-few {rate} {doubt} {costs} {doubtful} asked = omega (arith, length-take doubt doubtful, asked .few)
@@ -33,7 +35,7 @@ module _ (rate : ℕ) (columns : ℕ → List ℕ) (doubtful : List ℕ) (f : Fo
   pub tests-few : length doubtful ≤ 8 → f .tests ≤ 256
   tests-few h =
       let p : 2 ^ length doubtful ≤ 256 = pow-mono h in
-      omega (arith, near .count, tests-tree rate 64 columns doubtful)
+      omega (arith, near .count, tests-tree m16 everywhere (reachOf rate) rate 64 columns doubtful)
 
   module _ (message report : List ℕ) where
     pub answered-none : f .answer ≡ NoneNear → closed noneNear message report ≡ decodeOf rate columns doubtful message report
@@ -45,7 +47,7 @@ module _ (rate : ℕ) (columns : ℕ → List ℕ) (doubtful : List ℕ) (f : Fo
         (reportOf t (f .tests) (pinnedOf 64 columns (encodeOf rate (take rate (f .message))))
         (changedOf 64 columns (encodeOf rate (take rate (f .message)))))
         ≡ decodeOf rate columns doubtful message report
-    unfolding reportFor messageCost
+    unfolding reportFor Near.messageCost
     answered-near t e =
         let m = take rate (f .message) in
         ap₂

@@ -13,7 +13,8 @@ use lib.ListN.{length, take}
 use borrow.Author.Tests.{leb-true}
 use Rattle.lists.specs.Distinct.{below, below-cons, and-left, and-right}
 use Rattle.code.specs.Encoding.{knownRate}
-use Rattle.near.specs.Tree.{Places, places-nil, places-cons}
+use Rattle.near.specs.Here.{Places}
+use Rattle.near.specs.Tree.{places-nil, places-cons}
 use Rattle.book.specs.Opening.{risingFrom, rising, fitPlaces, fitDoubt}
 use Rattle.chase.specs.Call.{Asked}
 

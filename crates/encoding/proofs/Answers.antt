@@ -10,8 +10,9 @@ use borrow.Author.Tests.{eq-eqb, ne-eqb, le-leb, lt-leb}
 use Rattle.lists.specs.Words.{allBelow}
 use Rattle.refusals.specs.Refusal.{accepted, unknownRate, wrongSize, noSymbol}
 use Rattle.code.specs.Encoding.{encodeOf, knownRate}
-use Rattle.code.specs.Evaluation.{encode-length}
+use Rattle.family.specs.Evaluation.{encode-length}
 use Rattle.code.specs.Calls.{outcome, fitsFrame, placed, encodeCall}
+use Rattle.family.specs.Member.{m16}
 
 module _ (rate : ℕ) (m frame : List ℕ) (start : ℕ) where
   -- what a lent part leaves in the frame
@@ -19,7 +20,7 @@ module _ (rate : ℕ) (m frame : List ℕ) (start : ℕ) where
       → take start frame ++ (part ++ drop (end - start) (drop start frame)) ≡ placed frame start (encodeOf rate m)
   unfolding placed
   lent-part part end e q =
-      let n : start + (end - start) ≡ start + length (encodeOf rate m) = omega (arith, encode-length rate m) in
+      let n : start + (end - start) ≡ start + length (encodeOf rate m) = omega (arith, encode-length m16 rate m) in
       ap₂ (λ x y. take start frame ++ (x ++ y)) q (drop-drop (end - start) start frame ∙ ap (λ k. drop k frame) n)
 
   pub encode-rate : knownRate rate ≡ false → outcome unknownRate frame ≡ encodeCall rate m frame start

@@ -7,6 +7,7 @@ ghost use Rattle.lists.specs.Words.{allBelow};
 ghost use Rattle.hermitian.specs.Present.{Present};
 ghost use Rattle.hermitian.specs.Orders.{orderOf, rank};
 ghost use Rattle.code.specs.Encoding.{encodeOf, knownRate};
+ghost use Rattle.code.specs.Rates.{longest};
 ghost use Rattle.code.specs.Evaluation.{coefficientOf, functionOf};
 ghost use Rattle.code.specs.Calls.{outcome, encodeCall};
 use evaluation::value::codeword;
@@ -38,7 +39,7 @@ const ORDERS: [usize; 6] = [0, 4, 5, 8, 9, 10];
 
 // The order of a message symbol. Its number counts modulo 58.
 pub fn order(symbol: usize) -> usize
-    ensures { λ r. ⌜ r ≡ orderOf 4 (symbol % 58) ⌝ }
+    ensures { λ r. ⌜ r ≡ orderOf 4 (symbol % longest) ⌝ }
 {
     let t = symbol % 58;
     if 6 <= t {
@@ -75,7 +76,7 @@ fn function_of(message: &[u8]) -> [u8; 64]
 
 // The codeword of a message; symbols after the 58th are not read.
 pub fn codeword_of(message: &[u8]) -> [u8; 64]
-    ensures { λ r. ⌜ r ≡ encodeOf 58 (now (message .entry)) ⌝ }
+    ensures { λ r. ⌜ r ≡ encodeOf longest (now (message .entry)) ⌝ }
 {
     codeword(function_of(message))
 }
@@ -105,7 +106,7 @@ pub fn symbols_only(bytes: &[u8]) -> bool
 
 // The codeword of a message into the part of a frame that is lent for it.
 fn encode_into(message: &[u8], part: &mut [u8])
-    ensures { λ _. ⌜ now (part .exit) ≡ over (encodeOf 58 (now (message .entry))) (now (part .entry)) ⌝ }
+    ensures { λ _. ⌜ now (part .exit) ≡ over (encodeOf longest (now (message .entry))) (now (part .entry)) ⌝ }
 {
     let word = codeword_of(message);
     copy(&word, part);

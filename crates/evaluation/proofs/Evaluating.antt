@@ -12,9 +12,13 @@ use Rattle.algebra.specs.Sum.{sum-ext, sum-zero, sum-append}
 use Rattle.galois.specs.Field16.{K16, toF, value, value-toF, toF-times, toF-zero, times-lt, times-comm}
 use Rattle.rows.specs.Rows.{coef, coef-at, dot, weighed, weighed-plain, weighed-z}
 use Rattle.rows.specs.Planes.{planesOf, dotOf, dotOf-planes}
-use Rattle.code.specs.Evaluation.{monomialAt, valueTerm, valueBy, valueOf}
-use Rattle.code.specs.Bridge.{toF-xorSum}
+use Rattle.code.specs.Evaluation.{monomialAt, valueBy, valueOf}
+use Rattle.family.specs.Evaluation.{valueTerm}
+use Rattle.galois.specs.BinaryField.{toF-xorSum}
 use Rattle.evaluation.specs.Table.{monomialTable, digitIn, entryIn, in-table}
+use Rattle.galois.specs.Gf16.{gf16}
+use Rattle.family.specs.Member.{m16}
+use Rattle.family.specs.Evaluation as Evaluation
 open Field K16 using (_⊕_, _⊗_, 𝟘)
 
 -- an array of 64 bytes before it is filled
@@ -39,15 +43,15 @@ entry-is t p o e q = q ∙ ap (λ i. digitIn t (i + o)) e
 
 -- ---- the value by a dot product
 valueBy-lt : (f m : List ℕ) → valueBy f m < 16
-unfolding valueBy valueTerm
+unfolding Evaluation.valueBy Evaluation.valueTerm
 valueBy-lt f m = xorSum-below 4 64 _ (λ o l. times-lt _ _)
 
 module _ (f m row weights : List ℕ) (held : coef row ≡ weighed (coef f) (toF 0)) (weighted : coef weights ≡ weighed (coef m) (toF 0)) where
   plain : (l r : List ℕ) → coef r ≡ weighed (coef l) (toF 0) → (o : ℕ) → o < 64 → coef r o ≡ toF (getD l o 0)
   plain l r e o h = ap (λ g. g o) e ∙ weighed-plain _ _ o h ∙ coef-at l o
 
-  term : (o : ℕ) → o < 64 → coef row o ⊗ coef weights o ≡ toF (valueTerm f m o)
-  unfolding valueTerm
+  term : (o : ℕ) → o < 64 → coef row o ⊗ coef weights o ≡ toF (valueTerm m16 f m o)
+  unfolding Evaluation.valueTerm
   term o h = ap₂ (λ x y. x ⊗ y) (plain f row held o h) (plain m weights weighted o h) ∙ sym (toF-times _ _)
 
   -- the terms with z
@@ -59,10 +63,10 @@ module _ (f m row weights : List ℕ) (held : coef row ≡ weighed (coef f) (toF
       ∙ zero-mul K16 _
 
   total : dot (coef row) (coef weights) 96 ≡ toF (valueBy f m)
-  unfolding dot valueBy
+  unfolding dot Evaluation.valueBy
   total =
       sum-append K16 64 32 _
-      ∙ ap₂ (λ x y. x ⊕ y) (sum-ext K16 64 _ _ term ∙ sym (toF-xorSum 64 (valueTerm f m))) (sum-zero K16 32 _ beyond)
+      ∙ ap₂ (λ x y. x ⊕ y) (sum-ext K16 64 _ _ term ∙ sym (toF-xorSum gf16 64 (valueTerm m16 f m))) (sum-zero K16 32 _ beyond)
       ∙ add-zero K16 _
 
   pub value-by-dot : {bits : List (List ℕ)} {v : ℕ} → bits ≡ planesOf weights → v ≡ dotOf row bits → v ≡ valueBy f m
@@ -70,13 +74,13 @@ module _ (f m row weights : List ℕ) (held : coef row ≡ weighed (coef f) (toF
       e ∙ ap (dotOf row) q ∙ dotOf-planes row weights ∙ ap value total ∙ value-toF _ ∙ mod-eq-of-lt (valueBy-lt f m)
 
 pub value-swapped : (f m : List ℕ) {v : ℕ} → v ≡ valueBy m f → v ≡ valueBy f m
-unfolding valueBy valueTerm
+unfolding Evaluation.valueBy Evaluation.valueTerm
 value-swapped f m e = e ∙ xorSum-ext 64 _ _ (λ o h. times-comm _ _)
 
 -- at a place
 pub value-at : {table : List ℕ} {m : List ℕ} {v : ℕ} (f : List ℕ) (p : ℕ) → p < 64 → table ≡ monomialTable
     → m ≡ listed 64 (entryIn table (p % 64)) → v ≡ valueBy f m → v ≡ valueOf f p
-unfolding valueOf
+unfolding Evaluation.valueOf
 value-at f p h e q w =
     let own : p % 64 ≡ p = mod-eq-of-lt h in
     w ∙ ap (valueBy f) (in-table (p % 64) (omega arith) e q ∙ ap (λ k. listed 64 (monomialAt k)) own)

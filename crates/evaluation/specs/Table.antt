@@ -15,13 +15,16 @@ use lib.Dec.{T}
 use lib.ListN.{getD}
 use Rattle.lists.specs.Listed.{listed, listed-cons, listed-at, listed-ext}
 use Rattle.lists.specs.Same.{same, same-yes}
-use Rattle.galois.specs.Gf16.{times}
+use Rattle.galois.specs.Gf16.{gf16, times}
 use Rattle.galois.specs.Field16.{times-lt}
 use Rattle.hermitian.specs.Orders.{isPresent}
-use Rattle.curve.specs.Curve.{power, power-nil, power-suc, xOf}
+use Rattle.curve.specs.Curve.{power, xOf, yOf}
+use Rattle.galois.specs.BinaryField.{power-nil, power-suc}
 use Rattle.code.specs.Encoding.{monomial}
-use Rattle.curve.specs.Points.{yTable, yTable-rule}
-use Rattle.code.specs.Evaluation.{ifPresent, monomialAt}
+use Rattle.code.specs.Evaluation.{monomialAt}
+use Rattle.family.specs.Evaluation.{ifPresent}
+use Rattle.family.specs.Encoding as Encoding
+use Rattle.family.specs.Evaluation as Evaluation
 
 unfoldable pub digitAt : ℕ → ℕ
 digitAt i = 48 + monomialAt (i / 64) (i % 64)
@@ -36,7 +39,7 @@ unfoldable pub entryIn : List ℕ → ℕ → ℕ → ℕ
 entryIn t p o = digitIn t (p * 64 + o)
 
 monomialAt-lt : (p o : ℕ) → monomialAt p o < 16
-unfolding monomialAt monomial
+unfolding Evaluation.monomialAt Encoding.monomial
 monomialAt-lt p o = go (isPresent 4 o) _ (times-lt _ _)
   where
     go : (b : Bool) (a : ℕ) → a < 16 → ifPresent b a < 16
@@ -54,7 +57,7 @@ table-at p o h l =
 pub in-table : {t : List ℕ} (p : ℕ) {l : List ℕ} → p < 64 → t ≡ monomialTable → l ≡ listed 64 (entryIn t p) → l ≡ listed 64 (monomialAt p)
 in-table p h e q = q ∙ ap (λ s. listed 64 (entryIn s p)) e ∙ listed-ext 64 _ _ (λ o l. table-at p o h l)
 
--- ---- the test, with the y of the constant points and with powers that are made one from the other
+-- ---- the test, with powers that are made one from the other
 
 -- v, v a, v a a, …: n of them
 unfoldable pub powersFrom : ℕ → ℕ → ℕ → List ℕ
@@ -67,13 +70,13 @@ powers-from zero k i a e h = absurd (omega arith)
 powers-from (suc n) k zero a e h = let m : k ≡ k + 0 = omega arith in e ∙ ap (power a) m
 powers-from (suc n) k (suc i) a e h =
     let m : suc k + i ≡ k + suc i = omega arith in
-    powers-from n (suc k) i a (ap (λ u. times u a) e ∙ sym (power-suc a k)) (omega arith) ∙ ap (power a) m
+    powers-from n (suc k) i a (ap (λ u. times u a) e ∙ sym (power-suc gf16 a k)) (omega arith) ∙ ap (power a) m
 
 own : (i : ℕ) → 0 + i ≡ i
 own i = omega arith
 
 powers-at : (n i a : ℕ) → i < n → getD (powersFrom n 1 a) i 0 ≡ power a i
-powers-at n i a h = powers-from n 0 i a (sym (power-nil a)) h ∙ ap (power a) (own i)
+powers-at n i a h = powers-from n 0 i a (sym (power-nil gf16 a)) h ∙ ap (power a) (own i)
 
 -- a list by its rule, from the front
 module _ {A : Type 0} where
@@ -100,7 +103,7 @@ unfoldable pub xPowers : ℕ → List ℕ
 xPowers x = powersFrom 16 1 x
 
 unfoldable pub yPowers : ℕ → List ℕ
-yPowers p = powersFrom 4 1 (getD yTable p 0)
+yPowers p = powersFrom 4 1 (yOf p)
 
 unfoldable pub testAt : List ℕ → List ℕ → ℕ → ℕ
 testAt xs ys o = 48 + ifPresent (isPresent 4 o) (times (getD xs (o / 4 - o % 4) 0) (getD ys (o % 4) 0))
@@ -113,7 +116,7 @@ unfoldable pub testDigits : List (List ℕ) → List (List ℕ) → List ℕ
 testDigits xs ys = front 4096 0 (testDigit xs ys)
 
 test-digit : (i : ℕ) → i < 4096 → testDigit (front 16 0 xPowers) (front 64 0 yPowers) i ≡ digitAt i
-unfolding testDigit testAt digitAt monomialAt monomial xPowers yPowers
+unfolding testDigit testAt digitAt Evaluation.monomialAt Encoding.monomial xPowers yPowers
 test-digit i h =
     let x : i / 256 ≡ xOf (i / 64) = omega arith in
     ap (λ a. 48 + ifPresent (isPresent 4 (i % 64)) a)
@@ -122,8 +125,7 @@ test-digit i h =
     ∙ powers-at 16 (i % 64 / 4 - i % 64 % 4) (i / 256) (omega arith)
     ∙ ap (λ a. power a (i % 64 / 4 - i % 64 % 4)) x)
     (ap (λ l. getD l (i % 64 % 4) 0) (front-at 64 (i / 64) yPowers [] (omega arith))
-    ∙ powers-at 4 (i % 64 % 4) (getD yTable (i / 64) 0) (omega arith)
-    ∙ ap (λ a. power a (i % 64 % 4)) (yTable-rule (i / 64) (omega arith))))
+    ∙ powers-at 4 (i % 64 % 4) (yOf (i / 64)) (omega arith)))
 
 pub table-from : (t : List ℕ) → T (same t (testDigits (front 16 0 xPowers) (front 64 0 yPowers))) → t ≡ monomialTable
 unfolding monomialTable testDigits

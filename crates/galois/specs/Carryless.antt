@@ -5,7 +5,7 @@
 --   reduced-sums         reducing takes sums to sums
 --   reduced-carryless    the product, reduced, is the field's
 use mathlib.Core.Bool.{Bool}
-use mathlib.Core.Path.{_≡_, refl, sym, ap, ap₂, _∙_}
+use mathlib.Core.Path.{_≡_, sym, ap, ap₂, _∙_}
 use Prim.Native.Nat.{ℕ, _+_, _*_, _/_, _%_}
 use native.Mathlib.Nat.{mod-lt, mod-mod}
 use native.Mathlib.Omega.{arith}
@@ -54,7 +54,7 @@ carryless-mod a b =
     (ap₂ (λ (x y : ℕ). x * (y * 8)) b8 a1)
 
 pub reduced-carryless : (a b : ℕ) → reduced (carryless a b) ≡ times a b
-unfolding agrees every every₂ reduced carryless times Binary.times Binary.shiftAdd Binary.xtime
+unfolding agrees every every₂ reduced carryless Binary.times Binary.shiftAdd Binary.xtime
 reduced-carryless a b =
     sym (ap reduced (carryless-mod a b))
     ∙ eqb→eq _ _ (every₂-at 16 agrees tt (a % 16) (b % 16) (mod-lt a (lit< tt)) (mod-lt b (lit< tt)))

@@ -24,11 +24,11 @@ module _ {F : Type 0} (K : Field F) (w : ℕ) where
   messageFn k s o = choose (decPresent w o) (choose (decLt (rank w o) k) (s (rank w o)) 𝟘) 𝟘
 
   module _ (k : ℕ) (s : ℕ → F) where
-    message-present : (o : ℕ) → Present w o → rank w o < k → messageFn k s o ≡ s (rank w o)
+    pub message-present : (o : ℕ) → Present w o → rank w o < k → messageFn k s o ≡ s (rank w o)
     unfolding messageFn
     message-present o p h = choose-yes (decPresent w o) _ 𝟘 p ∙ choose-yes (decLt (rank w o) k) _ 𝟘 h
 
-    message-absent : (o : ℕ) → ¬ Present w o → messageFn k s o ≡ 𝟘
+    pub message-absent : (o : ℕ) → ¬ Present w o → messageFn k s o ≡ 𝟘
     unfolding messageFn
     message-absent o p = choose-no (decPresent w o) _ 𝟘 p
 
@@ -55,7 +55,7 @@ module _ {F : Type 0} (K : Field F) (w : ℕ) where
           message-present (orderOf w t) (orderOf-present w two t) (omega arith) ∙ ap s e
 
       -- term by term: an absent order adds nothing
-      ranked-sum : (e : ℕ → F) (n : ℕ) → rank w n ≤ k
+      pub ranked-sum : (e : ℕ → F) (n : ℕ) → rank w n ≤ k
           → sum K n (λ o. messageFn k s o ⊗ e o) ≡ sum K (rank w n) (λ t. s t ⊗ e (orderOf w t))
       ranked-sum e zero h = sum-nil K _ ∙ sym (ap (λ r. sum K r (λ t. s t ⊗ e (orderOf w t))) (rank-nil w) ∙ sum-nil K _)
       ranked-sum e (suc n) h = go (decPresent w n) (ranked-sum e n (omega (arith, rank-gap w n (suc n) (omega arith))))

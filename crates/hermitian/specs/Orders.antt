@@ -4,10 +4,11 @@
 --   xPower, yPower      the powers of x and of y in the monomial of a present order
 --   order-present, order-x, order-y, order-injective, order-of   monomials with j < w and present orders are one to one
 --   rank w n            how many present orders lie below n
+--   rank-present        in row q, orders q·w to q·w + w − 1, the rank of a present one is genus (q + 1) and its rest
 --   rank-large          from w(w − 1) on every order is present: exactly genus w of those below n are absent
 --   rank-least          at most genus w orders below n are absent, for every n
 --   orderOf w t         the t-th present order, counted from 0: message symbol t multiplies its monomial
---   orderOf-present, orderOf-rising, rank-orderOf, orderOf-rank   it lists the present orders, and each once, upwards
+--   orderOf-present, orderOf-rising, orderOf-injective, rank-orderOf, orderOf-rank   it lists the present orders, and each once, upwards
 --   orderOf-below       orderOf w t is below n exactly if t is below rank w n
 --   orderOf-up-to       for M ≥ 2g − 1: orderOf w t ≤ M exactly if t < M + 1 − g
 --   orderOf-large       from t = g on it is t + g
@@ -133,6 +134,12 @@ rank-rows w zero h = ap (rank w) (zero-mul w) ∙ rank-nil w ∙ omega (arith, g
 rank-rows w (suc q) h =
     ap (rank w) (suc-mul q w) ∙ rank-row w q w h (omega arith) ∙ omega (arith, rank-rows w q (omega arith), genus-suc (suc q))
 
+-- a present order in row q has the present orders of q rows below it, and its rest
+pub rank-present : (w o : ℕ) → Present w o → o / w < w → rank w o ≡ genus (suc (o / w)) + o % w
+rank-present w o p h =
+    let e : min (o % w) (suc (o / w)) ≡ o % w = omega arith in
+    ap (rank w) (sym (div-add-mod' o w)) ∙ rank-row w (o / w) (o % w) h (omega arith) ∙ omega (arith, rank-rows w (o / w) (omega arith))
+
 module _ (w : ℕ) (two : 2 ≤ w) where
   rank-start : rank w (w * (w - 1)) ≡ genus w
   rank-start =
@@ -211,6 +218,9 @@ module _ (w : ℕ) (two : 2 ≤ w) where
 
   pub rank-orderOf : (t : ℕ) → rank w (orderOf w t) ≡ t
   rank-orderOf t = ap (rank w) (orderOf-found t .3) ∙ orderOf-found t .2
+
+  pub orderOf-injective : (s t : ℕ) → orderOf w s ≡ orderOf w t → s ≡ t
+  orderOf-injective s t e = sym (rank-orderOf s) ∙ ap (rank w) e ∙ rank-orderOf t
 
   pub orderOf-rank : (o : ℕ) → Present w o → orderOf w (rank w o) ≡ o
   unfolding orderOf

@@ -2,11 +2,12 @@
 --
 --   terms w M n      how many keys below n are keys of terms
 --   terms-rank       they are the present orders up to (n − 1)/2 without z, and up to n/2 − M − 1 with z
+--   terms-weight     so those of weight up to s, whose keys are up to 2s + 1
 --   size             more terms of key at most L than samples: some Q through them, not zero, has no key above L
 --   least-size       so the least Q has none
-use mathlib.Core.Path.{_≡_, refl, ap, _∙_}
+use mathlib.Core.Path.{_≡_, ap, ap₂, _∙_}
 use mathlib.Core.List.{List}
-use Prim.Native.Nat.{ℕ, zero, suc, _+_, _-_, _/_, _%_, _<_, _≤_}
+use Prim.Native.Nat.{ℕ, zero, suc, _+_, _-_, _*_, _/_, _%_, _<_, _≤_}
 use native.Mathlib.Nat.{le-trans}
 use native.Mathlib.Decide.{decLe, ℕ-discrete}
 use native.Mathlib.Omega.{arith}
@@ -17,7 +18,7 @@ use Rattle.algebra.specs.Coefficients.{Lead, unit, lead-unit}
 use Rattle.algebra.specs.Dimension.{Rising, vanishing-exists}
 use Rattle.algebra.specs.Least.{Least}
 use Rattle.hermitian.specs.Present.{Present, decPresent}
-use Rattle.hermitian.specs.Orders.{rank, isPresent, rank-nil, rank-yes, rank-no}
+use Rattle.hermitian.specs.Orders.{rank, rank-nil, rank-yes, rank-no}
 use Rattle.hermitian.specs.Keys.{IsKey, decKey, key-even, even-key, key-odd, odd-key}
 use Rattle.hermitian.specs.Interpolant.{Interpolant, interpolant-unit, interpolant-space}
 use Rattle.hermitian.specs.Interpolation.{Sample, Through, evaluation}
@@ -73,6 +74,13 @@ module _ (w M : ℕ) where
           let b : suc (suc n) / 2 ≡ suc n / 2 = omega arith in
           omega (arith, odd z (decLe M (n / 2)) (decPresent w (n / 2 - M)), ap (rank w) b, ap (λ x. rank w (x - M)) a)
 
+  -- the terms of weight up to s: all keys up to 2s + 1
+  pub terms-weight : (s : ℕ) → terms w M (suc (2 * s + 1)) ≡ rank w (suc s) + rank w (suc s - M)
+  terms-weight s =
+      let a : suc (suc (2 * s + 1)) / 2 ≡ suc s = omega arith in
+      let b : suc (2 * s + 1) / 2 - M ≡ suc s - M = omega arith in
+      terms-rank (suc (2 * s + 1)) ∙ ap₂ (λ x y. rank w x + rank w y) a b
+
 module _ {F : Type 0} (K : Field F) (w : ℕ) (two : 2 ≤ w) (M : ℕ) {P : Type 0} (sample : P → Sample K w) where
   -- the terms, as elements of different leads
   term-elements : (L n : ℕ) → n < terms w M (suc L) → (e : ℕ → ℕ → F) × (m : ℕ → ℕ) × Rising K L (Interpolant K w M) n e m
@@ -99,12 +107,3 @@ module _ {F : Type 0} (K : Field F) (w : ℕ) (two : 2 ≤ w) (M : ℕ) {P : Typ
   least-size {ps} L q h =
       let t = size L ps h in
       le-trans (q .least (t .0) (t .1) (t .2) (t .3)) (t .4)
-
--- with 64 samples: 66 terms have a key up to 121 at rate 39, 65 terms one up to 129 at rate 49
-pub terms-39 : terms 4 44 122 ≡ 66
-unfolding rank isPresent
-terms-39 = terms-rank 4 44 122 ∙ refl
-
-pub terms-49 : terms 4 54 130 ≡ 65
-unfolding rank isPresent
-terms-49 = terms-rank 4 54 130 ∙ refl

@@ -22,7 +22,8 @@ use Rattle.hermitian.specs.Keys.{IsKey, isKey, plain, timesZ}
 use Rattle.hermitian.specs.Interpolant.{interpolant-unit, interpolant-lead}
 use Rattle.hermitian.specs.Interpolation.{Value}
 use Rattle.hermitian.specs.Frobenius.{value-power, constant-nowhere}
-use Rattle.code.specs.Nodes.{Node, node, sampleAt, ThroughNodes}
+use Rattle.code.specs.Nodes.{sampleAt, ThroughNodes}
+use Rattle.family.specs.Nodes.{Node, node}
 use Rattle.interpolant.specs.LeastQ.{readingOf}
 use Rattle.interpolant.specs.Reading.{byteOf, byteOf-plain, byteOf-z, reading-least}
 open Field K16 using (𝟘)

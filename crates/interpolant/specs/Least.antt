@@ -30,8 +30,10 @@ use Rattle.hermitian.specs.Keys.{Term, key, IsKey, isKey, decKey, key-injective
 use Rattle.hermitian.specs.Interpolant.{interpolant-lead}
 use Rattle.hermitian.specs.Interpolation.{through-space}
 use Rattle.hermitian.specs.Frobenius.{frobenius, frobenius-bound, frobenius-least, least-Q-frobenius}
-use Rattle.code.specs.Bridge.{px}
-use Rattle.code.specs.Nodes.{Node, sampleAt, ThroughNodes, sixteenth}
+use Rattle.code.specs.Nodes.{px, sampleAt, ThroughNodes}
+use Rattle.family.specs.Nodes.{Node}
+use Rattle.galois.specs.Gf16.{gf16}
+use Rattle.galois.specs.BinaryField.{power-size}
 use Rattle.interpolant.specs.LeastQ.{coefficient, isCandidate, keys, leastQ}
 use Rattle.interpolant.specs.Meaning.{QThrough, Highest, IsLeastQ}
 use Rattle.interpolant.specs.OnKeys.{coefficientsOf, onKeys, onNumbers, wordOf, wordOf-length, wordOf-below, coefficient-wordOf, wordOf-coefficients, coefficientsOf-ends, coefficient-zero, coefficientsOf-zero, coefficientsOf-one, coefficient-value, coefficient-ext, candidate-yes, candidate-nonzero, candidate-of}
@@ -40,13 +42,13 @@ open Field K16 using (𝟘)
 module _ (M : ℕ) (ns : List Node) where
   -- x^16 + x has key 128
   pub least-bound : {c : ℕ → GF} {l : ℕ} → Least K16 (ThroughNodes M ns) c l → l ≤ 128
-  least-bound h = frobenius-bound K16 4 (lit≤ tt) M 16 sampleAt (λ n. sixteenth (px (n .place))) (lit≤ tt) h
+  least-bound h = frobenius-bound K16 4 (lit≤ tt) M 16 sampleAt (λ n. power-size gf16 (lit≤ tt) (px (n .place))) (lit≤ tt) h
 
   pub least-there : (c : ℕ → GF) × (l : ℕ) × Least K16 (ThroughNodes M ns) c l × (l ≤ 128)
-  least-there = least-Q-frobenius K16 4 (lit≤ tt) M 16 sampleAt (λ n. sixteenth (px (n .place))) (lit≤ tt) ns
+  least-there = least-Q-frobenius K16 4 (lit≤ tt) M 16 sampleAt (λ n. power-size gf16 (lit≤ tt) (px (n .place))) (lit≤ tt) ns
 
   pub everywhere-least : ((d : ℕ → GF) (m : ℕ) → ThroughNodes M ns d → Lead K16 d m → 128 ≤ m) → Least K16 (ThroughNodes M ns) (frobenius K16 4 16) 128
-  everywhere-least h = frobenius-least K16 4 (lit≤ tt) M 16 sampleAt (λ n. sixteenth (px (n .place))) (lit≤ tt) ns h
+  everywhere-least h = frobenius-least K16 4 (lit≤ tt) M 16 sampleAt (λ n. power-size gf16 (lit≤ tt) (px (n .place))) (lit≤ tt) ns h
 
   module _ {c : ℕ → GF} {l : ℕ} (h : Least K16 (ThroughNodes M ns) c l) where
     pub least-ends : Below K16 c keys

@@ -29,7 +29,7 @@ use Rattle.algebra.specs.Coefficients.{choose}
 use Rattle.galois.specs.Gf16.{times}
 use Rattle.hermitian.specs.Keys.{plain, timesZ, key, decKey}
 use Rattle.code.specs.Encoding.{monomial}
-use Rattle.code.specs.Nodes.{Node}
+use Rattle.family.specs.Nodes.{Node}
 
 unfoldable pub coefficient : List ℕ → ℕ → ℕ
 coefficient q k = fromEnd q k

@@ -11,7 +11,7 @@ use Prim.Native.Nat.{ℕ, _≤_}
 use lib.Dec.{T}
 use Rattle.lists.specs.Words.{allBelow}
 use Rattle.hermitian.specs.Keys.{Term, plain, timesZ, key, Before, IsKey}
-use Rattle.code.specs.Nodes.{Node}
+use Rattle.family.specs.Nodes.{Node}
 use Rattle.interpolant.specs.LeastQ.{coefficient, valueAtNode}
 
 pub record QThrough (M : ℕ) (ns : List Node) (q : List ℕ) : Type 0 where

@@ -32,10 +32,14 @@ use Rattle.hermitian.specs.Keys.{IsKey, decKey}
 use Rattle.hermitian.specs.Interpolant.{Interpolant}
 use Rattle.hermitian.specs.Interpolation as Interpolation
 use Rattle.code.specs.Encoding.{monomial}
-use Rattle.code.specs.Bridge.{toF-xorSum, px, py, toF-monomial}
-use Rattle.code.specs.Nodes.{Node, sampleAt, ThroughNodes}
+use Rattle.galois.specs.BinaryField.{toF-xorSum}
+use Rattle.code.specs.Nodes.{px, py, sampleAt, ThroughNodes}
+use Rattle.family.specs.Encoding.{toF-monomial}
+use Rattle.family.specs.Nodes.{Node}
 use Rattle.interpolant.specs.LeastQ.{coefficient, plainOf, zOf, functionAt, valueAtNode, isThrough, termOrZero, hasTerms, zeroAt, isNonzero, isCandidate}
 use Rattle.interpolant.specs.Meaning.{QThrough}
+use Rattle.family.specs.Member.{m16}
+use Rattle.galois.specs.Gf16.{gf16}
 open Field K16 using (_⊕_, _⊗_, 𝟘, 𝟙)
 
 -- ---- coefficients as numbers and as elements
@@ -102,7 +106,7 @@ wordOf-coefficients n c b = fun-ext (λ k. ap toF (coefficient-wordOf n c b k) �
 toF-functionAt : (f : ℕ → ℕ) (n p : ℕ) → toF (functionAt f n p) ≡ sum K16 n (λ o. toF (f o) ⊗ Value.monomial K16 4 (px p) (py p) o)
 unfolding functionAt
 toF-functionAt f n p =
-    toF-xorSum n _ ∙ sum-ext K16 n _ _ (λ o l. toF-times _ _ ∙ ap (λ x. toF (f o) ⊗ x) (toF-monomial o p))
+    toF-xorSum gf16 n _ ∙ sum-ext K16 n _ _ (λ o l. toF-times _ _ ∙ ap (λ x. toF (f o) ⊗ x) (toF-monomial m16 o p))
 
 functionAt-below : (f : ℕ → ℕ) (n p : ℕ) → functionAt f n p < 16
 unfolding functionAt

@@ -11,7 +11,7 @@
 --   weight-39, weight-49   so with 64 settled places it weighs at most 60 at rate 39, and 64 at rate 49
 --   outside-plain, outside-z, all-shown   from M = 43 on, nothing of the least Q through at most 64 places lies outside the 82 bytes
 --   reading-determines  so they determine it
-use mathlib.Core.Path.{_≡_, sym, ap, _∙_, subst}
+use mathlib.Core.Path.{_≡_, refl, sym, ap, _∙_, subst}
 use mathlib.Core.List.{List, List·Memᴰ}
 use mathlib.Core.Logic.{_≢_, inl}
 use mathlib.Core.Option.{some}
@@ -25,10 +25,11 @@ use Rattle.lists.specs.Listed.{listed, listed-length, listed-at, listed-ext}
 use Rattle.algebra.specs.Least.{Least}
 use Rattle.galois.specs.Field16.{GF, K16, value}
 use Rattle.hermitian.specs.Present.{Present, genus}
-use Rattle.hermitian.specs.Orders.{rank, rank-least}
+use Rattle.hermitian.specs.Orders.{isPresent, rank, rank-least}
 use Rattle.hermitian.specs.Keys.{Term, plain, timesZ, key, weight, IsKey, isKey, decKey, key-even, key-odd}
-use Rattle.hermitian.specs.Size.{terms, terms-rank, least-size, terms-39, terms-49}
-use Rattle.code.specs.Nodes.{Node, sampleAt, ThroughNodes}
+use Rattle.hermitian.specs.Size.{terms, terms-weight, least-size}
+use Rattle.code.specs.Nodes.{sampleAt, ThroughNodes}
+use Rattle.family.specs.Nodes.{Node}
 use Rattle.interpolant.specs.LeastQ.{coefficient, keys, leastQ, byteKey, byteAt, bytesOfQ, readingOf}
 use Rattle.interpolant.specs.Meaning.{IsLeastQ, Shown, of-Q0, of-Q1}
 use Rattle.interpolant.specs.OnKeys.{coefficient-beyond, coefficient-below, coefficient-wordOf, coefficient-ext}
@@ -98,19 +99,23 @@ least-weight M W {ns} {q} {t} h a = go t (least-size K16 4 (lit≤ tt) M sampleA
     go (plain o) l = omega arith
     go (timesZ o) l = omega arith
 
+-- of 61 and 17 orders 66 are present at rate 39, and of 65 and 11 orders 65 at rate 49
+present-orders : (rank 4 61 ≡ 55) × (rank 4 17 ≡ 11) × (rank 4 65 ≡ 59) × (rank 4 11 ≡ 6)
+unfolding rank isPresent
+present-orders = (refl, refl, refl, refl)
+
 pub weight-39 : {ns : List Node} {q : List ℕ} {t : Term} → length ns ≤ 64 → IsLeastQ 44 ns q t → weight 44 t ≤ 60
-weight-39 h a = least-weight 44 60 (omega (arith, h, terms-39)) a
+weight-39 h a = least-weight 44 60 (omega (arith, h, terms-weight 4 44 60, present-orders)) a
 
 pub weight-49 : {ns : List Node} {q : List ℕ} {t : Term} → length ns ≤ 64 → IsLeastQ 54 ns q t → weight 54 t ≤ 64
-weight-49 h a = least-weight 54 64 (omega (arith, h, terms-49)) a
+weight-49 h a = least-weight 54 64 (omega (arith, h, terms-weight 4 54 64, present-orders)) a
 
 -- weights up to M + 16 leave room for 65 terms: at most 6 orders are absent of those without z, and 6 of those with z
 terms-bytes : (M : ℕ) → 43 ≤ M → 64 < terms 4 M (suc (2 * (16 + M) + 1))
 unfolding genus
 terms-bytes M h =
-    let a : suc (suc (2 * (16 + M) + 1)) / 2 ≡ 17 + M = omega arith in
-    let b : suc (2 * (16 + M) + 1) / 2 - M ≡ 17 = omega arith in
-    omega (arith, terms-rank 4 M (suc (2 * (16 + M) + 1)), ap (rank 4) a, ap (rank 4) b, rank-least 4 (lit≤ tt) (17 + M), rank-least 4 (lit≤ tt) 17)
+    let b : suc (16 + M) - M ≡ 17 = omega arith in
+    omega (arith, terms-weight 4 M (16 + M), ap (rank 4) b, rank-least 4 (lit≤ tt) (suc (16 + M)), rank-least 4 (lit≤ tt) 17)
 
 module _ (M : ℕ) (ns : List Node) {q : List ℕ} (e : leastQ M ns ≡ some q) where
   pub outside-plain : (o : ℕ) → 64 < o → coefficient q (key M (plain o)) ≡ 0

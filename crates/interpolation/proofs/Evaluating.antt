@@ -14,11 +14,15 @@ use Rattle.hermitian.specs.Ring.{Fn}
 use Rattle.hermitian.specs.Value.{monomial, Val}
 use Rattle.hermitian.specs.Interpolant.{Interpolant, fn-withoutZ, fn-withZ}
 use Rattle.hermitian.specs.Interpolation.{Sample, Value}
-use Rattle.code.specs.Evaluation.{monomialAt, present-yes}
-use Rattle.code.specs.Bridge.{toF-monomial}
-use Rattle.code.specs.Nodes.{node, sampleAt}
+use Rattle.code.specs.Evaluation.{monomialAt}
+use Rattle.family.specs.Evaluation.{present-yes}
+use Rattle.family.specs.Encoding.{toF-monomial}
+use Rattle.code.specs.Nodes.{sampleAt}
+use Rattle.family.specs.Nodes.{node}
 use Rattle.rows.specs.Rows.{dot, weighed, weighed-plain, weighed-z, coef, coef-at}
 use Rattle.interpolation.specs.Polynomial.{part, polynomial, part-in, part-below, polynomial-plain, polynomial-z}
+use Rattle.family.specs.Member.{m16}
+use Rattle.family.specs.Evaluation as Evaluation
 open Field K16 using (_⊕_, _⊗_, 𝟘)
 
 -- the values e of the monomials at the point of the sample p, by order; only present orders count
@@ -66,8 +70,8 @@ module _ (p : Sample K16 4) (e : ℕ → GF) (known : Monomials p e) where
       }
 
 pub monomials-of-place : (p z : ℕ) (r : List ℕ) → r ≡ listed 64 (monomialAt p) → Monomials (sampleAt (node p z)) (coef r)
-unfolding monomialAt
+unfolding Evaluation.monomialAt
 monomials-of-place p z r e =
     record {
-      at = λ o l q. coef-at r o ∙ ap (λ k. toF (getD k o 0)) e ∙ ap toF (listed-at 64 o (monomialAt p) 0 l ∙ present-yes o _ q) ∙ toF-monomial o p;
+      at = λ o l q. coef-at r o ∙ ap (λ k. toF (getD k o 0)) e ∙ ap toF (listed-at 64 o (monomialAt p) 0 l ∙ present-yes m16 o _ q) ∙ toF-monomial m16 o p;
     }

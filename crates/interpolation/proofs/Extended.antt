@@ -11,8 +11,8 @@ use Rattle.algebra.specs.Koetter.{basis-same}
 use Rattle.galois.specs.Field16.{K16, toF}
 use Rattle.hermitian.specs.Interpolation.{through-space}
 use Rattle.code.specs.Evaluation.{monomialAt}
-use Rattle.code.specs.Bridge.{px}
-use Rattle.code.specs.Nodes.{node, sampleAt}
+use Rattle.code.specs.Nodes.{px, sampleAt}
+use Rattle.family.specs.Nodes.{node}
 use Rattle.curve.specs.Curve.{xOf}
 use Rattle.rows.specs.Rows.{coef, weighed}
 use Rattle.basis.specs.Choice.{leadAt, Chosen, none, one}

@@ -17,7 +17,8 @@ use Rattle.hermitian.specs.Keys.{first}
 use Rattle.curve.specs.Curve.{xOf}
 use Rattle.code.specs.Evaluation.{monomialAt}
 use Rattle.evaluation.specs.Table.{monomialTable, entryIn, in-table}
-use Rattle.code.specs.Nodes.{node, ThroughNodes}
+use Rattle.code.specs.Nodes.{ThroughNodes}
+use Rattle.family.specs.Nodes.{node}
 use Rattle.basis.specs.Choice.{leadAt}
 use Rattle.basis.specs.Step.{classes}
 use Rattle.interpolation.specs.Start.{startBytes}

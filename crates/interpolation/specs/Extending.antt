@@ -12,7 +12,8 @@ use Rattle.algebra.specs.Koetter.{Basis}
 use Rattle.galois.specs.Field16.{K16}
 use Rattle.curve.specs.Curve.{xOf}
 use Rattle.code.specs.Evaluation.{monomialAt}
-use Rattle.code.specs.Nodes.{Node, node, ThroughNodes}
+use Rattle.code.specs.Nodes.{ThroughNodes}
+use Rattle.family.specs.Nodes.{Node, node}
 use Rattle.basis.specs.Choice.{leadAt}
 use Rattle.interpolation.specs.Polynomial.{polynomials}
 

@@ -7,7 +7,8 @@ use mathlib.Core.List.{List}
 use Prim.Native.Nat.{ℕ, _<_, _≤_}
 use Rattle.algebra.specs.Koetter.{Basis}
 use Rattle.galois.specs.Field16.{K16}
-use Rattle.code.specs.Nodes.{Node, ThroughNodes}
+use Rattle.code.specs.Nodes.{ThroughNodes}
+use Rattle.family.specs.Nodes.{Node}
 use Rattle.basis.specs.Choice.{leadAt}
 use Rattle.interpolant.specs.LeastQ.{readingOf}
 use Rattle.interpolation.specs.Polynomial.{polynomials}

@@ -18,7 +18,8 @@ use Rattle.algebra.specs.Subspace.{_⊆_}
 use Rattle.galois.specs.Field16.{GF, K16}
 use Rattle.hermitian.specs.Interpolant.{Interpolant}
 use Rattle.hermitian.specs.Interpolation.{Value}
-use Rattle.code.specs.Nodes.{Node, node, sampleAt, ThroughNodes}
+use Rattle.code.specs.Nodes.{sampleAt, ThroughNodes}
+use Rattle.family.specs.Nodes.{Node, node}
 use Rattle.interpolation.specs.Settled.{settled, settled-nil, settled-suc}
 open Field K16 using (𝟘)
 

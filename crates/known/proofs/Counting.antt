@@ -11,8 +11,7 @@ use Rattle.lists.specs.Count.{bit, bit-le}
 use Rattle.soft.specs.Total.{differing}
 use Rattle.soft.specs.TestWord.{bestAt, secondAt, expand}
 use Rattle.soft.specs.TestWordLaws.{expand-nil, expand-cons}
-use Rattle.near.specs.Near.{mOf, reachOf}
-use Rattle.near.specs.Tree.{Places}
+use Rattle.near.specs.Here.{mOf, reachOf, Places}
 use Rattle.answers.specs.declared.Answer.the-variants.{NoneNear, Near}
 use Rattle.answers.specs.declared.Found.{Found}
 use Rattle.known.specs.Left.{left-cons, left-none, places-rest, split-places, twice}

@@ -25,15 +25,16 @@ use Rattle.lists.specs.Words.{Word, Lex, lex-asym, lex-or}
 use Rattle.lists.specs.Answers.{Found, best, answers-unique}
 use Rattle.code.specs.Encoding.{encodeOf}
 use Rattle.soft.specs.Column.{places, symbols}
-use Rattle.soft.specs.Total.{differAt, differing}
+use Rattle.soft.specs.Total.{differingIn, everywhere, differAt, differing}
 use Rattle.soft.specs.TotalLaws.{agree-true, differing-triangle, differing-comm}
 use Rattle.soft.specs.TestWord.{expand}
 use Rattle.soft.specs.TestWordLaws.{expand-length, expand-settled}
-use Rattle.near.specs.Near.{mOf, reachOf, nearTo, codewordNear, near, isSome, testsNear, answerOf}
-use Rattle.near.specs.Reach.{Workable}
+use Rattle.near.specs.Here.{mOf, reachOf, nearTo, codewordNear, near, testsNear, answerOf, Workable, Places}
+use Rattle.near.specs.Near.{isSome}
+use Rattle.near.specs.Reach.{count-everywhere}
 use Rattle.near.specs.Distance.{codewords-apart}
 use Rattle.near.specs.Laws.{near-member, near-answers, word-answers, answer-none, codeword-none, tests-nil, tests-cons}
-use Rattle.near.specs.Tree.{Places, places-nil, places-cons}
+use Rattle.near.specs.Tree.{places-nil, places-cons}
 use Rattle.answers.specs.declared.Answer.{Answer}
 use Rattle.answers.specs.declared.Answer.the-variants.{NoneNear, Near}
 use Rattle.answers.specs.declared.Found.{Found as Answered}
@@ -42,6 +43,9 @@ use Rattle.answers.specs.Nearest.{Nearest, nearest-nothing, nearest-some}
 use Rattle.candidate.specs.Ranged.{Ranged}
 use Rattle.answers.specs.Answered.{counted, Sound, sound-nothing, sound-counted}
 use Rattle.known.specs.Known.{isNear, laterOf, filledOf, Outside, Governs, governsOf, testsWithin, belowOf}
+use Rattle.family.specs.Member.{m16}
+use Rattle.near.specs.Near as Near
+use Rattle.hermitian.specs.Present.{genus}
 
 -- ---- words that have the same symbols but at some places differ in no more than these
 
@@ -109,7 +113,7 @@ among p (q ∷ ps) = go (ℕ-discrete p q) (among p ps)
 
 module _ {ps word u v : List ℕ} (a : Outside ps word u) (b : Outside ps word v) where
   outside-differing : differing places u v ≤ length ps
-  unfolding differing
+  unfolding differingIn
   outside-differing = count-members ps places (differAt u v) (λ p l t. ⊎-elim (λ m. m) (λ n. absurd (apart p l t n)) (among p ps))
     where
       apart : (p : ℕ) → p < places → T (differAt u v p) → ¬ List·Memᴰ p ps → ⊥
@@ -140,7 +144,7 @@ near-total (Near t) e = (t, refl)
 -- a codeword that passes the test governs
 module _ (k : ℕ) (known : Answered) (word ps : List ℕ) (rate : Ranged k) where
   pub governs-all : length word ≡ places → governsOf k known word ps ≡ true → Places ps → Governs k known word ps
-  unfolding governsOf reachOf mOf
+  unfolding governsOf Near.reachOf genus Near.mOf
   governs-all size e P =
       let c = known .codeword in
       let agreed = filledOf c word ps in
@@ -151,7 +155,7 @@ module _ (k : ℕ) (known : Answered) (word ps : List ℕ) (rate : Ranged k) whe
       record {
         total = n .0;
         near = n .1;
-        apart = λ v w. omega (arith, close, differing-triangle places c agreed v, outside-differing (filled-outside c P word size) w);
+        apart = λ v w. omega (arith, close, differing-triangle everywhere places c agreed v, outside-differing (filled-outside c P word size) w);
       }
 
 -- ---- how many test words are within T of a codeword
@@ -174,7 +178,7 @@ module _ (k : ℕ) (c : List ℕ) where
 module _ {k : ℕ} (rate : Workable k) {m : List ℕ} (w : Word symbols k m) where
   -- a message whose codeword is within T of a word that is close to the codeword of m, is m
   only : (t n : List ℕ) → differing places (encodeOf k m) t + reachOf k + mOf k < places → Found symbols k (nearTo k t) n → n ≡ m
-  unfolding nearTo
+  unfolding Near.nearTo
   only t n close f =
       ⊎-elim (λ l. absurd (far (λ e. lex-asym m n l (subst (λ x. Lex n x) (sym e) (subst (λ x. Lex x n) e l)))))
       (⊎-elim (λ e. e) (λ l. absurd (far (λ e. lex-asym n m l (subst (λ x. Lex m x) e (subst (λ x. Lex x m) (sym e) l)))))) (lex-or m n)
@@ -183,9 +187,10 @@ module _ {k : ℕ} (rate : Workable k) {m : List ℕ} (w : Word symbols k m) whe
       far other =
           omega (
             arith,
-            codewords-apart rate w (f .word) other,
-            differing-triangle places (encodeOf k m) t (encodeOf k n),
-            differing-comm places t (encodeOf k n),
+            count-everywhere places,
+            codewords-apart m16 everywhere rate w (f .word) other,
+            differing-triangle everywhere places (encodeOf k m) t (encodeOf k n),
+            differing-comm everywhere places t (encodeOf k n),
             leb→le (differing places (encodeOf k n) t) (reachOf k) (f .passed),
           )
 
@@ -195,25 +200,25 @@ module _ {k : ℕ} (rate : Workable k) {m : List ℕ} (w : Word symbols k m) whe
     here t close = go (nearTo k t m) refl
       where
         go : (b : Bool) → nearTo k t m ≡ b → isSome (codewordNear k t) ≡ b
-        go true e = ap isSome (answers-unique (word-answers k t) (best (record { word = w; passed = subst T (sym e) tt }) (λ n f. inl (only t n close f))))
+        go true e = ap isSome (answers-unique (word-answers m16 everywhere (reachOf k) k t) (best (record { word = w; passed = subst T (sym e) tt }) (λ n f. inl (only t n close f))))
         go false e =
-            ap isSome (codeword-none k t (λ n f. subst T (ap (nearTo k t) (only t n close f) ∙ e) (f .passed)))
+            ap isSome (codeword-none m16 everywhere (reachOf k) k t (λ n f. subst T (ap (nearTo k t) (only t n close f) ∙ e) (f .passed)))
 
     within-tests : (ts : List (List ℕ)) → ((t : List ℕ) → List·Memᴰ t ts → differing places (encodeOf k m) t + reachOf k + mOf k < places)
         → testsNear k ts ≡ testsWithin k (encodeOf k m) ts
-    unfolding nearTo
-    within-tests [] h = tests-nil k ∙ sym (within-nil k (encodeOf k m))
+    unfolding Near.nearTo
+    within-tests [] h = tests-nil m16 everywhere (reachOf k) k ∙ sym (within-nil k (encodeOf k m))
     within-tests (t ∷ ts) h =
         omega (
           arith,
-          tests-cons k t ts,
+          tests-cons m16 everywhere (reachOf k) k t ts,
           within-cons k (encodeOf k m) t ts,
           ap bit (here t (h t (List·Memᴰ·head refl))),
           within-tests ts (λ u i. h u (List·Memᴰ·tail i)),
         )
 
     within-near : (ts : List (List ℕ)) → 0 < testsWithin k (encodeOf k m) ts → T (near k ts m)
-    unfolding nearTo near
+    unfolding Near.nearTo Near.near
     within-near [] h = absurd (omega (arith, within-nil k (encodeOf k m)))
     within-near (t ∷ ts) h = go (leb (differing places (encodeOf k m) t) (reachOf k)) refl (within-near ts)
       where
@@ -222,7 +227,7 @@ module _ {k : ℕ} (rate : Workable k) {m : List ℕ} (w : Word symbols k m) whe
         go false e ih = subst (λ b. T (b || near k ts m)) (sym e) (ih (omega (arith, within-cons k (encodeOf k m) t ts, ap bit e)))
 
     near-within : (ts : List (List ℕ)) (t : List ℕ) → List·Memᴰ t ts → T (nearTo k t m) → 0 < testsWithin k (encodeOf k m) ts
-    unfolding nearTo
+    unfolding Near.nearTo
     near-within [] t i h = absurd (List·Memᴰ·not-nil i)
     near-within (u ∷ ts) t i h =
         ⊎-elim
@@ -237,17 +242,17 @@ module _ {k : ℕ} (rate : Workable k) {m : List ℕ} (w : Word symbols k m) whe
     module _ (ts : List (List ℕ)) (h : (t : List ℕ) → List·Memᴰ t ts → differing places (encodeOf k m) t + reachOf k + mOf k < places) where
       within-some : 0 < testsWithin k (encodeOf k m) ts → answerOf k columns ts ≡ some m
       within-some some-one =
-          answers-unique (near-answers k columns ts)
+          answers-unique (near-answers m16 everywhere (reachOf k) k columns ts)
           (best (record { word = w; passed = within-near ts some-one })
           (λ n f.
-          let r = near-member k ts n (f .passed) in
+          let r = near-member m16 everywhere (reachOf k) k ts n (f .passed) in
           inl (only (r .0) n (h (r .0) (r .1)) (record { word = f .word; passed = r .2 }))))
 
       within-none : testsWithin k (encodeOf k m) ts ≡ 0 → answerOf k columns ts ≡ none
       within-none e =
-          answer-none k columns ts
+          answer-none m16 everywhere (reachOf k) k columns ts
           (λ n f.
-          let r = near-member k ts n (f .passed) in
+          let r = near-member m16 everywhere (reachOf k) k ts n (f .passed) in
           let q = only (r .0) n (h (r .0) (r .1)) (record { word = f .word; passed = r .2 }) in
           omega (arith, near-within ts (r .0) (r .1) (subst (λ x. T (nearTo k (r .0) x)) q (r .2))))
 

@@ -19,8 +19,7 @@ use Rattle.lists.specs.Count.{bit}
 use Rattle.soft.specs.Column.{places}
 use Rattle.soft.specs.Total.{differing}
 use Rattle.soft.specs.TestWord.{expand}
-use Rattle.near.specs.Near.{mOf, reachOf}
-use Rattle.near.specs.Tree.{Places}
+use Rattle.near.specs.Here.{mOf, reachOf, Places}
 use Rattle.answers.specs.declared.Answer.{Answer}
 use Rattle.answers.specs.declared.Answer.the-variants.{NoneNear, Near}
 use Rattle.answers.specs.declared.Found.{Found}

@@ -18,7 +18,8 @@ use lib.Seq.{drop-cons, getD-take}
 use Rattle.lists.specs.Every.{every, every-at}
 use Rattle.soft.specs.Column.{places}
 use Rattle.soft.specs.Doubt.{mostDoubt}
-use Rattle.near.specs.Tree.{Places, places-cons}
+use Rattle.near.specs.Here.{Places}
+use Rattle.near.specs.Tree.{places-cons}
 
 module _ (doubtful : List ℕ) (doubt i : ℕ) where
   pub left-cons : length doubtful ≡ mostDoubt → doubt ≤ mostDoubt → i < doubt → drop i (take doubt doubtful) ≡ getD doubtful i 0 ∷ drop (i + 1) (take doubt doubtful)

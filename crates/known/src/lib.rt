@@ -8,7 +8,7 @@ ghost use Rattle.lists.specs.Count.{bit};
 ghost use Rattle.soft.specs.Column.{places, symbols, columnOf};
 ghost use Rattle.soft.specs.Doubt.{mostDoubt};
 ghost use Rattle.soft.specs.Total.{differing};
-ghost use Rattle.near.specs.Near.{reachOf};
+ghost use Rattle.near.specs.Here.{reachOf};
 ghost use Rattle.candidate.specs.Ranged.{Ranged};
 ghost use Rattle.known.specs.Known.{laterOf, filledOf, governsOf, WithinOf, belowOf};
 use answers::Answer;

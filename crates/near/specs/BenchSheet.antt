@@ -31,11 +31,11 @@ pub data AllPass : List Bool → Type 0 where
   and-then : {b : Bool} {tests : List Bool} → T b → AllPass tests → AllPass (b ∷ tests)
 
 c1 : T case1
-unfolding case1 times Binary.times Binary.shiftAdd Binary.xtime
+unfolding case1 Binary.times Binary.shiftAdd Binary.xtime
 c1 = tt
 
 c2 : T case2
-unfolding case2 times Binary.times Binary.shiftAdd Binary.xtime
+unfolding case2 Binary.times Binary.shiftAdd Binary.xtime
 c2 = tt
 
 pub all-pass : AllPass benchSheet

@@ -1,36 +1,36 @@
--- The distance of the code, by the zero bound.
+-- The distance of the code, by the zero bound, for every member and any places that count.
 --
---   codewords-apart   the codewords of two different messages differ in at least 64 − M of the 64 places
---   codewords-agree   so they agree in at most M of them
+--   codewords-apart   of the places that count, the codewords of two different messages agree in at most M, and differ in the others
+use mathlib.Core.Bool.{Bool}
 use mathlib.Core.Path.{_≡_, sym, ap, _∙_}
 use mathlib.Core.List.{List}
 use Prim.Native.Nat.{ℕ, _+_, _≤_}
 use native.Mathlib.Omega.{arith}
+use Rattle.lists.specs.Count.{count}
 use Rattle.lists.specs.Words.{Word}
-use Rattle.algebra.specs.Distance as Counted
-use Rattle.galois.specs.Field16.{K16}
-use Rattle.hermitian.specs.ZeroBound.{agreements, distance}
-use Rattle.code.specs.Encoding.{encodeOf}
-use Rattle.soft.specs.Total.{differing}
+use Rattle.galois.specs.BinaryField.{K}
+use Rattle.hermitian.specs.ZeroBound.{distance}
+use Rattle.soft.specs.Total.{differingIn}
+use Rattle.family.specs.Member.{Member, symbols, places}
+use Rattle.family.specs.Encoding.{encodeOf}
 use Rattle.near.specs.Near.{mOf}
 use Rattle.near.specs.Reach.{Workable}
-use Rattle.near.specs.Places.{points}
-use Rattle.near.specs.Codeword.{symbolsOf, messageFunction, messageFunction-fn, messageFunction-order, encode-val, messageFrom, messageFrom-function, differing-le}
+use Rattle.near.specs.Codeword.{messageFunction, messageFunction-fn, messageFunction-order, encode-val, messageFrom, messageFrom-function, placeAt, placeAt-below, counted-points, differing-le}
 
-module _ {k : ℕ} (rate : Workable k) {m n : List ℕ} (u : Word 16 k m) (v : Word 16 k n) (other : m ≡ n → ⊥) where
-  functions-differ : messageFunction k m ≡ messageFunction k n → ⊥
-  functions-differ e = other (sym (messageFrom-function u) ∙ ap (messageFrom k) e ∙ messageFrom-function v)
+module _ (𝓜 : Member) (counts : ℕ → Bool) {k : ℕ} (rate : Workable 𝓜 k) {m n : List ℕ} (u : Word (symbols 𝓜) k m) (v : Word (symbols 𝓜) k n)
+    (other : m ≡ n → ⊥) where
+  open Member 𝓜 using (gf, w, wide)
 
-  pub codewords-apart : 64 ≤ mOf k + differing 64 (encodeOf k m) (encodeOf k n)
+  functions-differ : messageFunction 𝓜 k m ≡ messageFunction 𝓜 k n → ⊥
+  functions-differ e = other (sym (messageFrom-function 𝓜 u) ∙ ap (messageFrom 𝓜 k) e ∙ messageFrom-function 𝓜 v)
+
+  pub codewords-apart : count (places 𝓜) counts ≤ mOf 𝓜 k + differingIn counts (places 𝓜) (encodeOf 𝓜 k m) (encodeOf 𝓜 k n)
   codewords-apart =
       omega (
         arith,
-        distance K16 4 (omega arith) points (messageFunction-fn rate m) (messageFunction-order rate m) (messageFunction-fn rate n) (messageFunction-order rate n)
-            (encode-val rate m) (encode-val rate n) functions-differ,
-        differing-le 64 (encodeOf k m) (encodeOf k n),
+        distance (K gf) w wide (counted-points 𝓜 counts) (messageFunction-fn 𝓜 rate m) (messageFunction-order 𝓜 rate m)
+            (messageFunction-fn 𝓜 rate n) (messageFunction-order 𝓜 rate n)
+            (λ i h. encode-val 𝓜 rate m (placeAt 𝓜 counts (places 𝓜) i) (placeAt-below 𝓜 counts i (places 𝓜) h))
+            (λ i h. encode-val 𝓜 rate n (placeAt 𝓜 counts (places 𝓜) i) (placeAt-below 𝓜 counts i (places 𝓜) h)) functions-differ,
+        differing-le 𝓜 counts (places 𝓜) (encodeOf 𝓜 k m) (encodeOf 𝓜 k n),
       )
-
-  pub codewords-agree : Counted.agreeing K16 64 (symbolsOf (encodeOf k m)) (symbolsOf (encodeOf k n)) ≤ mOf k
-  codewords-agree =
-      agreements K16 4 (omega arith) points (messageFunction-fn rate m) (messageFunction-order rate m) (messageFunction-fn rate n) (messageFunction-order rate n)
-      (encode-val rate m) (encode-val rate n) functions-differ

@@ -1,4 +1,4 @@
--- The laws of nearness, of the count of test words and of the answer.
+-- The laws of nearness, of the count of test words and of the answer, for every member, any T and any places that count.
 --
 --   near-answers        the answer in the sense of `lists`: it has a near codeword and beats every other such message; or there is none
 --   near-nil, near-cons, near-append, near-member, member-near     near some test word of a list
@@ -6,7 +6,7 @@
 --   tests-answerless    where there is no answer, it is 0
 --   tests-le            it is at most their number; tests-tree: d doubtful places have at most 2 ^ d
 --   answer-append       the answer of two lists is the better of their answers
---   answer-one          the answer of one test word is the message within T of it, whatever the costs
+--   answer-one          the answer of one test word is the message within T of it, whatever the costs, where so many wrong places can be repaired
 --   answer-none, codeword-none   where no codeword is near
 use mathlib.Core.Bool.{Bool, true, false, _||_}
 use mathlib.Core.Path.{_≡_, refl, sym, ap, _∙_, subst}
@@ -21,19 +21,10 @@ use Rattle.lists.specs.Count.{bit, bit-le}
 use Rattle.lists.specs.Answers.{Answers, Found, answers-unique, answers-none, answers-iff, answers-single, nobody, better, better-answers, free, firstThat-words, cheapest-words}
 use Rattle.soft.specs.TestWord.{testWords}
 use Rattle.soft.specs.TestWordLaws.{testWords-count}
+use Rattle.family.specs.Member.{Member, symbols}
 use Rattle.near.specs.Near.{nearTo, codewordNear, near, isSome, testsNear, messageCost, answerOf}
-use Rattle.near.specs.Reach.{Workable}
+use Rattle.near.specs.Reach.{Workable, Repairable}
 use Rattle.near.specs.Codeword.{near-one}
-
--- ---- near some test word
-
-pub near-nil : (k : ℕ) (m : List ℕ) → near k [] m ≡ false
-unfolding near
-near-nil k m = refl
-
-pub near-cons : (k : ℕ) (t : List ℕ) (ts : List (List ℕ)) (m : List ℕ) → near k (t ∷ ts) m ≡ (nearTo k t m || near k ts m)
-unfolding near
-near-cons k t ts m = refl
 
 either : (a b : Bool) → T (a || b) → T a ⊎ T b
 either true b t = inl tt
@@ -51,108 +42,119 @@ or-assoc : (a b c : Bool) → (a || b || c) ≡ (a || (b || c))
 or-assoc true b c = refl
 or-assoc false b c = refl
 
-pub near-append : (k : ℕ) (ts us : List (List ℕ)) (m : List ℕ) → near k (ts ++ us) m ≡ (near k ts m || near k us m)
-unfolding near
-near-append k [] us m = refl
-near-append k (t ∷ ts) us m = ap (λ b. nearTo k t m || b) (near-append k ts us m) ∙ sym (or-assoc (nearTo k t m) (near k ts m) (near k us m))
-
--- near a list is near one of its test words
-pub near-member : (k : ℕ) (ts : List (List ℕ)) (m : List ℕ) → T (near k ts m) → (t : List ℕ) × List·Memᴰ t ts × T (nearTo k t m)
-unfolding near
-near-member k [] m h = absurd h
-near-member k (t ∷ ts) m h = go (either (nearTo k t m) (near k ts m) h) (near-member k ts m)
-  where
-    go : T (nearTo k t m) ⊎ T (near k ts m) → (T (near k ts m) → (u : List ℕ) × List·Memᴰ u ts × T (nearTo k u m))
-        → (u : List ℕ) × List·Memᴰ u (t ∷ ts) × T (nearTo k u m)
-    go (inl a) ih = (t, List·Memᴰ·head refl, a)
-    go (inr a) ih = let r = ih a in (r .0, List·Memᴰ·tail (r .1), r .2)
-
-pub member-near : (k : ℕ) (ts : List (List ℕ)) (t m : List ℕ) → List·Memᴰ t ts → T (nearTo k t m) → T (near k ts m)
-unfolding near
-member-near k [] t m i h = absurd (List·Memᴰ·not-nil i)
-member-near k (u ∷ ts) t m i h =
-    ⊎-elim (λ (e : t ≡ u). or-left (nearTo k u m) (near k ts m) (subst (λ x. T (nearTo k x m)) e h))
-    (λ j. or-right (nearTo k u m) (near k ts m) (member-near k ts t m j h)) (List·Memᴰ·cases-cons i)
-
--- ---- the answer
-
-pub near-answers : (k : ℕ) (columns : ℕ → List ℕ) (ts : List (List ℕ)) → Answers (messageCost k columns) (Found 16 k (near k ts)) (answerOf k columns ts)
-unfolding answerOf
-near-answers k columns ts = cheapest-words 16 k (messageCost k columns) (near k ts)
-
-pub word-answers : (k : ℕ) (word : List ℕ) → Answers free (Found 16 k (nearTo k word)) (codewordNear k word)
-unfolding codewordNear
-word-answers k word = firstThat-words 16 k (nearTo k word)
-
-found-append : (k : ℕ) (ts us : List (List ℕ)) (m : List ℕ) → (Found 16 k (near k ts) m ⊎ Found 16 k (near k us) m) ↔ Found 16 k (near k (ts ++ us)) m
-found-append k ts us m = (into, from)
-  where
-    into : Found 16 k (near k ts) m ⊎ Found 16 k (near k us) m → Found 16 k (near k (ts ++ us)) m
-    into (inl f) = record { word = f .word; passed = subst T (sym (near-append k ts us m)) (or-left (near k ts m) (near k us m) (f .passed)) }
-    into (inr f) = record { word = f .word; passed = subst T (sym (near-append k ts us m)) (or-right (near k ts m) (near k us m) (f .passed)) }
-
-    from : Found 16 k (near k (ts ++ us)) m → Found 16 k (near k ts) m ⊎ Found 16 k (near k us) m
-    from f =
-        ⊎-elim (λ a. inl (record { word = f .word; passed = a })) (λ a. inr (record { word = f .word; passed = a }))
-        (either (near k ts m) (near k us m) (subst T (near-append k ts us m) (f .passed)))
-
-pub answer-append : (k : ℕ) (columns : ℕ → List ℕ) (ts us : List (List ℕ))
-    → answerOf k columns (ts ++ us) ≡ better (messageCost k columns) (answerOf k columns ts) (answerOf k columns us)
-answer-append k columns ts us =
-    answers-unique (near-answers k columns (ts ++ us))
-    (answers-iff (found-append k ts us) (better-answers (near-answers k columns ts) (near-answers k columns us)))
-
 or-false : (b : Bool) → (b || false) ≡ b
 or-false true = refl
 or-false false = refl
 
-found-one : (k : ℕ) (t : List ℕ) (m : List ℕ) → Found 16 k (nearTo k t) m ↔ Found 16 k (near k (t ∷ [])) m
-found-one k t m =
-    let e : near k (t ∷ []) m ≡ nearTo k t m = near-cons k t [] m ∙ ap (λ b. nearTo k t m || b) (near-nil k m) ∙ or-false (nearTo k t m) in (
-      λ f. record { word = f .word; passed = subst T (sym e) (f .passed) },
-      λ f. record { word = f .word; passed = subst T e (f .passed) },
-    )
+module _ (𝓜 : Member) (counts : ℕ → Bool) (reach : ℕ) where
+  -- ---- near some test word
 
-pub answer-one : {k : ℕ} → Workable k → (columns : ℕ → List ℕ) (t : List ℕ) → answerOf k columns (t ∷ []) ≡ codewordNear k t
-answer-one {k} rate columns t =
-    answers-unique (near-answers k columns (t ∷ []))
-    (answers-iff (found-one k t) (answers-single (λ m n p q. near-one rate t q p) (word-answers k t)))
+  pub near-nil : (k : ℕ) (m : List ℕ) → near 𝓜 counts reach k [] m ≡ false
+  unfolding near
+  near-nil k m = refl
 
-pub answer-none : (k : ℕ) (columns : ℕ → List ℕ) (ts : List (List ℕ)) → ((m : List ℕ) → Found 16 k (near k ts) m → ⊥) → answerOf k columns ts ≡ none
-answer-none k columns ts f = answers-unique (near-answers k columns ts) (nobody f)
+  pub near-cons : (k : ℕ) (t : List ℕ) (ts : List (List ℕ)) (m : List ℕ) → near 𝓜 counts reach k (t ∷ ts) m ≡ (nearTo 𝓜 counts reach k t m || near 𝓜 counts reach k ts m)
+  unfolding near
+  near-cons k t ts m = refl
 
-pub codeword-none : (k : ℕ) (word : List ℕ) → ((m : List ℕ) → Found 16 k (nearTo k word) m → ⊥) → codewordNear k word ≡ none
-codeword-none k word f = answers-unique (word-answers k word) (nobody f)
+  pub near-append : (k : ℕ) (ts us : List (List ℕ)) (m : List ℕ) → near 𝓜 counts reach k (ts ++ us) m ≡ (near 𝓜 counts reach k ts m || near 𝓜 counts reach k us m)
+  unfolding near
+  near-append k [] us m = refl
+  near-append k (t ∷ ts) us m = ap (λ b. nearTo 𝓜 counts reach k t m || b) (near-append k ts us m) ∙ sym (or-assoc (nearTo 𝓜 counts reach k t m) (near 𝓜 counts reach k ts m) (near 𝓜 counts reach k us m))
 
--- ---- the count
+  -- near a list is near one of its test words
+  pub near-member : (k : ℕ) (ts : List (List ℕ)) (m : List ℕ) → T (near 𝓜 counts reach k ts m) → (t : List ℕ) × List·Memᴰ t ts × T (nearTo 𝓜 counts reach k t m)
+  unfolding near
+  near-member k [] m h = absurd h
+  near-member k (t ∷ ts) m h = go (either (nearTo 𝓜 counts reach k t m) (near 𝓜 counts reach k ts m) h) (near-member k ts m)
+    where
+      go : T (nearTo 𝓜 counts reach k t m) ⊎ T (near 𝓜 counts reach k ts m) → (T (near 𝓜 counts reach k ts m) → (u : List ℕ) × List·Memᴰ u ts × T (nearTo 𝓜 counts reach k u m))
+          → (u : List ℕ) × List·Memᴰ u (t ∷ ts) × T (nearTo 𝓜 counts reach k u m)
+      go (inl a) ih = (t, List·Memᴰ·head refl, a)
+      go (inr a) ih = let r = ih a in (r .0, List·Memᴰ·tail (r .1), r .2)
 
-pub tests-nil : (k : ℕ) → testsNear k [] ≡ 0
-unfolding testsNear
-tests-nil k = refl
+  pub member-near : (k : ℕ) (ts : List (List ℕ)) (t m : List ℕ) → List·Memᴰ t ts → T (nearTo 𝓜 counts reach k t m) → T (near 𝓜 counts reach k ts m)
+  unfolding near
+  member-near k [] t m i h = absurd (List·Memᴰ·not-nil i)
+  member-near k (u ∷ ts) t m i h =
+      ⊎-elim (λ (e : t ≡ u). or-left (nearTo 𝓜 counts reach k u m) (near 𝓜 counts reach k ts m) (subst (λ x. T (nearTo 𝓜 counts reach k x m)) e h))
+      (λ j. or-right (nearTo 𝓜 counts reach k u m) (near 𝓜 counts reach k ts m) (member-near k ts t m j h)) (List·Memᴰ·cases-cons i)
 
-pub tests-cons : (k : ℕ) (t : List ℕ) (ts : List (List ℕ)) → testsNear k (t ∷ ts) ≡ bit (isSome (codewordNear k t)) + testsNear k ts
-unfolding testsNear
-tests-cons k t ts = refl
+  -- ---- the answer
 
-pub tests-append : (k : ℕ) (ts us : List (List ℕ)) → testsNear k (ts ++ us) ≡ testsNear k ts + testsNear k us
-tests-append k [] us = omega (arith, tests-nil k)
-tests-append k (t ∷ ts) us = omega (arith, tests-cons k t (ts ++ us), tests-cons k t ts, tests-append k ts us)
+  pub near-answers : (k : ℕ) (columns : ℕ → List ℕ) (ts : List (List ℕ)) → Answers (messageCost 𝓜 k columns) (Found (symbols 𝓜) k (near 𝓜 counts reach k ts)) (answerOf 𝓜 counts reach k columns ts)
+  unfolding answerOf
+  near-answers k columns ts = cheapest-words (symbols 𝓜) k (messageCost 𝓜 k columns) (near 𝓜 counts reach k ts)
 
-pub tests-none : (k : ℕ) (ts : List (List ℕ)) → ((t : List ℕ) → List·Memᴰ t ts → codewordNear k t ≡ none) → testsNear k ts ≡ 0
-tests-none k [] h = tests-nil k
-tests-none k (t ∷ ts) h =
-    omega
-    (arith, tests-cons k t ts, ap (λ o. bit (isSome o)) (h t (List·Memᴰ·head refl)), tests-none k ts (λ u m. h u (List·Memᴰ·tail m)))
+  pub word-answers : (k : ℕ) (word : List ℕ) → Answers free (Found (symbols 𝓜) k (nearTo 𝓜 counts reach k word)) (codewordNear 𝓜 counts reach k word)
+  unfolding codewordNear
+  word-answers k word = firstThat-words (symbols 𝓜) k (nearTo 𝓜 counts reach k word)
 
-pub tests-answerless : (k : ℕ) (columns : ℕ → List ℕ) (ts : List (List ℕ)) → answerOf k columns ts ≡ none → testsNear k ts ≡ 0
-tests-answerless k columns ts e =
-    let a = subst (Answers (messageCost k columns) (Found 16 k (near k ts))) e (near-answers k columns ts) in
-    tests-none k ts
-    (λ t i. codeword-none k t (λ m f. answers-none a m (record { word = f .word; passed = member-near k ts t m i (f .passed) })))
+  found-append : (k : ℕ) (ts us : List (List ℕ)) (m : List ℕ) → (Found (symbols 𝓜) k (near 𝓜 counts reach k ts) m ⊎ Found (symbols 𝓜) k (near 𝓜 counts reach k us) m) ↔ Found (symbols 𝓜) k (near 𝓜 counts reach k (ts ++ us)) m
+  found-append k ts us m = (into, from)
+    where
+      into : Found (symbols 𝓜) k (near 𝓜 counts reach k ts) m ⊎ Found (symbols 𝓜) k (near 𝓜 counts reach k us) m → Found (symbols 𝓜) k (near 𝓜 counts reach k (ts ++ us)) m
+      into (inl f) = record { word = f .word; passed = subst T (sym (near-append k ts us m)) (or-left (near 𝓜 counts reach k ts m) (near 𝓜 counts reach k us m) (f .passed)) }
+      into (inr f) = record { word = f .word; passed = subst T (sym (near-append k ts us m)) (or-right (near 𝓜 counts reach k ts m) (near 𝓜 counts reach k us m) (f .passed)) }
 
-pub tests-le : (k : ℕ) (ts : List (List ℕ)) → testsNear k ts ≤ length ts
-tests-le k [] = omega (arith, tests-nil k)
-tests-le k (t ∷ ts) = omega (arith, tests-cons k t ts, tests-le k ts, bit-le (isSome (codewordNear k t)))
+      from : Found (symbols 𝓜) k (near 𝓜 counts reach k (ts ++ us)) m → Found (symbols 𝓜) k (near 𝓜 counts reach k ts) m ⊎ Found (symbols 𝓜) k (near 𝓜 counts reach k us) m
+      from f =
+          ⊎-elim (λ a. inl (record { word = f .word; passed = a })) (λ a. inr (record { word = f .word; passed = a }))
+          (either (near 𝓜 counts reach k ts m) (near 𝓜 counts reach k us m) (subst T (near-append k ts us m) (f .passed)))
 
-pub tests-tree : (k n : ℕ) (columns : ℕ → List ℕ) (doubtful : List ℕ) → testsNear k (testWords n columns doubtful) ≤ 2 ^ length doubtful
-tests-tree k n columns doubtful = omega (arith, tests-le k (testWords n columns doubtful), testWords-count n columns doubtful)
+  pub answer-append : (k : ℕ) (columns : ℕ → List ℕ) (ts us : List (List ℕ))
+      → answerOf 𝓜 counts reach k columns (ts ++ us) ≡ better (messageCost 𝓜 k columns) (answerOf 𝓜 counts reach k columns ts) (answerOf 𝓜 counts reach k columns us)
+  answer-append k columns ts us =
+      answers-unique (near-answers k columns (ts ++ us))
+      (answers-iff (found-append k ts us) (better-answers (near-answers k columns ts) (near-answers k columns us)))
+
+  found-one : (k : ℕ) (t : List ℕ) (m : List ℕ) → Found (symbols 𝓜) k (nearTo 𝓜 counts reach k t) m ↔ Found (symbols 𝓜) k (near 𝓜 counts reach k (t ∷ [])) m
+  found-one k t m =
+      let e : near 𝓜 counts reach k (t ∷ []) m ≡ nearTo 𝓜 counts reach k t m = near-cons k t [] m ∙ ap (λ b. nearTo 𝓜 counts reach k t m || b) (near-nil k m) ∙ or-false (nearTo 𝓜 counts reach k t m) in (
+        λ f. record { word = f .word; passed = subst T (sym e) (f .passed) },
+        λ f. record { word = f .word; passed = subst T e (f .passed) },
+      )
+
+  pub answer-one : {k : ℕ} → Workable 𝓜 k → Repairable 𝓜 counts reach k → (columns : ℕ → List ℕ) (t : List ℕ) → answerOf 𝓜 counts reach k columns (t ∷ []) ≡ codewordNear 𝓜 counts reach k t
+  answer-one {k} rate repairs columns t =
+      answers-unique (near-answers k columns (t ∷ []))
+      (answers-iff (found-one k t) (answers-single (λ m n p q. near-one 𝓜 counts reach rate t repairs q p) (word-answers k t)))
+
+  pub answer-none : (k : ℕ) (columns : ℕ → List ℕ) (ts : List (List ℕ)) → ((m : List ℕ) → Found (symbols 𝓜) k (near 𝓜 counts reach k ts) m → ⊥) → answerOf 𝓜 counts reach k columns ts ≡ none
+  answer-none k columns ts f = answers-unique (near-answers k columns ts) (nobody f)
+
+  pub codeword-none : (k : ℕ) (word : List ℕ) → ((m : List ℕ) → Found (symbols 𝓜) k (nearTo 𝓜 counts reach k word) m → ⊥) → codewordNear 𝓜 counts reach k word ≡ none
+  codeword-none k word f = answers-unique (word-answers k word) (nobody f)
+
+  -- ---- the count
+
+  pub tests-nil : (k : ℕ) → testsNear 𝓜 counts reach k [] ≡ 0
+  unfolding testsNear
+  tests-nil k = refl
+
+  pub tests-cons : (k : ℕ) (t : List ℕ) (ts : List (List ℕ)) → testsNear 𝓜 counts reach k (t ∷ ts) ≡ bit (isSome (codewordNear 𝓜 counts reach k t)) + testsNear 𝓜 counts reach k ts
+  unfolding testsNear
+  tests-cons k t ts = refl
+
+  pub tests-append : (k : ℕ) (ts us : List (List ℕ)) → testsNear 𝓜 counts reach k (ts ++ us) ≡ testsNear 𝓜 counts reach k ts + testsNear 𝓜 counts reach k us
+  tests-append k [] us = omega (arith, tests-nil k)
+  tests-append k (t ∷ ts) us = omega (arith, tests-cons k t (ts ++ us), tests-cons k t ts, tests-append k ts us)
+
+  pub tests-none : (k : ℕ) (ts : List (List ℕ)) → ((t : List ℕ) → List·Memᴰ t ts → codewordNear 𝓜 counts reach k t ≡ none) → testsNear 𝓜 counts reach k ts ≡ 0
+  tests-none k [] h = tests-nil k
+  tests-none k (t ∷ ts) h =
+      omega
+      (arith, tests-cons k t ts, ap (λ o. bit (isSome o)) (h t (List·Memᴰ·head refl)), tests-none k ts (λ u m. h u (List·Memᴰ·tail m)))
+
+  pub tests-answerless : (k : ℕ) (columns : ℕ → List ℕ) (ts : List (List ℕ)) → answerOf 𝓜 counts reach k columns ts ≡ none → testsNear 𝓜 counts reach k ts ≡ 0
+  tests-answerless k columns ts e =
+      let a = subst (Answers (messageCost 𝓜 k columns) (Found (symbols 𝓜) k (near 𝓜 counts reach k ts))) e (near-answers k columns ts) in
+      tests-none k ts
+      (λ t i. codeword-none k t (λ m f. answers-none a m (record { word = f .word; passed = member-near k ts t m i (f .passed) })))
+
+  pub tests-le : (k : ℕ) (ts : List (List ℕ)) → testsNear 𝓜 counts reach k ts ≤ length ts
+  tests-le k [] = omega (arith, tests-nil k)
+  tests-le k (t ∷ ts) = omega (arith, tests-cons k t ts, tests-le k ts, bit-le (isSome (codewordNear 𝓜 counts reach k t)))
+
+  pub tests-tree : (k n : ℕ) (columns : ℕ → List ℕ) (doubtful : List ℕ) → testsNear 𝓜 counts reach k (testWords n columns doubtful) ≤ 2 ^ length doubtful
+  tests-tree k n columns doubtful = omega (arith, tests-le k (testWords n columns doubtful), testWords-count n columns doubtful)

@@ -1,11 +1,11 @@
--- The tree of test words and the nodes decided so far.
+-- The tree of test words and the nodes decided so far, for every member, any T and any places that count.
 --
---   Places ps          ps are different places, all below 64; places-of: a list that passes the tests is so
---   Decided word ps ns   the nodes ns are those of the word at all places but the doubtful ones that are left, ps
+--   Places n ps        ps are different places, all below n; places-of: a list that passes the tests is so
+--   Decided word ps ns   the nodes ns are those of the word at all places that count but the doubtful ones that are left, ps
 --   decided-step       one doubtful place less: its node is decided, with the symbol that the word gets there
 --   decided-through    where none is left, what passes through ns passes through the word, and back
 --   tree-spent         where every class is spent, no test word of the tree has a codeword within T, and there is no answer
-use mathlib.Core.Bool.{Bool, true, false, not, _&&_, true≢false}
+use mathlib.Core.Bool.{Bool, true, false, not, true≢false}
 use mathlib.Core.Path.{_≡_, sym, ap, _∙_, subst}
 use mathlib.Core.List.{List, [], _∷_, List·Memᴰ, List·Memᴰ·head, List·Memᴰ·tail, List·Memᴰ·cases-cons, List·Memᴰ·not-nil}
 use mathlib.Core.Logic.{_≢_, ⊎-elim}
@@ -17,98 +17,114 @@ use lib.Dec.{T}
 use lib.ListN.{length, getD, set}
 use lib.Seq.{getD-set-same, getD-set-other}
 use borrow.Author.Tests.{not-true}
+use Rattle.lists.specs.Count.{count, kept-length, kept-member}
 use Rattle.lists.specs.Member.{member-at, at-member}
 use Rattle.lists.specs.Distinct.{among, among-member, distinct, below, below-cons, and-left, and-right}
 use Rattle.lists.specs.Listed.{listed, listed-length, listed-at}
 use Rattle.algebra.specs.Subspace.{_⊆_, common-fewer}
 use Rattle.algebra.specs.Koetter.{Basis}
-use Rattle.galois.specs.Field16.{GF, K16}
-use Rattle.code.specs.Nodes.{Node, node, ThroughNodes}
+use Rattle.galois.specs.BinaryField.{GF, K}
 use Rattle.soft.specs.TestWord.{expand}
 use Rattle.soft.specs.TestWordLaws.{expand-settled}
+use Rattle.family.specs.Member.{Member, places}
+use Rattle.family.specs.Nodes.{Node, node, ThroughNodes}
 use Rattle.near.specs.Near.{mOf, nearTo, testsNear, answerOf}
 use Rattle.near.specs.Reach.{Workable}
 use Rattle.near.specs.Laws.{near-member, codeword-none, answer-none, tests-none}
+use Rattle.near.specs.Codeword.{placeAt, placeAt-below, placeAt-counts}
 use Rattle.near.specs.Interpolated.{limitOf, nodeOf, nodesOf, near-spent}
 
-pub data Places : List ℕ → Type 0 where
-  places-nil : Places []
-  places-cons : {p : ℕ} {ps : List ℕ} → p < 64 → ¬ List·Memᴰ p ps → Places ps → Places (p ∷ ps)
+pub data Places (n : ℕ) : List ℕ → Type 0 where
+  places-nil : Places n []
+  places-cons : {p : ℕ} {ps : List ℕ} → p < n → ¬ List·Memᴰ p ps → Places n ps → Places n (p ∷ ps)
 
-pub places-of : (ps : List ℕ) → below 64 ps ≡ true → distinct ps ≡ true → Places ps
+pub places-of : (n : ℕ) (ps : List ℕ) → below n ps ≡ true → distinct ps ≡ true → Places n ps
 unfolding distinct
-places-of [] b d = places-nil
-places-of (p ∷ ps) b d =
-    let h = below-cons 64 p ps b in
+places-of n [] b d = places-nil
+places-of n (p ∷ ps) b d =
+    let h = below-cons n p ps b in
     places-cons (h .0) (λ m. true≢false (sym (among-member m) ∙ not-true (among p ps) (and-left (not (among p ps)) (distinct ps) d)))
-    (places-of ps (h .1) (and-right (not (among p ps)) (distinct ps) d))
+    (places-of n ps (h .1) (and-right (not (among p ps)) (distinct ps) d))
 
-pub record Decided (word : List ℕ) (ps : List ℕ) (ns : List Node) : Type 0 where
-  pub inside : (n : Node) → List·Memᴰ n ns → (p : ℕ) × (p < 64) × (¬ List·Memᴰ p ps) × (n ≡ node p (getD word p 0))
-  pub covers : (p : ℕ) → p < 64 → ¬ List·Memᴰ p ps → List·Memᴰ (node p (getD word p 0)) ns
+module _ (𝓜 : Member) (counts : ℕ → Bool) where
+  open Member 𝓜 using (gf)
 
-pub decided-step : {word : List ℕ} {p : ℕ} {ps : List ℕ} {ns : List Node} (s : ℕ) → length word ≡ 64 → p < 64 → ¬ List·Memᴰ p ps
-    → Decided word (p ∷ ps) ns → Decided (set word p s) ps (node p s ∷ ns)
-decided-step {word} {p} {ps} {ns} s size h fresh D = record { inside = inside; covers = λ q b e. covers q b e (ℕ-discrete q p) }
-  where
-    here : getD (set word p s) p 0 ≡ s
-    here = getD-set-same word p s 0 (omega arith)
+  pub record Decided (word : List ℕ) (ps : List ℕ) (ns : List Node) : Type 0 where
+    pub inside : (n : Node) → List·Memᴰ n ns → (p : ℕ) × (p < places 𝓜) × T (counts p) × (¬ List·Memᴰ p ps) × (n ≡ node p (getD word p 0))
+    pub covers : (p : ℕ) → p < places 𝓜 → T (counts p) → ¬ List·Memᴰ p ps → List·Memᴰ (node p (getD word p 0)) ns
 
-    there : (q : ℕ) → q ≢ p → getD (set word p s) q 0 ≡ getD word q 0
-    there q n = getD-set-other word p q s 0 n
+  pub decided-step : {word : List ℕ} {p : ℕ} {ps : List ℕ} {ns : List Node} (s : ℕ) → length word ≡ places 𝓜 → p < places 𝓜 → T (counts p) → ¬ List·Memᴰ p ps
+      → Decided word (p ∷ ps) ns → Decided (set word p s) ps (node p s ∷ ns)
+  decided-step {word} {p} {ps} {ns} s size h count fresh D = record { inside = inside; covers = λ q b c e. covers q b c e (ℕ-discrete q p) }
+    where
+      here : getD (set word p s) p 0 ≡ s
+      here = getD-set-same word p s 0 (omega arith)
 
-    inside : (n : Node) → List·Memᴰ n (node p s ∷ ns) → (q : ℕ) × (q < 64) × (¬ List·Memᴰ q ps) × (n ≡ node q (getD (set word p s) q 0))
-    inside n m =
-        ⊎-elim (λ (e : n ≡ node p s). (p, h, fresh, e ∙ ap (node p) (sym here)))
-        (λ a.
-        let r = D .inside n a in
-        (r .0, r .1, (λ i. r .2 (List·Memᴰ·tail i)), r .3 ∙ ap (node (r .0)) (sym (there (r .0) (λ e. r .2 (List·Memᴰ·head e))))))
-        (List·Memᴰ·cases-cons m)
+      there : (q : ℕ) → q ≢ p → getD (set word p s) q 0 ≡ getD word q 0
+      there q n = getD-set-other word p q s 0 n
 
-    covers : (q : ℕ) → q < 64 → ¬ List·Memᴰ q ps → Dec (q ≡ p) → List·Memᴰ (node q (getD (set word p s) q 0)) (node p s ∷ ns)
-    covers q b e (yes i) = List·Memᴰ·head (ap (λ j. node j (getD (set word p s) j 0)) i ∙ ap (node p) here)
-    covers q b e (no i) =
-        List·Memᴰ·tail
-        (subst (λ z. List·Memᴰ (node q z) ns) (sym (there q i)) (D .covers q b (λ m. ⊎-elim i e (List·Memᴰ·cases-cons m))))
+      inside : (n : Node) → List·Memᴰ n (node p s ∷ ns) → (q : ℕ) × (q < places 𝓜) × T (counts q) × (¬ List·Memᴰ q ps) × (n ≡ node q (getD (set word p s) q 0))
+      inside n m =
+          ⊎-elim (λ (e : n ≡ node p s). (p, h, count, fresh, e ∙ ap (node p) (sym here)))
+          (λ a.
+          let r = D .inside n a in
+          (r .0, r .1, r .2, (λ i. r .3 (List·Memᴰ·tail i)), r .4 ∙ ap (node (r .0)) (sym (there (r .0) (λ e. r .3 (List·Memᴰ·head e))))))
+          (List·Memᴰ·cases-cons m)
 
--- the nodes of a word
-node-member : (word : List ℕ) (p : ℕ) → p < 64 → List·Memᴰ (node p (getD word p 0)) (nodesOf word)
-unfolding nodesOf nodeOf
-node-member word p h =
-    subst (λ n. List·Memᴰ n (listed 64 (nodeOf word))) (listed-at 64 p (nodeOf word) (node 0 0) h)
-    (member-at (listed 64 (nodeOf word)) (node 0 0) p (omega (arith, listed-length 64 (nodeOf word))))
+      covers : (q : ℕ) → q < places 𝓜 → T (counts q) → ¬ List·Memᴰ q ps → Dec (q ≡ p) → List·Memᴰ (node q (getD (set word p s) q 0)) (node p s ∷ ns)
+      covers q b c e (yes i) = List·Memᴰ·head (ap (λ j. node j (getD (set word p s) j 0)) i ∙ ap (node p) here)
+      covers q b c e (no i) =
+          List·Memᴰ·tail
+          (subst (λ z. List·Memᴰ (node q z) ns) (sym (there q i)) (D .covers q b c (λ m. ⊎-elim i e (List·Memᴰ·cases-cons m))))
 
-member-node : (word : List ℕ) (n : Node) → List·Memᴰ n (nodesOf word) → (p : ℕ) × (p < 64) × (n ≡ node p (getD word p 0))
-unfolding nodesOf nodeOf
-member-node word n m =
-    let r = at-member (node 0 0) m in
-    let b : r .0 < 64 = omega (arith, r .1, listed-length 64 (nodeOf word)) in
-    (r .0, b, sym (r .2) ∙ listed-at 64 (r .0) (nodeOf word) (node 0 0) b)
+  -- the nodes of a word
+  node-member : (word : List ℕ) (p : ℕ) → p < places 𝓜 → T (counts p) → List·Memᴰ (node p (getD word p 0)) (nodesOf 𝓜 counts word)
+  unfolding nodesOf nodeOf placeAt
+  node-member word p h c =
+      let r = at-member 0 (kept-member (places 𝓜) counts p h c) in
+      let l : r .0 < count (places 𝓜) counts = omega (arith, r .1, kept-length (places 𝓜) counts) in
+      let f : ℕ → Node = λ i. nodeOf word (placeAt 𝓜 counts (places 𝓜) i) in
+      subst (λ n. List·Memᴰ n (listed (count (places 𝓜) counts) f))
+      (listed-at (count (places 𝓜) counts) (r .0) f (node 0 0) l ∙ ap (λ q. node q (getD word q 0)) (r .2))
+      (member-at (listed (count (places 𝓜) counts) f) (node 0 0) (r .0) (omega (arith, listed-length (count (places 𝓜) counts) f)))
 
-pub decided-through : (M : ℕ) {word : List ℕ} {ns : List Node} → Decided word [] ns
-    → (_⊆_ K16 (ThroughNodes M ns) (ThroughNodes M (nodesOf word))) × (_⊆_ K16 (ThroughNodes M (nodesOf word)) (ThroughNodes M ns))
-decided-through M {word} {ns} D = (
-  common-fewer K16
-      (λ n m. let r = member-node word n m in subst (λ u. List·Memᴰ u ns) (sym (r .2)) (D .covers (r .0) (r .1) List·Memᴰ·not-nil)),
-  common-fewer K16
-      (λ n m. let r = D .inside n m in subst (λ u. List·Memᴰ u (nodesOf word)) (sym (r .3)) (node-member word (r .0) (r .1))),
-)
+  member-node : (word : List ℕ) (n : Node) → List·Memᴰ n (nodesOf 𝓜 counts word)
+      → (p : ℕ) × (p < places 𝓜) × T (counts p) × (n ≡ node p (getD word p 0))
+  unfolding nodesOf nodeOf
+  member-node word n m =
+      let r = at-member (node 0 0) m in
+      let f : ℕ → Node = λ i. nodeOf word (placeAt 𝓜 counts (places 𝓜) i) in
+      let b : r .0 < count (places 𝓜) counts = omega (arith, r .1, listed-length (count (places 𝓜) counts) f) in (
+        placeAt 𝓜 counts (places 𝓜) (r .0),
+        placeAt-below 𝓜 counts (r .0) (places 𝓜) b,
+        placeAt-counts 𝓜 counts (r .0) (places 𝓜) b,
+        sym (r .2) ∙ listed-at (count (places 𝓜) counts) (r .0) f (node 0 0) b,
+      )
 
-module _ {k : ℕ} (rate : Workable k) (columns : ℕ → List ℕ) {word ps : List ℕ} {ns : List Node} (D : Decided word ps ns) {G : ℕ → ℕ → GF}
-    {l : ℕ → ℕ} (B : Basis K16 8 (limitOf k) (ThroughNodes (mOf k) ns) G l) (spent : (r : ℕ) → r < 8 → limitOf k < l r) where
-  -- the test words of the tree have the nodes decided so far
-  far : (t : List ℕ) → List·Memᴰ t (expand columns word ps) → (n : List ℕ) → T (nearTo k t n) → ⊥
-  far t m =
-      near-spent t rate ns
-      (λ u h.
-      let r = D .inside u h in
-      subst (λ v. List·Memᴰ v (nodesOf t)) (sym (r .3 ∙ ap (node (r .0)) (sym (expand-settled columns word ps t m (r .0) (r .2)))))
-      (node-member t (r .0) (r .1)))
-      B spent
-
-  pub tree-spent : (testsNear k (expand columns word ps) ≡ 0) × (answerOf k columns (expand columns word ps) ≡ none)
-  tree-spent = (
-    tests-none k (expand columns word ps) (λ t m. codeword-none k t (λ n f. far t m n (f .passed))),
-    answer-none k columns (expand columns word ps)
-        (λ n f. let r = near-member k (expand columns word ps) n (f .passed) in far (r .0) (r .1) n (r .2)),
+  pub decided-through : (M : ℕ) {word : List ℕ} {ns : List Node} → Decided word [] ns
+      → (_⊆_ (K gf) (ThroughNodes 𝓜 M ns) (ThroughNodes 𝓜 M (nodesOf 𝓜 counts word))) × (_⊆_ (K gf) (ThroughNodes 𝓜 M (nodesOf 𝓜 counts word)) (ThroughNodes 𝓜 M ns))
+  decided-through M {word} {ns} D = (
+    common-fewer (K gf)
+        (λ n m. let r = member-node word n m in subst (λ u. List·Memᴰ u ns) (sym (r .3)) (D .covers (r .0) (r .1) (r .2) List·Memᴰ·not-nil)),
+    common-fewer (K gf)
+        (λ n m. let r = D .inside n m in subst (λ u. List·Memᴰ u (nodesOf 𝓜 counts word)) (sym (r .4)) (node-member word (r .0) (r .1) (r .2))),
   )
+
+  module _ (reach : ℕ) {k : ℕ} (rate : Workable 𝓜 k) (columns : ℕ → List ℕ) {word ps : List ℕ} {ns : List Node} (D : Decided word ps ns) {classes : ℕ} (positive : 0 < classes) {G : ℕ → ℕ → GF gf}
+      {l : ℕ → ℕ} (B : Basis (K gf) classes (limitOf 𝓜 reach k) (ThroughNodes 𝓜 (mOf 𝓜 k) ns) G l) (spent : (r : ℕ) → r < classes → limitOf 𝓜 reach k < l r) where
+    -- the test words of the tree have the nodes decided so far
+    far : (t : List ℕ) → List·Memᴰ t (expand columns word ps) → (n : List ℕ) → T (nearTo 𝓜 counts reach k t n) → ⊥
+    far t m =
+        near-spent 𝓜 counts reach t rate positive ns
+        (λ u h.
+        let r = D .inside u h in
+        subst (λ v. List·Memᴰ v (nodesOf 𝓜 counts t)) (sym (r .4 ∙ ap (node (r .0)) (sym (expand-settled columns word ps t m (r .0) (r .3)))))
+        (node-member t (r .0) (r .1) (r .2)))
+        B spent
+
+    pub tree-spent : (testsNear 𝓜 counts reach k (expand columns word ps) ≡ 0) × (answerOf 𝓜 counts reach k columns (expand columns word ps) ≡ none)
+    tree-spent = (
+      tests-none 𝓜 counts reach k (expand columns word ps) (λ t m. codeword-none 𝓜 counts reach k t (λ n f. far t m n (f .passed))),
+      answer-none 𝓜 counts reach k columns (expand columns word ps)
+          (λ n f. let r = near-member 𝓜 counts reach k (expand columns word ps) n (f .passed) in far (r .0) (r .1) n (r .2)),
+    )

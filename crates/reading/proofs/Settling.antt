@@ -5,7 +5,7 @@
 --   session-reading      so their reading is the book's
 use mathlib.Core.Bool.{Bool, true, false, cond, not, _&&_}
 use mathlib.Core.Path.{_≡_, refl, sym, ap, ap₂, _∙_}
-use mathlib.Core.List.{List, [], _∷_}
+use mathlib.Core.List.{List, _∷_}
 use Prim.Native.Nat.{ℕ, zero, suc, _+_, _<_, _≤_}
 use native.Mathlib.Omega.{arith}
 use lib.Dec.{eqb}
@@ -16,8 +16,8 @@ use Rattle.lists.specs.Distinct.{among}
 use Rattle.soft.specs.Column.{symbols, columnOf}
 use Rattle.soft.specs.TestWord.{bestWord}
 use Rattle.soft.specs.TestWordLaws.{bestWord-at}
-use Rattle.code.specs.Nodes.{Node, node}
-use Rattle.near.specs.Near.{mOf}
+use Rattle.family.specs.Nodes.{Node, node}
+use Rattle.near.specs.Here.{mOf, m-is}
 use Rattle.interpolant.specs.LeastQ.{readingOf}
 use Rattle.interpolation.specs.Settled.{settled, settled-nil, settled-suc}
 use Rattle.book.specs.Book.{places}
@@ -69,5 +69,5 @@ module _ (s : Session) (good : Good s) (word flags : List ℕ) (w : word ≡ bes
       ∙ ap₂ (λ (x : Node) (l : List Node). cond (isSettled (bookOf s) n) (x ∷ l) l) (noded n h) ih
 
   pub session-reading : readingOf (s .rate + 5) (settled word flags 64) ≡ readingOf (mOf (s .rate)) (settledOf (bookOf s))
-  unfolding settledOf mOf
-  session-reading = ap (readingOf (s .rate + 5)) (settled-session 64 (omega arith))
+  unfolding settledOf
+  session-reading = ap₂ readingOf (sym (m-is (s .rate))) (settled-session 64 (omega arith))

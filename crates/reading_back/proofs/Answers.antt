@@ -3,17 +3,21 @@ use mathlib.Core.Bool.{true, false}
 use mathlib.Core.Path.{_≡_, sym, ap, _∙_}
 use mathlib.Core.List.{List}
 use mathlib.Core.Option.{Option, some, none}
-use Prim.Native.Nat.{ℕ, _≤_}
+use Prim.Native.Nat.{ℕ, _-_, _≤_}
+use native.Mathlib.Omega.{arith}
 use lib.ListN.{length, take}
 use borrow.Author.Tests.{eq-eqb, ne-eqb}
 use Rattle.lists.specs.Listed.{listed-length, take-listed}
 use Rattle.lists.specs.Words.{allBelow}
 use Rattle.refusals.specs.Refusal.{accepted, unknownRate, wrongSize, noSymbol, noCodeword}
 use Rattle.code.specs.Encoding.{encodeOf, knownRate, readBackOf}
-use Rattle.code.specs.Rates.{known-small}
+use Rattle.code.specs.Rates.{longest, longest-is, known-small}
 use Rattle.code.specs.Calls.{outcome, found, readBackCall}
 use Rattle.code.specs.Extraction.{messageAt, extractOf}
-use Rattle.code.specs.Laws.{read-by-extraction-some, read-by-extraction-none}
+use Rattle.family.specs.Laws.{read-by-extraction-some, read-by-extraction-none}
+use Rattle.hermitian.specs.Present.{genus}
+use Rattle.family.specs.Member.{m16, places}
+use Rattle.family.specs.Extraction as Extraction
 
 module _ (rate : ℕ) (w buf : List ℕ) where
   pub read-rate : knownRate rate ≡ false → outcome unknownRate buf ≡ readBackCall rate w buf
@@ -43,17 +47,20 @@ module _ (rate : ℕ) (w buf : List ℕ) where
               ap (λ x. found x buf) (sym e)
               ∙ simp (known, eq-eqb (length w) 64 whole, eq-eqb (length buf) rate sized, symbols)
 
+          few : rate ≤ places m16 - genus 4
+          few = omega (arith, longest-is, known-small rate known)
+
           pub read-refused : (encodeOf rate (extractOf rate w) ≡ w → ⊥) → outcome noCodeword buf ≡ readBackCall rate w buf
-          read-refused n = searched none (read-by-extraction-none rate (known-small rate known) w n)
+          read-refused n = searched none (read-by-extraction-none m16 rate few w n)
 
           pub read-done : encodeOf rate (extractOf rate w) ≡ w → outcome accepted (extractOf rate w) ≡ readBackCall rate w buf
-          read-done e = searched (some (extractOf rate w)) (read-by-extraction-some rate (known-small rate known) w e)
+          read-done e = searched (some (extractOf rate w)) (read-by-extraction-some m16 rate few w e)
 
 -- the first k symbols of the longest message are those of the message of rate k
-pub extract-take : (k : ℕ) (w : List ℕ) → k ≤ 58 → take k (extractOf 58 w) ≡ extractOf k w
-unfolding extractOf
-extract-take k w h = take-listed 0 k 58 (messageAt w) h
+pub extract-take : (k : ℕ) (w : List ℕ) → k ≤ longest → take k (extractOf longest w) ≡ extractOf k w
+unfolding Extraction.extractOf
+extract-take k w h = take-listed 0 k longest (messageAt w) h
 
 pub extract-length : (k : ℕ) (w : List ℕ) → length (extractOf k w) ≡ k
-unfolding extractOf
+unfolding Extraction.extractOf
 extract-length k w = listed-length k (messageAt w)

@@ -1,23 +1,25 @@
 -- The loops that sum the moments of a word.
-use mathlib.Core.Path.{_≡_, refl, sym, ap, ap₂, _∙_, subst}
+use mathlib.Core.Path.{_≡_, refl, sym, ap, ap₂, _∙_}
 use mathlib.Core.List.{List, []}
 use Prim.Native.Nat.{ℕ, zero, suc, _+_, _-_, _*_, _/_, _%_, _<_, _≤_}
 use native.Mathlib.Nat.{mod-eq-of-lt}
 use native.Mathlib.Numerals.{add-one}
 use native.Mathlib.Omega.{arith}
-use lib.Dec.{lit≤}
 use lib.Bits.{bitXor, xor-comm}
 use lib.ListN.{length, getD, set, replicate, getD-replicate}
 use Rattle.lists.specs.Listed.{listed, listed-at, listed-ext}
 use Rattle.lists.specs.Filled.{Filled, filled-start, filled-turn, filled-read}
 use Rattle.lists.specs.XorSum.{xorSum, xorSum-suc}
-use Rattle.galois.specs.Gf16.{times}
-use Rattle.hermitian.specs.Present.{Present}
-use Rattle.hermitian.specs.Orders.{orderOf, orderOf-present}
-use Rattle.curve.specs.Curve.{yOf, power, power-nil, power-suc}
-use Rattle.code.specs.Evaluation.{order-below}
+use Rattle.galois.specs.Gf16.{gf16, times}
+use Rattle.hermitian.specs.Orders.{orderOf}
+use Rattle.curve.specs.Curve.{yOf, power}
+use Rattle.galois.specs.BinaryField.{power-nil, power-suc}
 use Rattle.reading_back.specs.Lanes.{timesPlus, timesPlus-at}
-use Rattle.code.specs.Extraction.{atZero, momentSymbol, symbol-in, extractedAt, messageAt, momentsOf, fibreTerm, fibreSum, momentTerm, momentUpTo, momentRow}
+use Rattle.code.specs.Rates.{longest}
+use Rattle.code.specs.Extraction.{momentSymbol, extractedAt, messageAt, momentsOf, fibreTerm, fibreSum, momentTerm, momentUpTo, momentRow}
+use Rattle.family.specs.Extraction.{atZero, symbol-in}
+use Rattle.family.specs.Member.{m16}
+use Rattle.family.specs.Extraction as Extraction
 
 -- an entry of a list by a rule
 pub entry : (n i : ℕ) (f : ℕ → ℕ) {l : List ℕ} → l ≡ listed n f → i < n → getD l i 0 ≡ f i
@@ -25,10 +27,10 @@ entry n i f e h = ap (λ k. getD k i 0) e ∙ listed-at n i f 0 h
 
 -- ---- powers
 pub power-start : (a : ℕ) → 1 ≡ power a 0
-power-start a = sym (power-nil a)
+power-start a = sym (power-nil gf16 a)
 
 pub power-turn : (a i : ℕ) {p v : ℕ} → p ≡ power a i → v ≡ times p a → v ≡ power a (i + 1)
-power-turn a i e q = q ∙ ap (λ x. times x a) e ∙ sym (rw add-one (power-suc a i))
+power-turn a i e q = q ∙ ap (λ x. times x a) e ∙ sym (rw add-one (power-suc gf16 a i))
 
 abbrev pub blank16 : List ℕ
 blank16 = replicate 16 0
@@ -54,12 +56,12 @@ pub record Row (v : List ℕ) (b x : ℕ) (row : List ℕ) : Type 0 where
   pub sums : row ≡ listed 16 (momentUpTo v b x)
 
 pub row-start : (v : List ℕ) (b : ℕ) → length v ≡ 64 → Row v b 0 blank16
-unfolding listed momentUpTo xorSum
+unfolding listed Extraction.momentUpTo xorSum
 row-start v b h = record { within = omega arith; sized = h; sums = refl }
 
 pub row-turn : {v row powers next : List ℕ} {b x sum : ℕ} → Row v b x row → x < 16 → sum ≡ fibreSum v b x → powers ≡ listed 16 (power x)
     → next ≡ listed 16 (timesPlus powers (replicate 16 sum) row) → Row v b (x + 1) next
-unfolding momentUpTo momentTerm
+unfolding Extraction.momentUpTo Extraction.momentTerm
 row-turn {v} {row} {powers} {next} {b} {x} {sum} r h e f q =
     record {
       within = omega arith;
@@ -71,7 +73,7 @@ row-turn {v} {row} {powers} {next} {b} {x} {sum} r h e f q =
     }
 
 pub row-end : {v row : List ℕ} {b x : ℕ} → Row v b x row → 16 ≤ x → row ≡ momentRow v b
-unfolding momentRow
+unfolding Extraction.momentRow
 row-end {v} {row} {b} {x} r h =
     let e : x ≡ 16 = omega (arith, r .within) in
     r .sums ∙ ap (λ k. listed 16 (momentUpTo v b k)) e
@@ -87,7 +89,7 @@ other-dropped (suc i) a n = refl
 module _ (ms : List (List ℕ)) (i j : ℕ) where
   pub symbol-from : {y z u : ℕ} → y ≡ atZero i (getD (getD ms 0 []) 0 0) → z ≡ atZero i (getD (getD ms (3 - j) []) 0 0)
       → u ≡ atZero j (bitXor (getD (getD ms 0 []) (15 - i) 0) y) → bitXor (getD (getD ms (3 - j) []) (15 - i) 0) (bitXor z u) ≡ momentSymbol ms i j
-  unfolding momentSymbol
+  unfolding Extraction.momentSymbol
   symbol-from e f g =
       ap₂ (λ a b. bitXor (getD (getD ms (3 - j) []) (15 - i) 0) (bitXor a b)) f
       (g ∙ ap (λ a. atZero j (bitXor (getD (getD ms 0 []) (15 - i) 0) a)) e)
@@ -95,17 +97,12 @@ module _ (ms : List (List ℕ)) (i j : ℕ) where
 -- a term of a sum over four places
 pub fibre-entry : (v : List ℕ) (b x r : ℕ) {y p t : ℕ} → y ≡ yOf (x * 4 + r) → p ≡ power y b → t ≡ times (getD v (x * 4 + r) 0) p
     → t ≡ fibreTerm v b x r
-unfolding fibreTerm
+unfolding Extraction.fibreTerm
 fibre-entry v b x r e f g = g ∙ ap (times (getD v (x * 4 + r) 0)) (f ∙ ap (λ a. power a b) e)
 
 -- ---- the message read off the moments
-pub order-fits : (t : ℕ) {o : ℕ} → o ≡ orderOf 4 (t % 58) → Present 4 o × (o < 64)
-order-fits t {o} e =
-    let p : Present 4 o = subst (Present 4) (sym e) (orderOf-present 4 (lit≤ tt) (t % 58)) in
-    (p, omega (arith, order-below (t % 58) (omega arith)))
-
-pub message-entry : (v : List ℕ) (t : ℕ) {ms : List (List ℕ)} {o s : ℕ} → t < 58 → ms ≡ momentsOf v → o ≡ orderOf 4 (t % 58)
+pub message-entry : (v : List ℕ) (t : ℕ) {ms : List (List ℕ)} {o s : ℕ} → t < longest → ms ≡ momentsOf v → o ≡ orderOf 4 (t % longest)
     → s ≡ momentSymbol ms (o / 4 - o % 4) (o % 4) → s ≡ messageAt v t
-unfolding messageAt extractedAt
+unfolding Extraction.messageAt Extraction.extractedAt
 message-entry v t {ms} {o} h e f g =
-    g ∙ ap₂ (λ x k. momentSymbol x (k / 4 - k % 4) (k % 4)) e (f ∙ ap (orderOf 4) (mod-eq-of-lt h)) ∙ symbol-in v _ _
+    g ∙ ap₂ (λ x k. momentSymbol x (k / 4 - k % 4) (k % 4)) e (f ∙ ap (orderOf 4) (mod-eq-of-lt h)) ∙ symbol-in m16 v _ _

@@ -6,7 +6,9 @@ ghost use lib.ListN.{length};
 ghost use Rattle.lists.specs.Listed.{listed};
 ghost use Rattle.hermitian.specs.Present.{Present};
 ghost use Rattle.curve.specs.Curve.{power};
-ghost use Rattle.code.specs.Extraction.{atZero, extractOf, fibreSum, momentRow, momentsOf, momentSymbol};
+ghost use Rattle.code.specs.Rates.{longest};
+ghost use Rattle.code.specs.Extraction.{extractOf, fibreSum, momentRow, momentsOf, momentSymbol};
+ghost use Rattle.family.specs.Extraction.{atZero};
 ghost use Rattle.reading_back.specs.Lanes.{timesPlus};
 ghost use Rattle.code.specs.Calls.{outcome, readBackCall};
 use curve::y_at;
@@ -131,7 +133,7 @@ fn symbol(moments: [[u8; 16]; 4], order: usize) -> u8
 // The message of the longest rate that the word's moments show.
 fn extracted(word: &[u8]) -> [u8; 58]
     requires { ⌜ length (now word) ≡ 64 ⌝ }
-    ensures { λ r. ⌜ r ≡ extractOf 58 (now (word .entry)) ⌝ }
+    ensures { λ r. ⌜ r ≡ extractOf longest (now (word .entry)) ⌝ }
 {
     let moments = moments(word);
     let mut out = [0u8; 58];

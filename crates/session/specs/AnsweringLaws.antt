@@ -12,7 +12,7 @@ use lib.ListN.{length, take}
 use borrow.Author.Tests.{le-leb, lt-leb}
 use Rattle.refusals.specs.Refusal.{accepted, wrongSize, placeMissing}
 use Rattle.soft.specs.Column.{symbols, columnOf}
-use Rattle.near.specs.Near.{mOf}
+use Rattle.near.specs.Here.{mOf}
 use Rattle.interpolant.specs.LeastQ.{readingOf}
 use Rattle.book.specs.Book.{places}
 use Rattle.book.specs.Writing.{Filled}

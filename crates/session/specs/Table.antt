@@ -19,7 +19,7 @@ use Rattle.lists.specs.Distinct.{among, below-among}
 use Rattle.lists.specs.Block.{block, block-length, block-at}
 use Rattle.soft.specs.Column.{symbols, bestOf, columnOf}
 use Rattle.soft.specs.ColumnLaws.{column-length, cost-column}
-use Rattle.code.specs.Nodes.{node}
+use Rattle.family.specs.Nodes.{node}
 use Rattle.book.specs.Book.{places, width, someMissing}
 use Rattle.book.specs.Columns.{columnsOf, columns-taken, columns-none, column-free}
 use Rattle.book.specs.Reading.{isSettled, settledAt}

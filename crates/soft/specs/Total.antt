@@ -6,10 +6,11 @@
 --   pinnedOf n columns word    the pinned places: how many of these costs are at the ceiling (saturated)
 --   changedOf n columns word   the changed places (where the hard decision is overruled): where the word's symbol is not the best symbol
 --   agree u v p                the words have equal entries at place p, and neither lacks one
---   differing n u v            in how many of n places two words differ; a missing entry differs
+--   differingIn counts n u v   in how many of n places, of those that count, two words differ; a missing entry differs
+--   differing n u v            the same where every place counts
 --   bytesOf n v                v in n bytes, high byte first
 --   reportOf total tests pinned changed   the report's eight bytes
-use mathlib.Core.Bool.{Bool, not, _&&_}
+use mathlib.Core.Bool.{Bool, true, not, _&&_}
 use mathlib.Core.List.{List, [], _∷_, _++_}
 use Prim.Native.Nat.{ℕ, zero, suc, _/_, _%_}
 use lib.Dec.{ltb, eqb}
@@ -44,8 +45,15 @@ agree u v p = ltb p (length u) && (ltb p (length v) && eqb (symbolAt u p) (symbo
 abbrev pub differAt : List ℕ → List ℕ → ℕ → Bool
 differAt u v p = not (agree u v p)
 
-unfoldable pub differing : ℕ → List ℕ → List ℕ → ℕ
-differing n u v = count n (differAt u v)
+-- every place counts
+abbrev pub everywhere : ℕ → Bool
+everywhere p = true
+
+unfoldable pub differingIn : (ℕ → Bool) → ℕ → List ℕ → List ℕ → ℕ
+differingIn counts n u v = count n (λ p. counts p && differAt u v p)
+
+abbrev pub differing : ℕ → List ℕ → List ℕ → ℕ
+differing n u v = differingIn everywhere n u v
 
 unfoldable pub bytesOf : ℕ → ℕ → List ℕ
 bytesOf zero v = []

@@ -23,7 +23,7 @@ use borrow.Author.Tests.{lt-ltb, eq-eqb, ne-eqb, not-false}
 use Rattle.lists.specs.Count.{bit, sumOf-suc, sumOf-ext, sumOf-mono, sumOf-plus, sumOf-bound, count, count-nil, count-suc, count-ext, count-le, count-none, count-zero}
 use Rattle.soft.specs.Column.{costOf, bestOf, ceiling}
 use Rattle.soft.specs.TestWord.{bestAt, bestWord}
-use Rattle.soft.specs.Total.{symbolAt, costIn, totalOf, pinnedAt, pinnedOf, changedAt, changedOf, agree, differAt, differing, bytesOf, reportOf}
+use Rattle.soft.specs.Total.{symbolAt, costIn, totalOf, pinnedAt, pinnedOf, changedAt, changedOf, agree, differAt, differingIn, differing, bytesOf, reportOf}
 use Rattle.soft.specs.TestWordLaws.{bestWord-length, bestWord-at}
 
 module _ (columns : ℕ → List ℕ) (word : List ℕ) where
@@ -93,7 +93,7 @@ unfolding agree
 agree-false u v p lu lv e = simp (lt-ltb p (length u) lu, lt-ltb p (length v) lv, ne-eqb (symbolAt u p) (symbolAt v p) e)
 
 pub differing-le : (n : ℕ) (u v : List ℕ) → differing n u v ≤ n
-unfolding differing
+unfolding differingIn
 differing-le n u v = count-le n (differAt u v)
 
 both-true : (a b : Bool) → T (a && b) → T a × T b
@@ -146,18 +146,18 @@ agree-comm u v p =
     (decide (agree u v p))
 
 pub differing-self : (n : ℕ) (u : List ℕ) → n ≤ length u → differing n u u ≡ 0
-unfolding differing
+unfolding differingIn
 differing-self n u l = count-none n (differAt u u) (λ p k. ap not (agree-true u u p (omega arith) (omega arith) refl))
 
-pub differing-comm : (n : ℕ) (u v : List ℕ) → differing n u v ≡ differing n v u
-unfolding differing
-differing-comm n u v = count-ext n (differAt u v) (differAt v u) (λ p l. ap not (agree-comm u v p))
+pub differing-comm : (counts : ℕ → Bool) (n : ℕ) (u v : List ℕ) → differingIn counts n u v ≡ differingIn counts n v u
+unfolding differingIn
+differing-comm counts n u v = count-ext n _ _ (λ p l. ap (λ b. counts p && not b) (agree-comm u v p))
 
-pub differing-triangle : (n : ℕ) (u v w : List ℕ) → differing n u w ≤ differing n u v + differing n v w
-unfolding differing count
-differing-triangle n u v w =
-    let m = sumOf-mono n (λ p. bit (differAt u w p)) (λ p. bit (differAt u v p) + bit (differAt v w p)) (λ p l. at p) in
-    omega (arith, m, sumOf-plus n (λ p. bit (differAt u v p)) (λ p. bit (differAt v w p)))
+pub differing-triangle : (counts : ℕ → Bool) (n : ℕ) (u v w : List ℕ) → differingIn counts n u w ≤ differingIn counts n u v + differingIn counts n v w
+unfolding differingIn count
+differing-triangle counts n u v w =
+    let m = sumOf-mono n (λ p. bit (counts p && differAt u w p)) (λ p. bit (counts p && differAt u v p) + bit (counts p && differAt v w p)) (λ p l. counted (counts p) p) in
+    omega (arith, m, sumOf-plus n (λ p. bit (counts p && differAt u v p)) (λ p. bit (counts p && differAt v w p)))
   where
     third : (a b c : Bool) → (T a → T b → T c) → bit (not c) ≤ bit (not a) + bit (not b)
     third a b true h = omega arith
@@ -170,9 +170,13 @@ differing-triangle n u v w =
         third (agree u v p) (agree v w p) (agree u w p)
         (λ a b. subst T (sym (facts-agree u w p (agree-trans u v w p (agree-facts u v p a) (agree-facts v w p b)))) tt)
 
+    counted : (c : Bool) (p : ℕ) → bit (c && differAt u w p) ≤ bit (c && differAt u v p) + bit (c && differAt v w p)
+    counted true p = at p
+    counted false p = omega arith
+
 -- words of n places that differ nowhere are equal
 pub differing-none : (n : ℕ) (u v : List ℕ) → length u ≡ n → length v ≡ n → differing n u v ≡ 0 → u ≡ v
-unfolding differing
+unfolding differingIn
 differing-none n u v lu lv e =
     ext-getD 0 u v (lu ∙ sym lv)
     (λ p l. agree-facts u v p (subst T (sym (not-false (agree u v p) (count-zero n (differAt u v) e p (omega arith)))) tt) .same)
@@ -180,7 +184,7 @@ differing-none n u v lu lv e =
 -- the changed places of a word of n places are those in which it differs from the word of best symbols
 pub changed-differing : (n : ℕ) (columns : ℕ → List ℕ) (word : List ℕ) → length word ≡ n
     → changedOf n columns word ≡ differing n word (bestWord n columns)
-unfolding changedOf differing
+unfolding changedOf differingIn
 changed-differing n columns word l = count-ext n (changedAt columns word) (differAt word (bestWord n columns)) (λ p k. ap not (at p k))
   where
     best : (p : ℕ) → p < n → bestAt columns p ≡ symbolAt (bestWord n columns) p

@@ -14,12 +14,14 @@ use Rattle.basis.specs.Choice.{leadAt}
 use Rattle.basis.specs.Step.{rowAt}
 use Rattle.interpolation.specs.Polynomial.{polynomials}
 use Rattle.interpolation.specs.Extending.{Extends}
-use Rattle.code.specs.Nodes.{node, ThroughNodes}
+use Rattle.code.specs.Nodes.{ThroughNodes}
+use Rattle.family.specs.Nodes.{node}
 use Rattle.soft.specs.TestWord.{bestAt, secondAt, expand}
 use Rattle.soft.specs.TestWordLaws.{expand-nil, expand-cons}
-use Rattle.near.specs.Near.{mOf}
-use Rattle.near.specs.Interpolated.{limitOf}
-use Rattle.near.specs.Tree.{Places, places-cons, Decided, decided-step, decided-through, tree-spent}
+use Rattle.near.specs.Here.{mOf, reachOf, limitOf, Places, Decided}
+use Rattle.soft.specs.Total.{everywhere}
+use Rattle.family.specs.Member.{m16}
+use Rattle.near.specs.Tree.{places-cons, decided-step, decided-through, tree-spent}
 use Rattle.answers.specs.declared.Found.{Found}
 use Rattle.answers.specs.Result.{nothingFound}
 use Rattle.answers.specs.Nearest.{Nearest, nearest-nothing}
@@ -30,6 +32,8 @@ use Rattle.answers.specs.Better.{betterOf, better-tests, better-joins}
 use Rattle.known.specs.Known.{governsOf, WithinOf, belowOf}
 use Rattle.known.specs.Left.{places-rest, split-places, twice}
 use Rattle.known.specs.Governing.{governs-all, below-tests, governed-nearest}
+use Rattle.near.specs.Near as Near
+use Rattle.hermitian.specs.Present.{genus}
 
 -- the class of least lead, one more class
 pub lowest-turn : (leads : List ℕ) (q r p : ℕ) → p < 8 → leadAt leads p ≤ leadAt leads r → leadAt leads p ≤ leadAt leads q → Lowest leads q r
@@ -51,7 +55,7 @@ module _ {k : ℕ} (rate : Ranged k) (columns : ℕ → List ℕ) (word ps : Lis
       record {
         few = omega arith;
         finds = λ R P.
-            nearest-nothing (tree-spent (workable rate) columns (R .decided) (R .basis) (λ r h. omega (arith, L-is, low .lowest r h)) .1);
+            nearest-nothing (tree-spent m16 everywhere (reachOf k) (workable rate) columns (R .decided) (omega arith) (R .basis) (λ r h. omega (arith, L-is, low .lowest r h)) .1);
       }
 
   pub node-leaf : (f : Found) → left ≡ 0 → ps ≡ [] → leadAt leads class ≤ L → LeafOf k columns word (getD rows class []) f
@@ -66,7 +70,7 @@ module _ {k : ℕ} (rate : Ranged k) (columns : ℕ → List ℕ) (word ps : Lis
             subst (λ q. Nearest k columns (expand columns word q) f) (sym end)
             (subst (λ ts. Nearest k columns ts f) (sym (expand-nil columns word))
             (leaf .finds
-            (record { lead = leadAt leads class; through = decided-through (mOf k) D .0 _ (h .member); leads = h .leads; unspent = omega (arith, L-is) })));
+            (record { lead = leadAt leads class; through = decided-through m16 everywhere (mOf k) D .0 _ (h .member); leads = h .leads; unspent = omega (arith, L-is) })));
       }
 
 -- one branch: the place is decided with the symbol, by a codeword that is known or by one more node
@@ -86,11 +90,11 @@ module _ {k : ℕ} (rate : Ranged k) (columns : ℕ → List ℕ) (word : List �
 
   module _ (L : ℕ) (L-is : L ≡ limitOf k) (rows′ : List (List ℕ)) (leads′ : List ℕ) (E : Extends L place symbol rows leads rows′ leads′) where
     next-ready : Ready k word (place ∷ ps) rows leads → Places (place ∷ ps) → Ready k (set word place symbol) ps rows′ leads′
-    unfolding mOf
+    unfolding Near.mOf genus
     next-ready R (places-cons h fresh P) =
         record {
           nodes = node place symbol ∷ R .nodes;
-          decided = decided-step symbol size h fresh (R .decided);
+          decided = decided-step m16 everywhere symbol size h tt fresh (R .decided);
           basis =
               subst (λ l. Basis K16 8 l (ThroughNodes (mOf k) (node place symbol ∷ R .nodes)) (polynomials (mOf k) rows′) (leadAt leads′)) L-is
               (E .basis (mOf k) (omega (arith, rate .least)) (R .nodes)

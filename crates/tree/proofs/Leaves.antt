@@ -6,8 +6,9 @@ use Prim.Native.Nat.{ℕ, _<_, _≤_}
 use native.Mathlib.Omega.{arith}
 use lib.ListN.{take}
 use Rattle.lists.specs.Count.{bit}
-use Rattle.soft.specs.Total.{differing, totalOf}
-use Rattle.near.specs.Near.{reachOf, codewordNear, isSome, testsNear, messageCost}
+use Rattle.soft.specs.Total.{everywhere, differing, totalOf}
+use Rattle.near.specs.Here.{repairable, reachOf, codewordNear, testsNear, messageCost}
+use Rattle.near.specs.Near.{isSome}
 use Rattle.near.specs.Laws.{answer-one, tests-cons, tests-nil}
 use Rattle.answers.specs.declared.Answer.the-variants.{Near}
 use Rattle.answers.specs.declared.Found.{Found}
@@ -18,18 +19,20 @@ use Rattle.candidate.specs.declared.Candidate.{Candidate}
 use Rattle.candidate.specs.Ranged.{Ranged, workable}
 use Rattle.candidate.specs.Candidate.{CandidateOf, candidate-near, candidate-far}
 use Rattle.tree.specs.Searching.{LeafOf}
+use Rattle.family.specs.Member.{m16}
+use Rattle.near.specs.Near as Near
 
 module _ {k : ℕ} (rate : Ranged k) (columns : ℕ → List ℕ) (word row : List ℕ) (held : Candidate) (C : CandidateOf k row held) (d : ℕ)
     (d-is : d ≡ differing 64 (held .codeword) word) (r : ℕ) (r-is : r ≡ reachOf k) where
   one-count : (o : Option (List ℕ)) → codewordNear k word ≡ o → testsNear k (word ∷ []) ≡ bit (isSome o)
-  one-count o e = tests-cons k word [] ∙ omega (arith, tests-nil k, ap (λ x. bit (isSome x)) e)
+  one-count o e = tests-cons m16 everywhere (reachOf k) k word [] ∙ omega (arith, tests-nil m16 everywhere (reachOf k) k, ap (λ x. bit (isSome x)) e)
 
   pub leaf-none : r < d → LeafOf k columns word row nothingFound
   unfolding nothingFound
   leaf-none far =
       record {
         few = omega arith;
-        finds = λ h. nearest-nothing (answer-one (workable rate) columns word ∙ candidate-far C word h (omega arith));
+        finds = λ h. nearest-nothing (answer-one m16 everywhere (reachOf k) (workable rate) (repairable (workable rate)) columns word ∙ candidate-far C word h (omega arith));
       }
 
   module _ (total : ℕ) (t-is : total ≡ totalOf 64 columns (held .codeword)) where
@@ -37,7 +40,7 @@ module _ {k : ℕ} (rate : Ranged k) (columns : ℕ → List ℕ) (word row : Li
     answered = record { answer = Near total; message = held .message; codeword = held .codeword; tests = 1 }
 
     cost-is : total ≡ messageCost k columns (take k (held .message))
-    unfolding messageCost
+    unfolding Near.messageCost
     cost-is = t-is ∙ ap (totalOf 64 columns) (C .encoded)
 
     pub leaf-sound : Sound k columns answered
@@ -56,5 +59,5 @@ module _ {k : ℕ} (rate : Ranged k) (columns : ℕ → List ℕ) (word row : Li
           few = omega arith;
           finds = λ h.
               let c = candidate-near C word h (omega arith) in
-              nearest-some answered total refl (one-count _ c) (answer-one (workable rate) columns word ∙ c) cost-is;
+              nearest-some answered total refl (one-count _ c) (answer-one m16 everywhere (reachOf k) (workable rate) (repairable (workable rate)) columns word ∙ c) cost-is;
         }

@@ -13,11 +13,10 @@ use Rattle.galois.specs.Field16.{K16}
 use Rattle.basis.specs.Choice.{leadAt}
 use Rattle.basis.specs.Step.{classes}
 use Rattle.interpolation.specs.Polynomial.{polynomials}
-use Rattle.code.specs.Nodes.{Node, ThroughNodes}
+use Rattle.code.specs.Nodes.{ThroughNodes}
+use Rattle.family.specs.Nodes.{Node}
 use Rattle.soft.specs.TestWord.{expand}
-use Rattle.near.specs.Near.{mOf}
-use Rattle.near.specs.Interpolated.{limitOf}
-use Rattle.near.specs.Tree.{Places, Decided}
+use Rattle.near.specs.Here.{mOf, limitOf, Places, Decided}
 use Rattle.answers.specs.declared.Found.{Found}
 use Rattle.answers.specs.Nearest.{Nearest}
 use Rattle.candidate.specs.Candidate.{Held}

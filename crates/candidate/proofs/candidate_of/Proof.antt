@@ -1,9 +1,11 @@
 -- The message by division, and its codeword.
 use Rattle.candidate.proofs.Quotient.{candidate-made}
-use Rattle.near.specs.Near.{mOf}
+use Rattle.near.specs.Here.{mOf}
 use borrow.Author.Needs.{needs}
 use Rattle.candidate.proofs.candidate_of.Statement.{statement}
 use Rattle.candidate.proofs.candidate_of.Tie as tie
+use Rattle.near.specs.Near as Near
+use Rattle.hermitian.specs.Present.{genus}
 
 without-z-requires : tie.Need-without-z-requires
 without-z-requires c κs = search needs
@@ -15,7 +17,7 @@ top-order-requires : tie.Need-top-order-requires
 top-order-requires c κs = search needs
 
 divide-requires : tie.Need-divide-requires
-unfolding mOf
+unfolding Near.mOf genus
 divide-requires c κs = search needs
 
 message-of-requires : tie.Need-message-of-requires

@@ -3,7 +3,7 @@ use mathlib.Core.Path.{_≡_, subst}
 use Prim.Native.Nat.{_≤_, _-_, _<_}
 use native.Mathlib.Omega.{arith}
 use lib.ListN.{length, take}
-use Rattle.near.specs.Tree.{Places}
+use Rattle.near.specs.Here.{Places}
 use Rattle.chase.specs.Places.{Flagged}
 use Rattle.chase.proofs.Settling.{flag-start, flag-turn, place-small}
 use borrow.Author.Needs.{needs}

@@ -7,6 +7,7 @@ use Rattle.code.specs.Evaluation.{coefficientOf, functionOf}
 use borrow.Author.Needs.{needs}
 use Rattle.encoding.proofs.function_of.Statement.{statement}
 use Rattle.encoding.proofs.function_of.Tie as tie
+use Rattle.family.specs.Evaluation as Evaluation
 
 abbrev Inv-loop : tie.InvT-loop
 Inv-loop message out₀ order₀ out order = Filled (replicate 64 0) (coefficientOf message) order out
@@ -33,7 +34,7 @@ loop-again : tie.Need-loop-again Inv-loop μ-loop
 loop-again c = filled-turn 0 (c .before .before .loop .inv) _ (search needs) (c .coefficient .ensures)
 
 returns : tie.Need-returns Inv-loop μ-loop
-unfolding functionOf
+unfolding Evaluation.functionOf
 returns c = filled-end 0 (c .before .loop .inv) 64 refl (c .loop-test .left)
 
 pub function-of-spec : {M : Type 1} → statement M

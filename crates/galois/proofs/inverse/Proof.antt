@@ -15,7 +15,7 @@ array-read-result : tie.Need-array-read-result
 array-read-result c = search needs
 
 returns : tie.Need-returns
-unfolding listed inverse Binary.inverse Binary.power Binary.times Binary.shiftAdd Binary.xtime
+unfolding listed Binary.inverse Binary.power Binary.times Binary.shiftAdd Binary.xtime
 returns c = listed-at 16 _ inverse 0 (array-read-result c) ∙ inverse-mod (c .args .a)
 
 pub inverse-spec : {M : Type 1} → statement M

@@ -34,7 +34,7 @@ array-read-result : tie.Need-array-read-result
 array-read-result c = search needs
 
 returns : tie.Need-returns
-unfolding listed entry times Binary.times Binary.shiftAdd Binary.xtime
+unfolding listed entry Binary.times Binary.shiftAdd Binary.xtime
 returns c = entry-at (c .args .a) (c .args .b) (array-read-result c) (omega arith) (omega arith)
 
 pub product-by-table-spec : {M : Type 1} → statement M

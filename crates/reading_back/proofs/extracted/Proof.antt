@@ -4,10 +4,12 @@ use Prim.Native.Nat.{_-_}
 use lib.ListN.{replicate}
 use Rattle.lists.specs.Filled.{Filled, filled-start, filled-turn, filled-end}
 use Rattle.code.specs.Extraction.{messageAt, momentsOf, extractOf}
-use Rattle.reading_back.proofs.Turns.{order-fits, message-entry}
+use Rattle.reading_back.proofs.Turns.{message-entry}
+use Rattle.code.specs.Rates.{order-fits}
 use borrow.Author.Needs.{needs}
 use Rattle.reading_back.proofs.extracted.Statement.{statement}
 use Rattle.reading_back.proofs.extracted.Tie as tie
+use Rattle.family.specs.Extraction as Extraction
 
 abbrev Inv-loop : tie.InvT-loop
 Inv-loop word moments out₀ t₀ out t = (moments ≡ momentsOf word) × Filled (replicate 58 0) (messageAt word) t out
@@ -42,7 +44,7 @@ loop-again c =
     (inv .0, filled-turn 0 (inv .1) _ (search needs) (message-entry _ _ (c .before .before .loop-test .taken) (inv .0) (c .before .order .ensures) (c .symbol .ensures)))
 
 returns : tie.Need-returns Inv-loop μ-loop
-unfolding extractOf
+unfolding Extraction.extractOf
 returns c = filled-end 0 (c .before .loop .inv .1) 58 refl (c .loop-test .left)
 
 pub extracted-spec : {M : Type 1} → statement M

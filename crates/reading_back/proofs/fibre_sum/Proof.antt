@@ -10,6 +10,7 @@ use Rattle.lists.specs.Summed.{Summed, summed-start, summed-turn, summed-end}
 use borrow.Author.Needs.{needs}
 use Rattle.reading_back.proofs.fibre_sum.Statement.{statement}
 use Rattle.reading_back.proofs.fibre_sum.Tie as tie
+use Rattle.family.specs.Extraction as Extraction
 
 abbrev Inv-loop : tie.InvT-loop
 Inv-loop word b x sum₀ r₀ sum r = (length word ≡ 64) × (x < 16) × Summed 4 (fibreTerm word b x) r sum
@@ -48,7 +49,7 @@ loop-again : tie.Need-loop-again Inv-loop μ-loop
 loop-again c = (search needs, search needs, summed-turn (c .before .before .before .before .before .loop .inv .2) (c .before .before .before .before .loop-test .taken) (fibre-entry _ _ _ _ (c .before .before .y-at .ensures ∙ ap yOf (mod-eq-of-lt (search needs))) (c .before .power .ensures) (c .product .ensures)))
 
 returns : tie.Need-returns Inv-loop μ-loop
-unfolding fibreSum
+unfolding Extraction.fibreSum
 returns c = summed-end (c .before .loop .inv .2) (c .loop-test .left)
 
 pub fibre-sum-spec : {M : Type 1} → statement M

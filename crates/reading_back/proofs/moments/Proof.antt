@@ -9,6 +9,7 @@ use Rattle.reading_back.proofs.Turns.{blank16}
 use borrow.Author.Needs.{needs}
 use Rattle.reading_back.proofs.moments.Statement.{statement}
 use Rattle.reading_back.proofs.moments.Tie as tie
+use Rattle.family.specs.Extraction as Extraction
 
 abbrev Inv-loop : tie.InvT-loop
 Inv-loop word rows₀ b₀ rows b = (length word ≡ 64) × Filled (replicate 4 blank16) (momentRow word) b rows
@@ -38,7 +39,7 @@ loop-again : tie.Need-loop-again Inv-loop μ-loop
 loop-again c = (search needs, filled-turn [] (c .before .before .loop .inv .1) _ (search needs) (c .moment-row .ensures))
 
 returns : tie.Need-returns Inv-loop μ-loop
-unfolding momentsOf
+unfolding Extraction.momentsOf
 returns c = filled-end [] (c .before .loop .inv .1) 4 refl (c .loop-test .left)
 
 pub moments-spec : {M : Type 1} → statement M

@@ -7,15 +7,16 @@ use lib.ListN.{length, take}
 use borrow.Author.Tests.{not-true, not-false}
 use Rattle.lists.specs.Over.{over-same}
 use Rattle.code.specs.Encoding.{knownRate, encodeOf}
-use Rattle.code.specs.Evaluation.{encode-length, encode-beyond}
+use Rattle.family.specs.Evaluation.{encode-length, encode-beyond}
 use Rattle.code.specs.Extraction.{extractOf}
 use Rattle.code.specs.Calls.{outcome}
 use denote.Ref.{now}
-use Rattle.code.specs.Rates.{known-small}
+use Rattle.code.specs.Rates.{longest, known-small}
 use Rattle.reading_back.proofs.Answers.{read-rate, read-word, read-buffer, read-symbol, read-refused, read-done, extract-take, extract-length}
 use borrow.Author.Needs.{needs}
 use Rattle.reading_back.proofs.read_back.Statement.{statement}
 use Rattle.reading_back.proofs.read_back.Tie as tie
+use Rattle.family.specs.Member.{m16}
 
 known-rate-requires : tie.Need-known-rate-requires
 known-rate-requires c κs = search needs
@@ -24,11 +25,11 @@ known-rate-requires c κs = search needs
 known : (c : tie.Else1) → knownRate (c .before .before .before .before .args .rate) ≡ true
 known c = sym (c .before .known-rate .ensures) ∙ not-false _ (c .if1 .left)
 
-few : (c : tie.Else4) → c .before .before .before .before .before .before .before .before .args .rate ≤ 58
+few : (c : tie.Else4) → c .before .before .before .before .before .before .before .before .args .rate ≤ longest
 few c = known-small _ (known (c .before .before .before .before))
 
-found-length : (c : tie.After-extracted) → length (c .extracted .result) ≡ 58
-found-length c = ap length (c .extracted .ensures) ∙ extract-length 58 _
+found-length : (c : tie.After-extracted) → length (c .extracted .result) ≡ longest
+found-length c = ap length (c .extracted .ensures) ∙ extract-length longest _
 
 -- what is lent to the encoder is the message of this rate
 prefix : (c : tie.After-extracted)
@@ -42,7 +43,7 @@ again : (c : tie.After-codeword-of)
     → c .codeword-of .result ≡ encodeOf (c .before .before .before .before .before .before .before .before .before .before .before .args .rate) (extractOf (c .before .before .before .before .before .before .before .before .before .before .before .args .rate) (now (c .before .before .before .before .before .before .before .before .before .before .before .args .word)))
 again c =
     let l = prefix-length (c .before .before) in
-    c .codeword-of .ensures ∙ encode-beyond 58 _ _ (omega (arith, few (c .before .before .before))) (omega arith) ∙ ap (encodeOf _) (prefix (c .before .before))
+    c .codeword-of .ensures ∙ encode-beyond m16 longest _ _ (omega (arith, few (c .before .before .before))) (omega arith) ∙ ap (encodeOf _) (prefix (c .before .before))
 
 returns : tie.Need-returns
 returns c = read-rate _ _ _ (sym (c .before .known-rate .ensures) ∙ not-true _ (c .if1 .taken))
@@ -72,10 +73,10 @@ codeword-of-requires : tie.Need-codeword-of-requires
 codeword-of-requires c κs = search needs
 
 slice-aggregate-same : tie.Need-slice-aggregate-same
-slice-aggregate-same c = sym (ap length (again (c .before)) ∙ encode-length _ _)
+slice-aggregate-same c = sym (ap length (again (c .before)) ∙ encode-length m16 _ _)
 
 same-requires : tie.Need-same-requires
-same-requires c κs = ap length (again (c .before)) ∙ encode-length _ _ ∙ sym (c .before .before .before .before .before .before .before .if2 .left)
+same-requires c κs = ap length (again (c .before)) ∙ encode-length m16 _ _ ∙ sym (c .before .before .before .before .before .before .before .if2 .left)
 
 returns-5 : tie.Need-returns-5
 returns-5 c =

@@ -1,23 +1,25 @@
 -- The two roundings are the same.
 use native.Mathlib.Omega.{arith}
-use Rattle.near.specs.Near.{mOf, reachOf}
+use Rattle.near.specs.Here.{mOf, reachOf}
 use borrow.Author.Needs.{needs}
 use Rattle.candidate.proofs.rate.reach.Statement.{statement}
 use Rattle.candidate.proofs.rate.reach.Tie as tie
+use Rattle.near.specs.Near as Near
+use Rattle.hermitian.specs.Present.{genus}
 
 least-distance-requires : tie.Need-least-distance-requires
 least-distance-requires c κs = search needs
 
 sub-result : tie.Need-sub-result
-unfolding mOf reachOf
+unfolding Near.mOf genus Near.reachOf
 sub-result c = omega arith
 
 sub-result-2 : tie.Need-sub-result-2
-unfolding mOf reachOf
+unfolding Near.mOf genus Near.reachOf
 sub-result-2 c = omega arith
 
 returns : tie.Need-returns
-unfolding mOf reachOf
+unfolding Near.mOf genus Near.reachOf
 returns c = omega arith
 
 pub reach-spec : {M : Type 1} → statement M

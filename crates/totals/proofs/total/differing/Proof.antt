@@ -5,7 +5,7 @@ use Prim.Native.Nat.{_≤_, _-_}
 use native.Mathlib.Omega.{arith}
 use borrow.Author.Needs.{needs}
 use Rattle.lists.specs.Count.{bit, count, count-nil, count-turn}
-use Rattle.soft.specs.Total.{differAt, differing}
+use Rattle.soft.specs.Total.{differAt, differingIn}
 use Rattle.totals.proofs.total.differing.Statement.{statement}
 use Rattle.totals.proofs.total.differing.Tie as tie
 
@@ -42,7 +42,7 @@ loop-again c = (
 )
 
 returns : tie.Need-returns Inv-loop μ-loop
-unfolding differing
+unfolding differingIn
 returns c =
     let e : c .before .loop .place ≡ 64 = omega arith in
     rw e at (c .before .loop .inv .2)

@@ -1,0 +1,9 @@
+pub mod Curve
+pub mod Sums
+pub mod Member
+pub mod Points
+pub mod Encoding
+pub mod Evaluation
+pub mod Extraction
+pub mod Laws
+pub mod Nodes

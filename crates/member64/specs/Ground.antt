@@ -1,0 +1,59 @@
+-- What the family says of GF(64) with w = 8: 512 places. Nothing is proved here but the numbers.
+--
+--   genus-8        the genus is 28
+--   places-512     the 512 places are different points of the curve; every-place: and every point is one of them
+--   workable-512   rates from 28 to 456 have a T
+--   reaches-512    T = 83 at rate 289, where M = 316, and T = 23 at rate 409, where M = 436
+--   apart-512      the codewords of different messages differ in at least 512 − M places
+--   read-512       reading back gives the message of every codeword, at every rate up to 484
+--   near-512       at most one message has its codeword within T of a word
+use mathlib.Core.Path.{_≡_, refl}
+use mathlib.Core.List.{List}
+use mathlib.Core.Option.{some}
+use Prim.Native.Nat.{ℕ, _+_, _<_, _≤_}
+use native.Mathlib.Omega.{arith}
+use lib.Dec.{T}
+use Rattle.lists.specs.Words.{Word}
+use Rattle.lists.specs.Answers.{Found}
+use Rattle.galois.specs.BinaryField.{K}
+use Rattle.hermitian.specs.Present.{genus}
+use Rattle.hermitian.specs.Points.{Points}
+use Rattle.soft.specs.Total.{everywhere, differing}
+use Rattle.family.specs.Curve.{isOnCurve, xOf, yOf}
+use Rattle.family.specs.Member.{px, py}
+use Rattle.family.specs.Points.{points, every-point}
+use Rattle.family.specs.Encoding.{encodeOf, readBackOf}
+use Rattle.family.specs.Laws.{read-encoded}
+use Rattle.near.specs.Near.{mOf, reachOf, nearTo}
+use Rattle.near.specs.Reach.{Workable, count-everywhere, radius}
+use Rattle.near.specs.Distance.{codewords-apart}
+use Rattle.near.specs.Codeword.{near-one}
+use Rattle.member64.specs.Member64.{gf64, m64}
+
+pub genus-8 : genus 8 ≡ 28
+unfolding genus
+genus-8 = refl
+
+pub places-512 : Points (K gf64) 8 512 (px m64) (py m64)
+places-512 = points m64
+
+pub every-place : (x y : ℕ) → x < 64 → y < 64 → T (isOnCurve gf64 8 x y) → (p : ℕ) × (p < 512) × (xOf 8 p ≡ x) × (yOf gf64 8 p ≡ y)
+every-place = every-point m64
+
+pub workable-512 : {k : ℕ} → 28 ≤ k → k ≤ 456 → Workable m64 k
+workable-512 l h = record { least = omega (arith, genus-8); most = omega (arith, genus-8) }
+
+pub reaches-512 : (mOf m64 289 ≡ 316) × (reachOf m64 289 ≡ 83) × (mOf m64 409 ≡ 436) × (reachOf m64 409 ≡ 23)
+unfolding reachOf mOf genus
+reaches-512 = (refl, refl, refl, refl)
+
+pub apart-512 : {k : ℕ} → Workable m64 k → {m n : List ℕ} → Word 64 k m → Word 64 k n → (m ≡ n → ⊥)
+    → 512 ≤ mOf m64 k + differing 512 (encodeOf m64 k m) (encodeOf m64 k n)
+apart-512 rate u v other = omega (arith, count-everywhere 512, codewords-apart m64 everywhere rate u v other)
+
+pub read-512 : (k : ℕ) → k ≤ 484 → (m : List ℕ) → Word 64 k m → readBackOf m64 k (encodeOf m64 k m) ≡ some m
+read-512 k most = read-encoded m64 k (omega (arith, genus-8))
+
+pub near-512 : {k : ℕ} → Workable m64 k → (word : List ℕ) {m n : List ℕ} → Found 64 k (nearTo m64 everywhere (reachOf m64 k) k word) m
+    → Found 64 k (nearTo m64 everywhere (reachOf m64 k) k word) n → m ≡ n
+near-512 {k} rate word = near-one m64 everywhere (reachOf m64 k) rate word (radius m64 rate)

@@ -1,0 +1,2 @@
+pub mod Member64
+pub mod Ground
