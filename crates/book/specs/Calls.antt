@@ -5,11 +5,10 @@
 --   firstLent, secondLent   the buffers as they are lent
 --   answer book call     what the book answers to a call
 --   after book call      the book after it: only an accepted delivery changes it
---   answers, afterAll    the same of a list of calls, each of which finds the book that the call before it left
---   answers-nil, answers-cons, after-nil, after-cons   call by call
-use mathlib.Core.Path.{_≡_, refl}
-use mathlib.Core.List.{List, [], _∷_}
+--   answers, afterAll    the same of a list of calls, each of which finds the book that the call before it left (Machine)
+use mathlib.Core.List.{List, []}
 use Prim.Native.Nat.{ℕ}
+use Rattle.book.specs.Machine.{answersBy, afterBy}
 use Rattle.book.specs.Book.{Book}
 use Rattle.book.specs.Delivery.{deliverOf}
 use Rattle.book.specs.Reading.{readOf}
@@ -57,27 +56,8 @@ after book (reading out) = book
 after book (writing out) = book
 after book (closing message report) = book
 
-unfoldable pub answers : Book → List Call → List Answer
-answers book [] = []
-answers book (call ∷ calls) = answer book call ∷ answers (after book call) calls
+abbrev pub answers : Book → List Call → List Answer
+answers book calls = answersBy answer after book calls
 
-unfoldable pub afterAll : Book → List Call → Book
-afterAll book [] = book
-afterAll book (call ∷ calls) = afterAll (after book call) calls
-
-module _ (book : Book) where
-  pub answers-nil : answers book [] ≡ []
-  unfolding answers
-  answers-nil = refl
-
-  pub answers-cons : (call : Call) (calls : List Call) → answers book (call ∷ calls) ≡ answer book call ∷ answers (after book call) calls
-  unfolding answers
-  answers-cons call calls = refl
-
-  pub after-nil : afterAll book [] ≡ book
-  unfolding afterAll
-  after-nil = refl
-
-  pub after-cons : (call : Call) (calls : List Call) → afterAll book (call ∷ calls) ≡ afterAll (after book call) calls
-  unfolding afterAll
-  after-cons call calls = refl
+abbrev pub afterAll : Book → List Call → Book
+afterAll book calls = afterBy after book calls

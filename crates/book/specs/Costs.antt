@@ -12,7 +12,7 @@
 --   new-costs, after-costs an opened session's row, and the row that such a list of calls leaves
 use mathlib.Core.Bool.{Bool, true, false}
 use mathlib.Core.Path.{_≡_, refl, sym, subst}
-use mathlib.Core.List.{List, [], _∷_, List·Memᴰ, List·Memᴰ·cases-cons, List·Memᴰ·append-cases, List·Memᴰ·eq-of-singleton, List·Memᴰ·not-nil}
+use mathlib.Core.List.{List, List·Memᴰ, List·Memᴰ·cases-cons, List·Memᴰ·append-cases, List·Memᴰ·eq-of-singleton, List·Memᴰ·not-nil}
 use mathlib.Core.Logic.{⊎-elim}
 use Prim.Native.Nat.{ℕ, zero, suc, _+_, _*_, _<_, _≤_}
 use native.Mathlib.Decide.{decLt}
@@ -23,6 +23,7 @@ use Rattle.lists.specs.Distinct.{below, below-at, below-take, below-drop}
 use Rattle.lists.specs.Listed.{listed-at}
 use Rattle.soft.specs.Column.{ceiling, costOf, pairAt, costFrom, costsFrom}
 use Rattle.soft.specs.ColumnLaws.{costs-length, table-column}
+use Rattle.book.specs.Machine.{afterBy, Each, fit-nil, fit-cons}
 use Rattle.book.specs.Book.{places, width, Entry, Book, newBook, taken, Outcome}
 use Rattle.book.specs.Delivery.{withEntry, deliverOf}
 use Rattle.book.specs.Columns.{columnsOf, columns-none, column-taken, column-free}
@@ -120,9 +121,8 @@ Fits (reading out) = Unit
 Fits (writing out) = Unit
 Fits (closing message report) = Unit
 
-pub data AllFit : List Call → Type 0 where
-  fit-nil : AllFit []
-  fit-cons : {call : Call} {calls : List Call} → Fits call → AllFit calls → AllFit (call ∷ calls)
+abbrev pub AllFit : List Call → Type 0
+AllFit calls = Each Fits calls
 
 entry-costs : (book : Book) (p : ℕ) (column : List ℕ) → RowColumns (book .row) → IsColumn column → RowColumns (withEntry book p column .row)
 unfolding withEntry
@@ -145,7 +145,7 @@ unfolding newBook
 new-costs rate list e m = absurd (List·Memᴰ·not-nil m)
 
 pub after-costs : (book : Book) {calls : List Call} → AllFit calls → RowColumns (book .row) → RowColumns (afterAll book calls .row)
-unfolding afterAll after
+unfolding afterBy after
 after-costs book fit-nil all = all
 after-costs book (fit-cons {call = deliver p column} c fit) all =
     after-costs (deliverOf book p column .book) fit (deliver-costs book p column all c)

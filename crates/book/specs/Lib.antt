@@ -1,3 +1,4 @@
+pub mod Machine
 pub mod Book
 pub mod Opening
 pub mod Delivery

@@ -48,6 +48,7 @@ use Rattle.interpolant.specs.LeastQ.{coefficient}
 use Rattle.interpolant.specs.Meaning.{IsLeastQ, Shown}
 use Rattle.interpolant.specs.Least.{leastQ-some}
 use Rattle.interpolant.specs.Reading.{reading-size, reading-plain, reading-z, missing-plain, missing-z, all-shown}
+use Rattle.book.specs.Machine.{answersBy, afterBy, part-held}
 use Rattle.book.specs.Book.{places, Entry, Book, newBook, columnIn, taken, someMissing, Outcome}
 use Rattle.book.specs.Opening.{fitDoubt, refusedOpening, openOf}
 use Rattle.book.specs.Delivery.{withEntry, deliverOf}
@@ -394,14 +395,10 @@ held book (writing out) = (refl, refl)
 held book (closing message report) = (refl, refl)
 
 pub rate-held : (book : Book) (calls : List Call) → afterAll book calls .rate ≡ book .rate
-unfolding afterAll
-rate-held book [] = refl
-rate-held book (call ∷ calls) = rate-held (after book call) calls ∙ held book call .0
+rate-held = part-held after (λ b. b .rate) (λ b call. held b call .0)
 
 pub list-held : (book : Book) (calls : List Call) → afterAll book calls .doubtful ≡ book .doubtful
-unfolding afterAll
-list-held book [] = refl
-list-held book (call ∷ calls) = list-held (after book call) calls ∙ held book call .1
+list-held = part-held after (λ b. b .doubtful) (λ b call. held b call .1)
 
 -- ---- 'opening an accepted capture counts as opening with its rate and list and then delivering its records in their order'
 
@@ -418,7 +415,7 @@ pub record CaptureOpens (bytes : List ℕ) : Type 0 where
 row-calls : (book : Book) (entries : List Entry) → deliverRow book entries .number ≡ accepted
     → (deliverRow book entries .book ≡ afterAll book (deliveries entries))
     × ((a : Answer) → List·Memᴰ a (answers book (deliveries entries)) → a .number ≡ accepted)
-unfolding deliveries answers afterAll answer after refusedOpening
+unfolding deliveries answersBy afterBy answer after refusedOpening
 row-calls book [] n = (ap (λ (o : Outcome). o .book) (row-none book), λ a m. absurd (List·Memᴰ·not-nil m))
 row-calls book (e ∷ entries) n =
     go (decLt (e .place) places) (taken (book .row) (e .place)) refl (row-calls (withEntry book (e .place) (e .column)) entries)

@@ -1,6 +1,7 @@
--- Runs: lists of calls, each made on the session that the one before it left.
+-- Runs: lists of calls, each made on the session that the one before it left (`book` Machine, of these sessions).
 --
 --   Run s calls given t     the calls are given these answers from the session s, and the session t is left
+--   faithful             steps from good sessions answer and leave as the book says
 --   every-run            from a good session the answers of every run are the book's
 --   run-good, run-book   the session left is good, and its book is the book after the calls
 --   one-end              so the calls determine the session left
@@ -9,13 +10,14 @@
 -- A run is made of steps, and `step` is the function that makes them: its contract says that every call it makes is one (Stepping). It is proved from
 -- the contracts of `session::deliver`, `reading::read_interpolant`, `writing::write_capture` and `closing::close`.
 use mathlib.Core.Bool.{Bool, true, false}
-use mathlib.Core.Path.{_≡_, refl, sym, ap, ap₂, _∙_}
-use mathlib.Core.List.{List, [], _∷_}
+use mathlib.Core.Path.{_≡_, refl, sym, ap, _∙_}
+use mathlib.Core.List.{List}
 use Prim.Native.Nat.{ℕ, _<_}
 use native.Mathlib.Decide.{decLt, ℕ-discrete}
 use native.Mathlib.Omega.{arith}
 use lib.ListN.{length, take}
 use Rattle.lists.specs.Distinct.{among}
+use Rattle.book.specs.Machine as machine
 use Rattle.book.specs.Book.{places, width, Book, someMissing}
 use Rattle.book.specs.ReadingLaws.{read-sized}
 use Rattle.book.specs.Writing.{Filled, writeOf}
@@ -25,7 +27,7 @@ use Rattle.book.specs.RoundTrip.{capture-length, write-size, write-missing, wri
 use Rattle.book.specs.ClosingLaws.{close-sized}
 use Rattle.book.specs.Calls.{Call, deliver, reading, writing, closing, Answer, firstLent, secondLent, answer, after, answers, afterAll}
 use Rattle.book.specs.Sentences.{refused-lent}
-use Rattle.book.specs.Costs.{Fits, AllFit, fit-nil, fit-cons}
+use Rattle.book.specs.Costs.{Fits, AllFit}
 use Rattle.session.specs.declared.Session.{Session}
 use Rattle.session.specs.declared.Delivered.{Delivered}
 use Rattle.session.specs.View.{bookOf, Good}
@@ -33,29 +35,23 @@ use Rattle.session.specs.Calls.{Delivery}
 use Rattle.session.specs.Laws.{delivery-above, delivery-taken, delivery-accepted, full-taken, one-session, good-proper}
 use Rattle.runs.specs.Step.{Step, kept-step, delivery-step}
 
-pub data Run : Session → List Call → List Answer → Session → Type 0 where
-  done : {s : Session} → Run s [] [] s
-  next : {s t u : Session} {call : Call} {a : Answer} {calls : List Call} {given : List Answer} → Step s call a t → Run t calls given u
-      → Run s (call ∷ calls) (a ∷ given) u
+abbrev pub Run : Session → List Call → List Answer → Session → Type 0
+Run = machine.Run Step
+
+pub faithful : (s : Session) (call : Call) (a : Answer) (t : Session) → Step s call a t → Good s → machine.AsBook Good bookOf answer after s call a t
+faithful s call a t step good = record { answered = step .answered good; good = step .good good; book = step .book good }
 
 pub every-run : {s t : Session} {calls : List Call} {given : List Answer} → Run s calls given t → Good s → given ≡ answers (bookOf s) calls
-unfolding answers
-every-run done good = refl
-every-run (next {calls = calls} step run) good =
-    ap₂ (λ (a : Answer) l. a ∷ l) (step .answered good)
-    (every-run run (step .good good) ∙ ap (λ b. answers b calls) (step .book good))
+every-run run good = machine.every-run faithful run good .answered
 
 pub run-good : {s t : Session} {calls : List Call} {given : List Answer} → Run s calls given t → Good s → Good t
-run-good done good = good
-run-good (next step run) good = run-good run (step .good good)
+run-good run good = machine.every-run faithful run good .good
 
 pub run-book : {s t : Session} {calls : List Call} {given : List Answer} → Run s calls given t → Good s → bookOf t ≡ afterAll (bookOf s) calls
-unfolding afterAll
-run-book done good = refl
-run-book (next {calls = calls} step run) good = run-book run (step .good good) ∙ ap (λ b. afterAll b calls) (step .book good)
+run-book run good = machine.every-run faithful run good .book
 
 pub one-end : {s t u : Session} {calls : List Call} {given other : List Answer} → Good s → Run s calls given t → Run s calls other u → t ≡ u
-one-end {s} {t} {u} good a b = one-session t u (run-good a good) (run-good b good) (run-book a good ∙ sym (run-book b good))
+one-end = machine.one-end faithful one-session
 
 -- ---- every list of calls has a run
 
@@ -101,8 +97,4 @@ some-step s (writing out) good u = (_, s, some-kept s (writing out) good refl)
 some-step s (closing message report) good u = (_, s, some-kept s (closing message report) good refl)
 
 pub some-run : {calls : List Call} → AllFit calls → (s : Session) → Good s → (given : List Answer) × (t : Session) × Run s calls given t
-some-run fit-nil s good = ([], s, done)
-some-run (fit-cons {call = call} fits fit) s good =
-    let d = some-step s call good fits in
-    let r = some-run fit (d .1) (d .2 .good good) in
-    (d .0 ∷ r .0, r .1, next (d .2) (r .2))
+some-run = machine.some-run faithful some-step

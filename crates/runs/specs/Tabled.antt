@@ -8,7 +8,7 @@
 --   brings-holds         such calls leave the table's columns in the row
 --   table-as-calls       so closing after them answers as table decoding does
 use mathlib.Core.Bool.{Bool, true, false, cond}
-use mathlib.Core.Path.{_≡_, refl, sym, ap, _∙_, subst}
+use mathlib.Core.Path.{_≡_, refl, sym, ap, ap₂, _∙_, subst}
 use mathlib.Core.List.{List, [], _∷_, List·Memᴰ, List·Memᴰ·head, List·Memᴰ·tail, List·Memᴰ·cases-cons, List·Memᴰ·not-nil}
 use mathlib.Core.Logic.{_⊎_, inl, inr, ⊎-elim}
 use mathlib.Core.Option.{Option, none, some, Option·none-ne-some}
@@ -20,13 +20,14 @@ use borrow.Author.Tests.{eqb-true, eq-eqb}
 use Rattle.refusals.specs.Refusal.{accepted}
 use Rattle.lists.specs.Distinct.{among, below-among}
 use Rattle.soft.specs.Doubt.{mostDoubt}
+use Rattle.book.specs.Machine.{carried}
 use Rattle.book.specs.Book.{places, Entry, Book, newBook, columnIn, present, taken, Outcome}
 use Rattle.book.specs.Opening.{openOf}
 use Rattle.book.specs.Delivery.{withEntry}
 use Rattle.book.specs.Columns.{column-free, none-free}
 use Rattle.book.specs.RowLaws.{Proper, placesOf, taken-among, column-append, deliver-accepted}
 use Rattle.book.specs.OpeningLaws.{Rate, rate-known, fits-list}
-use Rattle.book.specs.Closing.{Closed, closeOf}
+use Rattle.book.specs.Closing.{closeOf}
 use Rattle.book.specs.Calls.{Call, deliver, closing, Answer, answer, after, afterAll}
 use Rattle.book.specs.Sentences.{only-delivery, rate-held, list-held}
 use Rattle.book.specs.Table.{tableLength, tableColumns, pickedOf, tableOf, picked-fit, Delivered, table-as-session}
@@ -64,58 +65,32 @@ new-list rate list = refl
 
 -- ---- the columns that a list of calls brings
 
-one-entry : (q : ℕ) (column : List ℕ) (p : ℕ) → columnIn (record { place = q; column = column } ∷ []) p ≡ cond (eqb q p) (some column) none
-unfolding columnIn
-one-entry q column p = refl
-
 entry-column : (book : Book) (q : ℕ) (column : List ℕ) (p : ℕ)
     → columnIn (withEntry book q column .row) p ≡ cond (taken (book .row) p) (columnIn (book .row) p) (cond (eqb q p) (some column) none)
-unfolding withEntry
-entry-column book q column p =
-    column-append (book .row) (record { place = q; column = column } ∷ []) p
-    ∙ ap (λ (o : Option (List ℕ)). cond (taken (book .row) p) (columnIn (book .row) p) o) (one-entry q column p)
+unfolding withEntry columnIn
+entry-column book q column p = column-append (book .row) (record { place = q; column = column } ∷ []) p
 
--- where a place has no column yet, the column is the last entry's, if that entry is the place's
-entry-free : (book : Book) (q : ℕ) (column : List ℕ) (p : ℕ) → columnIn (book .row) p ≡ none
-    → columnIn (withEntry book q column .row) p ≡ cond (eqb q p) (some column) none
-entry-free book q column p e =
-    entry-column book q column p
-    ∙ ap (λ b. cond b (columnIn (book .row) p) (cond (eqb q p) (some column) none)) (none-free (book .row) p e)
+-- a call leaves the column of a place as it was, or it is the delivery of the first one
+data After (p : ℕ) (book : Book) (call : Call) : Type 0 where
+  same : columnIn (after book call .row) p ≡ columnIn (book .row) p → After p book call
+  first : {c : List ℕ} → deliver p c ≡ call → columnIn (book .row) p ≡ none → columnIn (after book call .row) p ≡ some c → After p book call
 
-module _ (p : ℕ) (book : Book) (call : Call) where
-  column-kept : {column : List ℕ} → columnIn (book .row) p ≡ some column → columnIn (after book call .row) p ≡ some column
-  unfolding taken
-  column-kept {column} e = go (only-delivery book call)
-    where
-      go : (after book call ≡ book)
-          ⊎ ((q : ℕ) × (c : List ℕ) × (call ≡ deliver q c) × (answer book call .number ≡ accepted) × (after book call ≡ withEntry book q c))
-          → columnIn (after book call .row) p ≡ some column
-      go (inl same) = ap (λ (b : Book). columnIn (b .row) p) same ∙ e
-      go (inr (q, c, f, n, w)) =
-          ap (λ (b : Book). columnIn (b .row) p) w ∙ entry-column book q c p
-          ∙ ap (λ (o : Option (List ℕ)). cond (present o) o (cond (eqb q p) (some c) none)) e
-
-  column-new : columnIn (book .row) p ≡ none
-      → (columnIn (after book call .row) p ≡ none) ⊎ ((c : List ℕ) × (deliver p c ≡ call) × (columnIn (after book call .row) p ≡ some c))
-  column-new e = go (only-delivery book call)
-    where
-      Met : Type 0
-      Met = (columnIn (after book call .row) p ≡ none) ⊎ ((c : List ℕ) × (deliver p c ≡ call) × (columnIn (after book call .row) p ≡ some c))
-
-      entered : (q : ℕ) (c : List ℕ) → call ≡ deliver q c → after book call ≡ withEntry book q c → (b : Bool) → eqb q p ≡ b → Met
-      entered q c f w b t =
-          let g : columnIn (after book call .row) p ≡ cond b (some c) none =
-          ap (λ (x : Book). columnIn (x .row) p) w ∙ entry-free book q c p e ∙ ap (λ x. cond x (some c) none) t in
-          pick b t g
-        where
-          pick : (b : Bool) → eqb q p ≡ b → columnIn (after book call .row) p ≡ cond b (some c) none → Met
-          pick true t g = inr (c, ap (λ x. deliver x c) (sym (eqb-true q p t)) ∙ sym f, g)
-          pick false t g = inl g
-
-      go : (after book call ≡ book)
-          ⊎ ((q : ℕ) × (c : List ℕ) × (call ≡ deliver q c) × (answer book call .number ≡ accepted) × (after book call ≡ withEntry book q c)) → Met
-      go (inl same) = inl (ap (λ (b : Book). columnIn (b .row) p) same ∙ e)
-      go (inr (q, c, f, n, w)) = entered q c f w (eqb q p) refl
+column-after : (p : ℕ) (book : Book) (call : Call) → After p book call
+unfolding taken
+column-after p book call = go (only-delivery book call)
+  where
+    go : (after book call ≡ book)
+        ⊎ ((q : ℕ) × (c : List ℕ) × (call ≡ deliver q c) × (answer book call .number ≡ accepted) × (after book call ≡ withEntry book q c))
+        → After p book call
+    go (inl e) = same (ap (λ (b : Book). columnIn (b .row) p) e)
+    go (inr (q, c, f, n, w)) =
+        pick (columnIn (book .row) p) refl (eqb q p) refl (ap (λ (b : Book). columnIn (b .row) p) w ∙ entry-column book q c p)
+      where
+        pick : (o : Option (List ℕ)) → columnIn (book .row) p ≡ o → (b : Bool) → eqb q p ≡ b
+            → columnIn (after book call .row) p ≡ cond (present o) o (cond b (some c) none) → After p book call
+        pick (some x) e b t g = same (g ∙ sym e)
+        pick none e true t g = first (ap (λ x. deliver x c) (sym (eqb-true q p t)) ∙ sym f) e g
+        pick none e false t g = same (g ∙ sym e)
 
 -- a place that has no column gets the one that is delivered
 column-got : (p : ℕ) → p < places → (book : Book) (column : List ℕ) → columnIn (book .row) p ≡ none
@@ -123,38 +98,50 @@ column-got : (p : ℕ) → p < places → (book : Book) (column : List ℕ) → 
 unfolding after
 column-got p h book column e =
     ap (λ (o : Outcome). columnIn (o .book .row) p) (deliver-accepted book p column h (none-free (book .row) p e))
-    ∙ entry-free book p column p e ∙ ap (λ b. cond b (some column) none) (eq-eqb p p refl)
+    ∙ entry-column book p column p
+    ∙ ap₂ (λ x y. cond x (columnIn (book .row) p) (cond y (some column) none)) (none-free (book .row) p e) (eq-eqb p p refl)
 
 pub record BringsTable (table : List ℕ) (calls : List Call) : Type 0 where
   pub every-place : (p : ℕ) → p < places → (column : List ℕ) × List·Memᴰ (deliver p column) calls
   pub columns : (p : ℕ) (column : List ℕ) → p < places → List·Memᴰ (deliver p column) calls → column ≡ tableColumns table p
 
 module _ (p : ℕ) (h : p < places) (wanted : List ℕ) where
-  brought : (book : Book) (calls : List Call) → ((column : List ℕ) → List·Memᴰ (deliver p column) calls → column ≡ wanted)
-      → (columnIn (book .row) p ≡ some wanted) ⊎ ((columnIn (book .row) p ≡ none) × (column : List ℕ) × List·Memᴰ (deliver p column) calls)
-      → columnIn (afterAll book calls .row) p ≡ some wanted
-  unfolding afterAll
-  brought book [] only (inl e) = e
-  brought book [] only (inr (e, column, m)) = absurd (List·Memᴰ·not-nil m)
-  brought book (call ∷ calls) only (inl e) =
-      brought (after book call) calls (λ column m. only column (List·Memᴰ·tail m)) (inl (column-kept p book call e))
-  brought book (call ∷ calls) only (inr (e, column, m)) =
-      brought (after book call) calls (λ c l. only c (List·Memᴰ·tail l)) (turn (column-new p book call e) (List·Memᴰ·cases-cons m))
+  -- no call to come delivers another column, and the one wanted is there or is still to be delivered
+  Coming : Book → List Call → Type 0
+  Coming book calls =
+      ((column : List ℕ) → List·Memᴰ (deliver p column) calls → column ≡ wanted)
+      × ((columnIn (book .row) p ≡ some wanted) ⊎ ((columnIn (book .row) p ≡ none) × (column : List ℕ) × List·Memᴰ (deliver p column) calls))
+
+  turn : (book : Book) (call : Call) (calls : List Call) → Coming book (call ∷ calls) → Coming (after book call) calls
+  unfolding Coming
+  turn book call calls (only, had) = (λ c l. only c (List·Memᴰ·tail l), go had (column-after p book call))
     where
-      turn : (columnIn (after book call .row) p ≡ none) ⊎ ((c : List ℕ) × (deliver p c ≡ call) × (columnIn (after book call .row) p ≡ some c))
-          → (deliver p column ≡ call) ⊎ List·Memᴰ (deliver p column) calls
+      go : (columnIn (book .row) p ≡ some wanted) ⊎ ((columnIn (book .row) p ≡ none) × (c : List ℕ) × List·Memᴰ (deliver p c) (call ∷ calls))
+          → After p book call
           → (columnIn (after book call .row) p ≡ some wanted)
           ⊎ ((columnIn (after book call .row) p ≡ none) × (c : List ℕ) × List·Memᴰ (deliver p c) calls)
-      turn (inr (c, q, g)) w = inl (g ∙ ap some (only c (List·Memᴰ·head q)))
-      turn (inl g) (inr l) = inr (g, column, l)
-      turn (inl g) (inl q) =
-          absurd (Option·none-ne-some column (sym g ∙ ap (λ x. columnIn (after book x .row) p) (sym q) ∙ column-got p h book column e))
+      go had (first {c = c} q n g) = inl (g ∙ ap some (only c (List·Memᴰ·head q)))
+      go (inl e) (same s) = inl (s ∙ e)
+      go (inr (e, column, m)) (same s) =
+          inr (
+            s ∙ e,
+            column,
+            ⊎-elim
+                (λ (q : deliver p column ≡ call).
+                absurd (Option·none-ne-some column (sym (s ∙ e) ∙ ap (λ x. columnIn (after book x .row) p) (sym q) ∙ column-got p h book column e)))
+                (λ l. l) (List·Memᴰ·cases-cons m),
+          )
+
+  brought : (book : Book) (calls : List Call) → Coming book calls → columnIn (afterAll book calls .row) p ≡ some wanted
+  unfolding Coming
+  brought book calls c = ⊎-elim (λ e. e) (λ r. absurd (List·Memᴰ·not-nil (r .2))) (carried after Coming turn book calls c .1)
 
 pub brings-holds : {table : List ℕ} {calls : List Call} → BringsTable table calls → (rate : ℕ) (list : List ℕ)
     → HoldsTable table (afterAll (newBook rate list) calls .row)
+unfolding Coming
 brings-holds {table} {calls} brings rate list p h =
     let e = brings .every-place p h in
-    brought p h (tableColumns table p) (newBook rate list) calls (λ column m. brings .columns p column h m) (inr (empty, e .0, e .1))
+    brought p h (tableColumns table p) (newBook rate list) calls (λ column m. brings .columns p column h m, inr (empty, e .0, e .1))
   where
     empty : columnIn (newBook rate list .row) p ≡ none
     empty = unfold newBook columnIn in refl

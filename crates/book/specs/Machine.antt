@@ -1,0 +1,76 @@
+-- Machines: lists of calls on sessions of any kind, beside a book of any kind that says what each call answers.
+--
+--   answersBy answer after book calls   what the book answers to a list of calls, each of which finds the book that the call before it left
+--   afterBy after book calls   the book after them
+--   carried              what each call carries over, of a book and the calls to come, holds after the last one, with no calls to come
+--   part-held            a part of the book that no call changes is as it was
+--   Each Fits calls      each of the calls fits
+--   Run Step s calls given t   the calls, each a step from the session that the one before it left, are given these answers, and the session t is left
+--   AsBook Good bookOf answer after s call a t   the answer is that of the book of s, and t is good and stands for the book after the call
+--   every-run            if every step from a good session is so, then every run is, with its lists of calls and of answers
+--   one-end              so the calls determine the session left, if its book determines a good session
+--   some-run             and if every fitting call has a step from every good session, then every list of them has a run
+use mathlib.Core.Path.{_≡_, refl, sym, ap, ap₂, _∙_}
+use mathlib.Core.List.{List, [], _∷_}
+
+unfoldable pub answersBy : {B C A : Type 0} → (B → C → A) → (B → C → B) → B → List C → List A
+answersBy answer after book [] = []
+answersBy answer after book (call ∷ calls) = answer book call ∷ answersBy answer after (after book call) calls
+
+module _ {B C : Type 0} (after : B → C → B) where
+  unfoldable pub afterBy : B → List C → B
+  afterBy book [] = book
+  afterBy book (call ∷ calls) = afterBy (after book call) calls
+
+  pub carried : (P : B → List C → Type 0) → ((book : B) (call : C) (calls : List C) → P book (call ∷ calls) → P (after book call) calls)
+      → (book : B) (calls : List C) → P book calls → P (afterBy book calls) []
+  unfolding afterBy
+  carried P turn book [] p = p
+  carried P turn book (call ∷ calls) p = carried P turn (after book call) calls (turn book call calls p)
+
+  pub part-held : {X : Type 0} (part : B → X) → ((book : B) (call : C) → part (after book call) ≡ part book)
+      → (book : B) (calls : List C) → part (afterBy book calls) ≡ part book
+  part-held part held book calls = carried (λ b l. part b ≡ part book) (λ b call l e. held b call ∙ e) book calls refl
+
+pub data Each {C : Type 0} (Fits : C → Type 0) : List C → Type 0 where
+  fit-nil : Each Fits []
+  fit-cons : {call : C} {calls : List C} → Fits call → Each Fits calls → Each Fits (call ∷ calls)
+
+pub data Run {S C A : Type 0} (Step : S → C → A → S → Type 0) : S → List C → List A → S → Type 0 where
+  done : {s : S} → Run Step s [] [] s
+  next : {s t u : S} {call : C} {a : A} {calls : List C} {given : List A} → Step s call a t → Run Step t calls given u
+      → Run Step s (call ∷ calls) (a ∷ given) u
+
+pub record AsBook {S B C A : Type 0} (Good : S → Type 0) (bookOf : S → B) (answer : B → C → A) (after : B → C → B) (s : S) (call : C) (a : A) (t : S)
+    : Type 0 where
+  pub answered : a ≡ answer (bookOf s) call
+  pub good : Good t
+  pub book : bookOf t ≡ after (bookOf s) call
+
+module _ {S B C A : Type 0} {Step : S → C → A → S → Type 0} {Good : S → Type 0} {bookOf : S → B} {answer : B → C → A} {after : B → C → B}
+    (faithful : (s : S) (call : C) (a : A) (t : S) → Step s call a t → Good s → AsBook Good bookOf answer after s call a t) where
+  pub every-run : {s t : S} {calls : List C} {given : List A} → Run Step s calls given t → Good s
+      → AsBook Good bookOf (answersBy answer after) (afterBy after) s calls given t
+  unfolding answersBy afterBy
+  every-run done good = record { answered = refl; good = good; book = refl }
+  every-run (next {calls = calls} step run) good =
+      let f = faithful _ _ _ _ step good in
+      let r = every-run run (f .good) in
+      record {
+        answered = ap₂ (λ (a : A) l. a ∷ l) (f .answered) (r .answered ∙ ap (λ b. answersBy answer after b calls) (f .book));
+        good = r .good;
+        book = r .book ∙ ap (λ b. afterBy after b calls) (f .book);
+      }
+
+  pub one-end : ((t u : S) → Good t → Good u → bookOf t ≡ bookOf u → t ≡ u)
+      → {s t u : S} {calls : List C} {given other : List A} → Good s → Run Step s calls given t → Run Step s calls other u → t ≡ u
+  one-end one {s} {t} {u} good a b =
+      let x = every-run a good in let y = every-run b good in one t u (x .good) (y .good) (x .book ∙ sym (y .book))
+
+  pub some-run : {Fits : C → Type 0} → ((s : S) (call : C) → Good s → Fits call → (a : A) × (t : S) × Step s call a t)
+      → {calls : List C} → Each Fits calls → (s : S) → Good s → (given : List A) × (t : S) × Run Step s calls given t
+  some-run some-step fit-nil s good = ([], s, done)
+  some-run some-step (fit-cons {call = call} fits fit) s good =
+      let d = some-step s call good fits in
+      let r = some-run some-step fit (d .1) (faithful _ _ _ _ (d .2) good .good) in
+      (d .0 ∷ r .0, r .1, next (d .2) (r .2))
