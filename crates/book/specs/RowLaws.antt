@@ -5,6 +5,7 @@
 --   Proper book          what every book has that opening and deliveries lead to: a known rate, a fit list, distinct places below 64, columns of sixteen costs
 --   columns-wide         every column has sixteen costs, those of missing places too
 --   taken-among          a place is taken exactly if it is among the row's places
+--   none-above           the row of a proper book has no place above 63
 --   column-append, column-one   the columns of one row after another, and of one entry
 --   missing-some, some-missing   a place is missing exactly if one of the 64 is not in the row
 --   missing-count        of distinct places below 64 one is missing exactly if there are fewer than 64
@@ -14,7 +15,7 @@
 use mathlib.Core.Bool.{Bool, true, false, cond, not, _&&_, _||_, true≢false}
 use mathlib.Core.Path.{_≡_, refl, sym, ap, _∙_, fun-ext}
 use mathlib.Core.List.{List, [], _∷_, _++_}
-use mathlib.Core.Option.{some}
+use mathlib.Core.Option.{some, none}
 use Prim.Native.Nat.{ℕ, suc, _<_, _≤_}
 use native.Mathlib.Decide.{decLt}
 use native.Mathlib.Omega.{arith}
@@ -23,10 +24,10 @@ use lib.ListN.{length}
 use borrow.Author.Tests.{lt-ltb, le-ltb, ltb-true, eq-eqb, eqb-true, not-true}
 use Rattle.refusals.specs.Refusal.{accepted, noPlace, placeTaken, unknownRate, wrongDoubt}
 use Rattle.lists.specs.Every.{every, every-at, every-false, true-T, T-true}
-use Rattle.lists.specs.Distinct.{among, distinct, below, below-append, below-one, below-nil, distinct-nil, distinct-snoc, distinct-every, and-left, and-right, and-both}
+use Rattle.lists.specs.Distinct.{among, distinct, below, below-among, below-append, below-one, below-nil, distinct-nil, distinct-snoc, distinct-every, and-left, and-right, and-both}
 use Rattle.code.specs.Encoding.{knownRate}
 use Rattle.book.specs.Book.{places, width, Entry, Book, newBook, columnIn, present, taken, missing, someMissing}
-use Rattle.book.specs.Columns.{orZeros, columnsOf}
+use Rattle.book.specs.Columns.{orZeros, columnsOf, column-free}
 use Rattle.book.specs.Opening.{fitDoubt, refusedOpening, openOf}
 use Rattle.book.specs.Delivery.{withEntry, deliverOf}
 
@@ -85,6 +86,13 @@ taken-among (e ∷ row) p = go (eqb (e .place) p) (taken-among row p)
         → present (cond b (some (e .column)) (columnIn row p)) ≡ (b || among p (placesOf row))
     go true ih = refl
     go false ih = ih
+
+pub none-above : (book : Book) → Proper book → (p : ℕ) → places ≤ p → columnIn (book .row) p ≡ none
+none-above book proper p h = column-free (book .row) p (taken-among (book .row) p ∙ go (among p (placesOf (book .row))) refl)
+  where
+    go : (b : Bool) → among p (placesOf (book .row)) ≡ b → among p (placesOf (book .row)) ≡ false
+    go true e = absurd (omega (arith, below-among places (placesOf (book .row)) p (proper .in-range) e))
+    go false e = e
 
 pub column-append : (a b : List Entry) (p : ℕ) → columnIn (a ++ b) p ≡ cond (taken a p) (columnIn a p) (columnIn b p)
 unfolding taken columnIn

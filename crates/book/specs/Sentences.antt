@@ -25,7 +25,7 @@ use mathlib.Core.List.{List, [], _∷_, List·Memᴰ, List·Memᴰ·cases-cons, 
 use mathlib.Core.Logic.{_↔_, _≢_, _⊎_, inl, inr, ⊎-elim}
 use mathlib.Core.Option.{Option, none, some}
 use Prim.Native.Nat.{ℕ, zero, suc, _+_, _<_, _≤_}
-use native.Mathlib.Decide.{decLt}
+use native.Mathlib.Decide.{decLt, ℕ-discrete}
 use native.Mathlib.Omega.{arith}
 use lib.Dec.{T as Holds, eqb, leb→le, le→leb}
 use lib.ListN.{length, getD}
@@ -61,7 +61,7 @@ use Rattle.book.specs.ReadingLaws.{settled-few, read-accepted, read-kept
 use Rattle.book.specs.Closing.{reportLength, Closed, refusedClosing, reportFor, decodeOf, closingFits, closeOf}
 use Rattle.book.specs.ClosingLaws.{refused-number, fits-both, fits-of, close-size, close-missing, close-decoded, close-kept, decode-none, decode-some}
 use Rattle.book.specs.CaptureOpening.{deliverRow, rateIn, listIn, recordsIn, openCaptureOf}
-use Rattle.book.specs.CaptureCases.{row-above, row-taken, row-next, row-none, open-checked, open-with, bookIn, capture-fit}
+use Rattle.book.specs.CaptureCases.{row-on, row-refused, row-none, open-checked, open-with, bookIn, capture-fit}
 use Rattle.book.specs.RowLaws.{Proper, columns-wide, deliver-above, deliver-taken, deliver-accepted, open-accepted, open-refused-rate, open-refused-list}
 use Rattle.book.specs.RoundTrip.{write-size, write-missing, write-accepted}
 use Rattle.book.specs.Calls.{Call, deliver, reading, writing, closing, Answer, firstLent, secondLent, answer, after, answers, afterAll}
@@ -374,25 +374,11 @@ module _ (book : Book) where
 
 -- ---- 'It holds the rate and doubtful list given at opening'
 
-deliver-held : (book : Book) (p : ℕ) (column : List ℕ)
-    → (deliverOf book p column .book .rate ≡ book .rate) × (deliverOf book p column .book .doubtful ≡ book .doubtful)
-unfolding withEntry
-deliver-held book p column = go (decLt p places) (taken (book .row) p) refl
-  where
-    Held : Book → Type 0
-    Held b = (b .rate ≡ book .rate) × (b .doubtful ≡ book .doubtful)
-
-    go : Dec (p < places) → (t : Bool) → taken (book .row) p ≡ t → Held (deliverOf book p column .book)
-    go (yes h) true e = rw (deliver-taken book p column h e) (refl, refl)
-    go (yes h) false e = rw (deliver-accepted book p column h e) (refl, refl)
-    go (no h) t e = rw (deliver-above book p column (omega arith)) (refl, refl)
-
 held : (book : Book) (call : Call) → (after book call .rate ≡ book .rate) × (after book call .doubtful ≡ book .doubtful)
-unfolding after
-held book (deliver p column) = deliver-held book p column
-held book (reading out) = (refl, refl)
-held book (writing out) = (refl, refl)
-held book (closing message report) = (refl, refl)
+unfolding withEntry
+held book call =
+    ⊎-elim (λ e. (ap (λ (b : Book). b .rate) e, ap (λ (b : Book). b .doubtful) e))
+    (λ d. (ap (λ (b : Book). b .rate) (d .4), ap (λ (b : Book). b .doubtful) (d .4))) (only-delivery book call)
 
 pub rate-held : (book : Book) (calls : List Call) → afterAll book calls .rate ≡ book .rate
 rate-held = part-held after (λ b. b .rate) (λ b call. held b call .0)
@@ -411,41 +397,28 @@ pub record CaptureOpens (bytes : List ℕ) : Type 0 where
   pub delivered : openCaptureOf bytes .book ≡ afterAll (newBook (rateIn bytes) (listIn bytes)) (deliveries (recordsIn bytes))
   pub all-accepted : (a : Answer) → List·Memᴰ a (answers (newBook (rateIn bytes) (listIn bytes)) (deliveries (recordsIn bytes))) → a .number ≡ accepted
 
--- the first of a list of calls, where it is an accepted delivery, and the rest
 row-calls : (book : Book) (entries : List Entry) → deliverRow book entries .number ≡ accepted
     → (deliverRow book entries .book ≡ afterAll book (deliveries entries))
     × ((a : Answer) → List·Memᴰ a (answers book (deliveries entries)) → a .number ≡ accepted)
 unfolding deliveries answersBy afterBy answer after refusedOpening
 row-calls book [] n = (ap (λ (o : Outcome). o .book) (row-none book), λ a m. absurd (List·Memᴰ·not-nil m))
 row-calls book (e ∷ entries) n =
-    go (decLt (e .place) places) (taken (book .row) (e .place)) refl (row-calls (withEntry book (e .place) (e .column)) entries)
+    let on = row-on book e entries (accepts (ℕ-discrete (first .number) accepted)) in
+    let rest = row-calls (first .book) entries (sym (ap (λ (o : Outcome). o .number) on) ∙ n) in (
+      ap (λ (o : Outcome). o .book) on ∙ rest .0,
+      λ a m.
+          ⊎-elim
+          (λ (q : a ≡ record { number = first .number; first = []; second = [] }).
+          ap (λ (x : Answer). x .number) q ∙ accepts (ℕ-discrete (first .number) accepted))
+          (λ l. rest .1 a l) (List·Memᴰ·cases-cons m),
+    )
   where
     first : Outcome
     first = deliverOf book (e .place) (e .column)
 
-    Called : Book → Type 0
-    Called b =
-        (deliverRow b entries .book ≡ afterAll b (deliveries entries))
-        × ((a : Answer) → List·Memᴰ a (answers b (deliveries entries)) → a .number ≡ accepted)
-
-    go : Dec (e .place < places) → (b : Bool) → taken (book .row) (e .place) ≡ b
-        → (deliverRow (withEntry book (e .place) (e .column)) entries .number ≡ accepted → Called (withEntry book (e .place) (e .column)))
-        → (deliverRow book (e ∷ entries) .book ≡ afterAll (first .book) (deliveries entries))
-        × ((a : Answer) → List·Memᴰ a (record { number = first .number; first = []; second = [] } ∷ answers (first .book) (deliveries entries))
-        → a .number ≡ accepted)
-    go (yes h) true t ih = absurd (omega (arith, sym (ap (λ (o : Outcome). o .number) (row-taken book e entries h t)) ∙ n))
-    go (yes h) false t ih =
-        let d : first ≡ record { number = accepted; book = withEntry book (e .place) (e .column) } = deliver-accepted book (e .place) (e .column) h t in
-        let r = ih (sym (ap (λ (o : Outcome). o .number) (row-next book e entries h t)) ∙ n) in (
-          ap (λ (o : Outcome). o .book) (row-next book e entries h t) ∙ r .0 ∙ ap (λ (o : Outcome). afterAll (o .book) (deliveries entries)) (sym d),
-          λ a m.
-              ⊎-elim
-              (λ (q : a ≡ record { number = first .number; first = []; second = [] }).
-              ap (λ (x : Answer). x .number) q ∙ ap (λ (o : Outcome). o .number) d)
-              (λ l. r .1 a (subst (λ (o : Outcome). List·Memᴰ a (answers (o .book) (deliveries entries))) d l))
-              (List·Memᴰ·cases-cons m),
-        )
-    go (no h) b t ih = absurd (omega (arith, sym (ap (λ (o : Outcome). o .number) (row-above book e entries (omega arith))) ∙ n))
+    accepts : Dec (first .number ≡ accepted) → first .number ≡ accepted
+    accepts (yes d) = d
+    accepts (no d) = sym (ap (λ (o : Outcome). o .number) (row-refused book e entries d)) ∙ n
 
 pub capture-opens : (bytes : List ℕ) → openCaptureOf bytes .number ≡ accepted → CaptureOpens bytes
 unfolding bookIn

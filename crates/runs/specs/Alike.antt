@@ -11,18 +11,20 @@ use mathlib.Core.List.{List, []}
 use mathlib.Core.Option.{some, none}
 use Prim.Native.Nat.{ℕ, _<_}
 use native.Mathlib.Decide.{decLt}
+use native.Mathlib.Omega.{arith}
 use lib.ListN.{take}
-use Rattle.lists.specs.Distinct.{among, below-among}
+use Rattle.lists.specs.Distinct.{among}
 use Rattle.lists.specs.Block.{block}
 use Rattle.book.specs.Book.{places, width, Book, columnIn}
 use Rattle.book.specs.Columns.{column-free}
+use Rattle.book.specs.RowLaws.{none-above}
 use Rattle.book.specs.Writing.{Filled}
 use Rattle.book.specs.Closing.{Closed}
 use Rattle.book.specs.Calls.{Call, reading, closing, Answer, answer}
 use Rattle.book.specs.Sentences.{Agree, reading-alike, closing-alike}
 use Rattle.session.specs.declared.Session.{Session}
 use Rattle.session.specs.View.{bookOf, Good}
-use Rattle.session.specs.Laws.{book-taken, column-there}
+use Rattle.session.specs.Laws.{book-taken, column-there, good-proper}
 use Rattle.runs.specs.Step.{Step, answerWith}
 use Rattle.runs.specs.Runs.{Run, run-good}
 use Rattle.runs.specs.Follows.{Start, start-good}
@@ -42,14 +44,6 @@ pub record SameHeld (s t : Session) : Type 0 where
 free : (s : Session) → Good s → (p : ℕ) → among p (take (s .taken) (s .arrival)) ≡ false → columnIn (bookOf s .row) p ≡ none
 free s good p e = column-free (bookOf s .row) p (book-taken s good p ∙ e)
 
--- a place above 63 did not arrive
-above : (s : Session) → Good s → (p : ℕ) → (p < places → ⊥) → among p (take (s .taken) (s .arrival)) ≡ false
-above s good p h = go (among p (take (s .taken) (s .arrival))) refl
-  where
-    go : (b : Bool) → among p (take (s .taken) (s .arrival)) ≡ b → among p (take (s .taken) (s .arrival)) ≡ false
-    go true e = absurd (h (below-among places (take (s .taken) (s .arrival)) p (good .in-range) e))
-    go false e = e
-
 pub held-agree : {s t : Session} → Good s → Good t → SameHeld s t → Agree (bookOf s) (bookOf t)
 unfolding bookOf
 held-agree {s} {t} a b same =
@@ -64,7 +58,8 @@ held-agree {s} {t} a b same =
     go p (yes h) true e =
         column-there s a p e ∙ ap some (same .same-columns p h e) ∙ sym (column-there t b p (sym (same .same-taken p h) ∙ e))
     go p (yes h) false e = free s a p e ∙ sym (free t b p (sym (same .same-taken p h) ∙ e))
-    go p (no h) x e = free s a p (above s a p h) ∙ sym (free t b p (above t b p h))
+    go p (no h) x e =
+        none-above (bookOf s) (good-proper s a) p (omega arith) ∙ sym (none-above (bookOf t) (good-proper t b) p (omega arith))
 
 pub record Alike (s t : Session) : Type 0 where
   pub read-alike : {out : List ℕ} {a b : Answer} {u v : Session} → Step s (reading out) a u → Step t (reading out) b v → a ≡ b

@@ -7,6 +7,7 @@
 --   good-follows         a good session follows its book
 --   opening-accepted     an opening with a rate and a doubtful list accepts
 --   captureBook bytes    the book that opening with a capture's rate and list and then delivering its records in their order gives
+--   new-rate             the rate of a new book
 --   Start T book s       an accepted opening returned the session s: by a rate of reach T and a doubtful list, with a new book, or by a capture, with its
 --                        book
 --   start-follows        such a session follows that book
@@ -81,7 +82,7 @@ pub data Start : ℕ → Book → Session → Type 0 where
   by-capture : {T : ℕ} {r : Opened} (bytes : List ℕ) → Rate (rateIn bytes) T → Opening (openCaptureOf bytes) r → r .refusal ≡ accepted
       → Start T (captureBook bytes) (r .session)
 
-new-rate : (rate : ℕ) (list : List ℕ) → newBook rate list .rate ≡ rate
+pub new-rate : (rate : ℕ) (list : List ℕ) → newBook rate list .rate ≡ rate
 unfolding newBook
 new-rate rate list = refl
 

@@ -13,19 +13,17 @@ use mathlib.Core.List.{List, [], _∷_, List·Memᴰ, List·Memᴰ·head, List·
 use mathlib.Core.Logic.{_⊎_, inl, inr, ⊎-elim}
 use mathlib.Core.Option.{Option, none, some, Option·none-ne-some}
 use Prim.Native.Nat.{ℕ, _<_, _≤_}
-use native.Mathlib.Omega.{arith}
 use lib.Dec.{eqb}
 use lib.ListN.{length}
 use borrow.Author.Tests.{eqb-true, eq-eqb}
 use Rattle.refusals.specs.Refusal.{accepted}
-use Rattle.lists.specs.Distinct.{among, below-among}
 use Rattle.soft.specs.Doubt.{mostDoubt}
 use Rattle.book.specs.Machine.{carried}
 use Rattle.book.specs.Book.{places, Entry, Book, newBook, columnIn, present, taken, Outcome}
 use Rattle.book.specs.Opening.{openOf}
 use Rattle.book.specs.Delivery.{withEntry}
-use Rattle.book.specs.Columns.{column-free, none-free}
-use Rattle.book.specs.RowLaws.{Proper, placesOf, taken-among, column-append, deliver-accepted}
+use Rattle.book.specs.Columns.{none-free}
+use Rattle.book.specs.RowLaws.{Proper, none-above, column-append, deliver-accepted}
 use Rattle.book.specs.OpeningLaws.{Rate, rate-known, fits-list}
 use Rattle.book.specs.Closing.{closeOf}
 use Rattle.book.specs.Calls.{Call, deliver, closing, Answer, answer, after, afterAll}
@@ -38,26 +36,14 @@ use Rattle.session.specs.Calls.{Opening}
 use Rattle.session.specs.Laws.{good-proper}
 use Rattle.runs.specs.Step.{Step}
 use Rattle.runs.specs.Runs.{Run}
-use Rattle.runs.specs.Follows.{closedBy, Follows, by-opening, opening-accepted, start-follows}
+use Rattle.runs.specs.Follows.{closedBy, Follows, by-opening, opening-accepted, new-rate, start-follows}
 
 abbrev pub HoldsTable : List ℕ → List Entry → Type 0
 HoldsTable table row = (p : ℕ) → p < places → columnIn row p ≡ some (tableColumns table p)
 
--- the row of a proper book has no place above 63
-none-above : (book : Book) → Proper book → (p : ℕ) → places ≤ p → columnIn (book .row) p ≡ none
-none-above book proper p h = column-free (book .row) p (taken-among (book .row) p ∙ go (among p (placesOf (book .row))) refl)
-  where
-    go : (b : Bool) → among p (placesOf (book .row)) ≡ b → among p (placesOf (book .row)) ≡ false
-    go true e = absurd (omega (arith, below-among places (placesOf (book .row)) p (proper .in-range) e))
-    go false e = e
-
 book-path : {book : Book} {rate : ℕ} {list : List ℕ} → book .rate ≡ rate → book .doubtful ≡ list
     → book ≡ record { rate = rate; doubtful = list; row = book .row }
 book-path {book} e f = λ i. record { rate = e i; doubtful = f i; row = book .row }
-
-new-rate : (rate : ℕ) (list : List ℕ) → newBook rate list .rate ≡ rate
-unfolding newBook
-new-rate rate list = refl
 
 new-list : (rate : ℕ) (list : List ℕ) → newBook rate list .doubtful ≡ list
 unfolding newBook
