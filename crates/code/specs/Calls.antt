@@ -1,61 +1,22 @@
--- What encoding and reading back return and leave in the caller's buffer, for all arguments, in the order of document 01's checks.
+-- What encoding and reading back return and leave in the caller's buffer, for all arguments, in the order of document 01's checks: the
+-- family's, at GF(16) with w = 4 and rates 39 and 49.
 --
---   Answered            a number returned and the lent buffer afterwards
---   checked b n l o    refused with n, the buffer l unchanged, unless the test b passes; else the outcome o
 --   fitsFrame          there are 64 bytes of the frame from the start
---   placed frame start word   the frame with the word in it from the start; the other bytes stay
---   encodeSizes, readBackSizes   the buffers have the right sizes
 --   encodeCall         encode: rate; message of k bytes and 64 bytes of the frame; symbols
 --   readBackCall       read back: rate; word of 64 and message buffer of k bytes; symbols; codeword
-use mathlib.Core.Bool.{Bool, true, false}
-use mathlib.Core.List.{List, _++_}
-use mathlib.Core.Option.{Option, some, none}
-use Prim.Native.Nat.{ℕ, _+_}
-use lib.Dec.{eqb, leb}
-use lib.ListN.{length, take, drop}
-use Rattle.lists.specs.Every.{both}
-use Rattle.lists.specs.Words.{allBelow}
-use Rattle.code.specs.Encoding.{encodeOf, knownRate, readBackOf}
-use Rattle.refusals.specs.Refusal.{accepted, unknownRate, wrongSize, noSymbol, noCodeword}
+use mathlib.Core.Bool.{Bool}
+use mathlib.Core.List.{List}
+use Prim.Native.Nat.{ℕ}
+use Rattle.family.specs.Member.{m16}
+use Rattle.family.specs.Calls as Family
+use Rattle.family.specs.Calls.{Answered}
+use Rattle.code.specs.Encoding.{knownRate}
 
-pub record Answered : Type 0 where
-  pub number : ℕ
-  pub buffer : List ℕ
+abbrev pub fitsFrame : List ℕ → ℕ → Bool
+fitsFrame frame start = Family.fitsFrame m16 frame start
 
-abbrev pub outcome : ℕ → List ℕ → Answered
-outcome n l = record { number = n; buffer = l }
+abbrev pub encodeCall : ℕ → List ℕ → List ℕ → ℕ → Answered
+encodeCall rate message frame start = Family.encodeCall m16 knownRate rate message frame start
 
-abbrev pub checked : Bool → ℕ → List ℕ → Answered → Answered
-checked true n l o = o
-checked false n l o = outcome n l
-
-unfoldable pub fitsFrame : List ℕ → ℕ → Bool
-fitsFrame frame start = leb (start + 64) (length frame)
-
-unfoldable pub placed : List ℕ → ℕ → List ℕ → List ℕ
-placed frame start word = take start frame ++ (word ++ drop (start + length word) frame)
-
--- the message has k bytes, and the frame 64 from the start
-abbrev pub encodeSizes : ℕ → List ℕ → List ℕ → ℕ → Bool
-encodeSizes rate message frame start = both (eqb (length message) rate) (fitsFrame frame start)
-
-unfoldable pub encodeCall : ℕ → List ℕ → List ℕ → ℕ → Answered
-encodeCall rate message frame start =
-    checked (knownRate rate) unknownRate frame
-    (checked (encodeSizes rate message frame start) wrongSize frame (checked (allBelow 16 message) noSymbol frame
-    (outcome accepted (placed frame start (encodeOf rate message)))))
-
--- a message found is written; where there is none the buffer stays
-abbrev pub found : Option (List ℕ) → List ℕ → Answered
-found none l = outcome noCodeword l
-found (some m) l = outcome accepted m
-
--- the word has 64 bytes, and the buffer k
-abbrev pub readBackSizes : ℕ → List ℕ → List ℕ → Bool
-readBackSizes rate word message = both (eqb (length word) 64) (eqb (length message) rate)
-
-unfoldable pub readBackCall : ℕ → List ℕ → List ℕ → Answered
-readBackCall rate word message =
-    checked (knownRate rate) unknownRate message
-    (checked (readBackSizes rate word message) wrongSize message (checked (allBelow 16 word) noSymbol message
-    (found (readBackOf rate word) message)))
+abbrev pub readBackCall : ℕ → List ℕ → List ℕ → Answered
+readBackCall rate word message = Family.readBackCall m16 knownRate rate word message

@@ -7,3 +7,5 @@ pub mod Evaluation
 pub mod Extraction
 pub mod Laws
 pub mod Nodes
+pub mod Calls
+pub mod CallLaws

@@ -1,6 +1,7 @@
 // What the modem's firmware calls from C, on numbers and byte slices, each returning the refusal or 0. Nothing else stands here.
 ghost use mathlib.Core.Path.{_≡_};
-ghost use Rattle.code.specs.Calls.{outcome, encodeCall, readBackCall};
+ghost use Rattle.family.specs.Calls.{outcome};
+ghost use Rattle.code.specs.Calls.{encodeCall, readBackCall};
 ghost use Rattle.book.specs.Table.{closed, tableOf};
 
 #[no_mangle]

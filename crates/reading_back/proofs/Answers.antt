@@ -12,7 +12,9 @@ use Rattle.lists.specs.Words.{allBelow}
 use Rattle.refusals.specs.Refusal.{accepted, unknownRate, wrongSize, noSymbol, noCodeword}
 use Rattle.code.specs.Encoding.{encodeOf, knownRate, readBackOf}
 use Rattle.code.specs.Rates.{longest, longest-is, known-small}
-use Rattle.code.specs.Calls.{outcome, found, readBackCall}
+use Rattle.family.specs.Calls as Calls
+use Rattle.family.specs.Calls.{outcome, found}
+use Rattle.code.specs.Calls.{readBackCall}
 use Rattle.code.specs.Extraction.{messageAt, extractOf}
 use Rattle.family.specs.Laws.{read-by-extraction-some, read-by-extraction-none}
 use Rattle.hermitian.specs.Present.{genus}
@@ -21,28 +23,28 @@ use Rattle.family.specs.Extraction as Extraction
 
 module _ (rate : ℕ) (w buf : List ℕ) where
   pub read-rate : knownRate rate ≡ false → outcome unknownRate buf ≡ readBackCall rate w buf
-  unfolding readBackCall
+  unfolding Calls.readBackCall
   read-rate k = simp k
 
   module _ (known : knownRate rate ≡ true) where
     pub read-word : (length w ≡ 64 → ⊥) → outcome wrongSize buf ≡ readBackCall rate w buf
-    unfolding readBackCall
+    unfolding Calls.readBackCall
     read-word n = simp (known, ne-eqb (length w) 64 n)
 
     module _ (whole : length w ≡ 64) where
       pub read-buffer : (length buf ≡ rate → ⊥) → outcome wrongSize buf ≡ readBackCall rate w buf
-      unfolding readBackCall
+      unfolding Calls.readBackCall
       read-buffer n = simp (known, eq-eqb (length w) 64 whole, ne-eqb (length buf) rate n)
 
       module _ (sized : length buf ≡ rate) where
         pub read-symbol : allBelow 16 w ≡ false → outcome noSymbol buf ≡ readBackCall rate w buf
-        unfolding readBackCall
+        unfolding Calls.readBackCall
         read-symbol s = simp (known, eq-eqb (length w) 64 whole, eq-eqb (length buf) rate sized, s)
 
         module _ (symbols : allBelow 16 w ≡ true) where
           -- what follows from the search alone
           searched : (o : Option (List ℕ)) → readBackOf rate w ≡ o → found o buf ≡ readBackCall rate w buf
-          unfolding readBackCall
+          unfolding Calls.readBackCall
           searched o e =
               ap (λ x. found x buf) (sym e)
               ∙ simp (known, eq-eqb (length w) 64 whole, eq-eqb (length buf) rate sized, symbols)

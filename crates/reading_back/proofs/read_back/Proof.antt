@@ -9,7 +9,7 @@ use Rattle.lists.specs.Over.{over-same}
 use Rattle.code.specs.Encoding.{knownRate, encodeOf}
 use Rattle.family.specs.Evaluation.{encode-length, encode-beyond}
 use Rattle.code.specs.Extraction.{extractOf}
-use Rattle.code.specs.Calls.{outcome}
+use Rattle.family.specs.Calls.{outcome}
 use denote.Ref.{now}
 use Rattle.code.specs.Rates.{longest, known-small}
 use Rattle.reading_back.proofs.Answers.{read-rate, read-word, read-buffer, read-symbol, read-refused, read-done, extract-take, extract-length}
