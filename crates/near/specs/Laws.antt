@@ -2,26 +2,31 @@
 --
 --   near-answers        the answer in the sense of `lists`: it has a near codeword and beats every other such message; or there is none
 --   near-nil, near-cons, near-append, near-member, member-near     near some test word of a list
---   tests-nil, tests-cons, tests-append, tests-none   the count of a list of test words
+--   tests-nil, tests-cons, tests-one, tests-append, tests-none   the count of a list of test words
 --   tests-answerless    where there is no answer, it is 0
 --   tests-le            it is at most their number; tests-tree: d doubtful places have at most 2 ^ d
 --   answer-append       the answer of two lists is the better of their answers
 --   answer-one          the answer of one test word is the message within T of it, whatever the costs, where so many wrong places can be repaired
 --   answer-none, codeword-none   where no codeword is near
+--   answer-word         an answer is a message
+--   only-near, only-far   where only one message can have its codeword within T of a word: it is that one if its codeword is, and none if not
 use mathlib.Core.Bool.{Bool, true, false, _||_}
 use mathlib.Core.Path.{_≡_, refl, sym, ap, _∙_, subst}
 use mathlib.Core.List.{List, [], _∷_, _++_, List·Memᴰ, List·Memᴰ·head, List·Memᴰ·tail, List·Memᴰ·cases-cons, List·Memᴰ·not-nil}
 use mathlib.Core.Logic.{_↔_, _⊎_, inl, inr, ⊎-elim}
-use mathlib.Core.Option.{none}
-use Prim.Native.Nat.{ℕ, _+_, _^_, _≤_}
+use mathlib.Core.Option.{some, none}
+use Prim.Native.Nat.{ℕ, _+_, _^_, _<_, _≤_}
 use native.Mathlib.Omega.{arith}
-use lib.Dec.{T}
+use lib.Dec.{T, le→leb, leb→le}
 use lib.ListN.{length}
 use Rattle.lists.specs.Count.{bit, bit-le}
-use Rattle.lists.specs.Answers.{Answers, Found, answers-unique, answers-none, answers-iff, answers-single, nobody, better, better-answers, free, firstThat-words, cheapest-words}
+use Rattle.lists.specs.Words.{Word}
+use Rattle.lists.specs.Answers.{Answers, Found, firstThat-only, answers-some, answers-unique, answers-none, answers-iff, answers-single, nobody, better, better-answers, free, firstThat-words, cheapest-words}
+use Rattle.soft.specs.Total.{differingIn}
 use Rattle.soft.specs.TestWord.{testWords}
 use Rattle.soft.specs.TestWordLaws.{testWords-count}
-use Rattle.family.specs.Member.{Member, symbols}
+use Rattle.family.specs.Member.{Member, symbols, places}
+use Rattle.family.specs.Encoding.{encodeOf}
 use Rattle.near.specs.Near.{nearTo, codewordNear, near, isSome, testsNear, messageCost, answerOf}
 use Rattle.near.specs.Reach.{Workable, Repairable}
 use Rattle.near.specs.Codeword.{near-one}
@@ -126,6 +131,27 @@ module _ (𝓜 : Member) (counts : ℕ → Bool) (reach : ℕ) where
   pub codeword-none : (k : ℕ) (word : List ℕ) → ((m : List ℕ) → Found (symbols 𝓜) k (nearTo 𝓜 counts reach k word) m → ⊥) → codewordNear 𝓜 counts reach k word ≡ none
   codeword-none k word f = answers-unique (word-answers k word) (nobody f)
 
+  pub answer-word : (k : ℕ) (columns : ℕ → List ℕ) (ts : List (List ℕ)) {m : List ℕ} → answerOf 𝓜 counts reach k columns ts ≡ some m → Word (symbols 𝓜) k m
+  answer-word k columns ts e =
+      answers-some (subst (Answers (messageCost 𝓜 k columns) (Found (symbols 𝓜) k (near 𝓜 counts reach k ts))) e (near-answers k columns ts)) .word
+
+  module _ (k : ℕ) (word : List ℕ) {m : List ℕ} (u : Word (symbols 𝓜) k m)
+      (only : (n : List ℕ) → Found (symbols 𝓜) k (nearTo 𝓜 counts reach k word) n → n ≡ m) where
+    pub only-near : differingIn counts (places 𝓜) (encodeOf 𝓜 k m) word ≤ reach → codewordNear 𝓜 counts reach k word ≡ some m
+    unfolding codewordNear nearTo
+    only-near close = firstThat-only (symbols 𝓜) k (nearTo 𝓜 counts reach k word) m (record { word = u; passed = le→leb _ _ close }) only
+
+    pub only-far : reach < differingIn counts (places 𝓜) (encodeOf 𝓜 k m) word → codewordNear 𝓜 counts reach k word ≡ none
+    unfolding nearTo
+    only-far far =
+        codeword-none k word
+        (λ n f.
+        omega (
+          arith,
+          leb→le (differingIn counts (places 𝓜) (encodeOf 𝓜 k n) word) reach (f .passed),
+          ap (λ x. differingIn counts (places 𝓜) (encodeOf 𝓜 k x) word) (only n f),
+        ))
+
   -- ---- the count
 
   pub tests-nil : (k : ℕ) → testsNear 𝓜 counts reach k [] ≡ 0
@@ -135,6 +161,9 @@ module _ (𝓜 : Member) (counts : ℕ → Bool) (reach : ℕ) where
   pub tests-cons : (k : ℕ) (t : List ℕ) (ts : List (List ℕ)) → testsNear 𝓜 counts reach k (t ∷ ts) ≡ bit (isSome (codewordNear 𝓜 counts reach k t)) + testsNear 𝓜 counts reach k ts
   unfolding testsNear
   tests-cons k t ts = refl
+
+  pub tests-one : (k : ℕ) (t : List ℕ) → testsNear 𝓜 counts reach k (t ∷ []) ≡ bit (isSome (codewordNear 𝓜 counts reach k t))
+  tests-one k t = omega (arith, tests-cons k t [], tests-nil k)
 
   pub tests-append : (k : ℕ) (ts us : List (List ℕ)) → testsNear 𝓜 counts reach k (ts ++ us) ≡ testsNear 𝓜 counts reach k ts + testsNear 𝓜 counts reach k us
   tests-append k [] us = omega (arith, tests-nil k)

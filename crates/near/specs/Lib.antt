@@ -5,5 +5,10 @@ pub mod Laws
 pub mod Interpolated
 pub mod Distance
 pub mod Tree
+pub mod Result
+pub mod Held
+pub mod Governing
+pub mod Left
+pub mod Flags
 pub mod Here
 pub mod BenchSheet

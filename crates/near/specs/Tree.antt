@@ -1,25 +1,28 @@
 -- The tree of test words and the nodes decided so far, for every member, any T and any places that count.
 --
---   Places n ps        ps are different places, all below n; places-of: a list that passes the tests is so
+--   Places n ps        ps are different places, all below n; places-of, places-test: a list that passes the tests is so, and the other way round
+--   not-among          what is no member is not among the list
+--   places-at          each place of them is below n
 --   Decided word ps ns   the nodes ns are those of the word at all places that count but the doubtful ones that are left, ps
 --   decided-step       one doubtful place less: its node is decided, with the symbol that the word gets there
 --   decided-through    where none is left, what passes through ns passes through the word, and back
 --   tree-spent         where every class is spent, no test word of the tree has a codeword within T, and there is no answer
-use mathlib.Core.Bool.{Bool, true, false, not, true≢false}
-use mathlib.Core.Path.{_≡_, sym, ap, _∙_, subst}
+use mathlib.Core.Bool.{Bool, true, false, not, _&&_, true≢false}
+use mathlib.Core.Path.{_≡_, refl, sym, ap, _∙_, subst}
 use mathlib.Core.List.{List, [], _∷_, List·Memᴰ, List·Memᴰ·head, List·Memᴰ·tail, List·Memᴰ·cases-cons, List·Memᴰ·not-nil}
 use mathlib.Core.Logic.{_≢_, ⊎-elim}
 use mathlib.Core.Option.{none}
-use Prim.Native.Nat.{ℕ, _<_}
+use Prim.Native.Nat.{ℕ, zero, suc, _<_}
+use native.Mathlib.Nat.{le-of-suc-le-suc}
 use native.Mathlib.Decide.{ℕ-discrete}
 use native.Mathlib.Omega.{arith}
-use lib.Dec.{T}
+use lib.Dec.{T, ltb}
 use lib.ListN.{length, getD, set}
 use lib.Seq.{getD-set-same, getD-set-other}
-use borrow.Author.Tests.{not-true}
-use Rattle.lists.specs.Count.{count, kept-length, kept-member}
+use borrow.Author.Tests.{ne-eqb, lt-ltb, not-true}
+use Rattle.lists.specs.Count.{count, kept, kept-length, kept-member}
 use Rattle.lists.specs.Member.{member-at, at-member}
-use Rattle.lists.specs.Distinct.{among, among-member, distinct, below, below-cons, and-left, and-right}
+use Rattle.lists.specs.Distinct.{among, among-member, distinct, below, below-cons, and-left, and-right, and-both}
 use Rattle.lists.specs.Listed.{listed, listed-length, listed-at}
 use Rattle.algebra.specs.Subspace.{_⊆_, common-fewer}
 use Rattle.algebra.specs.Koetter.{Basis}
@@ -45,6 +48,25 @@ places-of n (p ∷ ps) b d =
     let h = below-cons n p ps b in
     places-cons (h .0) (λ m. true≢false (sym (among-member m) ∙ not-true (among p ps) (and-left (not (among p ps)) (distinct ps) d)))
     (places-of n ps (h .1) (and-right (not (among p ps)) (distinct ps) d))
+
+pub not-among : (p : ℕ) (ps : List ℕ) → ¬ List·Memᴰ p ps → among p ps ≡ false
+unfolding among
+not-among p [] n = refl
+not-among p (q ∷ ps) n = rw (ne-eqb q p (λ e. n (List·Memᴰ·head (sym e)))) (not-among p ps (λ m. n (List·Memᴰ·tail m)))
+
+pub places-test : {n : ℕ} {ps : List ℕ} → Places n ps → (below n ps ≡ true) × (distinct ps ≡ true)
+unfolding below distinct
+places-test places-nil = (refl, refl)
+places-test {n} (places-cons {p} {ps} h fresh P) =
+    let t = places-test P in (
+      and-both (ltb p n) (below n ps) (lt-ltb p n h) (t .0),
+      and-both (not (among p ps)) (distinct ps) (ap not (not-among p ps fresh)) (t .1),
+    )
+
+pub places-at : {n : ℕ} {ps : List ℕ} → Places n ps → (i : ℕ) → i < length ps → getD ps i 0 < n
+places-at places-nil i h = absurd (omega arith)
+places-at (places-cons a f P) zero h = a
+places-at (places-cons a f P) (suc i) h = places-at P i (le-of-suc-le-suc h)
 
 module _ (𝓜 : Member) (counts : ℕ → Bool) where
   open Member 𝓜 using (gf)

@@ -1,0 +1,264 @@
+-- A codeword that is close enough to a word is the only one that can be within T of it, for every member, any T and any places that count.
+--
+--   Outside n ps u v          v is a word of n places that has the symbols of u at all places but ps
+--   outside-differing         two such words differ in no more places than ps has
+--   expand-outside            the test words of a tree are such words
+--   filledOf n c word ps      the word with the symbols of c at the places ps, each taken below n; filled-outside: it is such a word
+--   Governed k c t            so few of the places that count are places where c and t differ that no other codeword than c is within T of t
+--   governed-outside          where c and the filled word differ in few enough places, it is so for every word outside ps
+--   testsWithin c tests       how many test words are within T of the word c; within-nil, within-cons, within-append
+--   governed-only             a message whose codeword is within T of a governed word is the one that governs it
+--   governed-here             whether there is one is whether the codeword that governs is within T
+--   within-tests, within-some, within-none   so the test words that it governs are only counted: how many are near, and the answer
+use mathlib.Core.Bool.{Bool, true, false, not, _&&_, _||_}
+use mathlib.Core.Path.{_≡_, refl, sym, ap, _∙_, subst}
+use mathlib.Core.List.{List, [], _∷_, _++_, List·Memᴰ, List·Memᴰ·head, List·Memᴰ·tail, List·Memᴰ·cases-cons, List·Memᴰ·not-nil}
+use mathlib.Core.Logic.{_⊎_, inl, inr, ⊎-elim}
+use mathlib.Core.Option.{some, none}
+use Prim.Native.Nat.{ℕ, zero, suc, _+_, _%_, _<_, _≤_}
+use native.Mathlib.Nat.{mod-eq-of-lt}
+use native.Mathlib.Decide.{ℕ-discrete}
+use native.Mathlib.Omega.{arith}
+use lib.Dec.{T, eqb, leb, leb→le}
+use lib.ListN.{length, getD, set, length-set}
+use lib.Seq.{getD-set-other}
+use borrow.Author.Tests.{eq-eqb, ne-eqb, le-leb}
+use Rattle.lists.specs.Count.{bit, sumOf-mono, sumOf-plus, count, count-nil, count-suc, count-none}
+use Rattle.lists.specs.Every.{both}
+use Rattle.lists.specs.Words.{Word, Lex, lex-asym, lex-or}
+use Rattle.lists.specs.Answers.{Found, best, answers-unique}
+use Rattle.soft.specs.Total.{differingIn, differAt}
+use Rattle.soft.specs.TotalLaws.{agree-true, differing-triangle, differing-comm}
+use Rattle.soft.specs.TestWord.{expand}
+use Rattle.soft.specs.TestWordLaws.{expand-length, expand-settled}
+use Rattle.family.specs.Member.{Member, symbols, places}
+use Rattle.family.specs.Encoding.{encodeOf}
+use Rattle.near.specs.Near.{mOf, nearTo, codewordNear, near, isSome, testsNear, answerOf}
+use Rattle.near.specs.Reach.{Workable}
+use Rattle.near.specs.Distance.{codewords-apart}
+use Rattle.near.specs.Laws.{near-member, near-answers, word-answers, answer-none, codeword-none, tests-nil, tests-cons}
+use Rattle.near.specs.Tree.{Places, places-nil, places-cons}
+
+-- ---- words that have the same symbols but at some places differ in no more than these
+
+count-one : (n q : ℕ) → count n (λ p. eqb p q) ≤ 1
+count-one zero q = omega (arith, count-nil (λ p. eqb p q))
+count-one (suc n) q = go (ℕ-discrete n q) (count-one n q)
+  where
+    go : Dec (n ≡ q) → count n (λ p. eqb p q) ≤ 1 → count (suc n) (λ p. eqb p q) ≤ 1
+    go (yes e) ih =
+        omega (
+          arith,
+          count-suc n (λ p. eqb p q),
+          ap bit (eq-eqb n q e),
+          count-none n (λ p. eqb p q) (λ p l. ne-eqb p q (λ (d : p ≡ q). omega arith)),
+        )
+    go (no d) ih = omega (arith, count-suc n (λ p. eqb p q), ap bit (ne-eqb n q d))
+
+part : (a b : Bool) → bit a ≤ bit (both a (not b)) + bit b
+part true true = omega arith
+part true false = omega arith
+part false b = omega arith
+
+count-split : (n q : ℕ) (f : ℕ → Bool) → count n f ≤ count n (λ p. both (f p) (not (eqb p q))) + count n (λ p. eqb p q)
+unfolding count
+count-split n q f =
+    omega (
+      arith,
+      sumOf-mono n (λ p. bit (f p)) (λ p. bit (both (f p) (not (eqb p q))) + bit (eqb p q)) (λ p l. part (f p) (eqb p q)),
+      sumOf-plus n (λ p. bit (both (f p) (not (eqb p q)))) (λ p. bit (eqb p q)),
+    )
+
+count-members : (ps : List ℕ) (n : ℕ) (f : ℕ → Bool) → ((p : ℕ) → p < n → T (f p) → List·Memᴰ p ps) → count n f ≤ length ps
+count-members [] n f h = omega (arith, count-none n f (λ p l. fails (f p) (λ t. List·Memᴰ·not-nil (h p l t))))
+  where
+    fails : (b : Bool) → (T b → ⊥) → b ≡ false
+    fails true t = absurd (t tt)
+    fails false t = refl
+count-members (q ∷ ps) n f h =
+    omega (
+      arith,
+      count-members ps n (λ p. both (f p) (not (eqb p q))) (λ p l t. rest p l t),
+      count-split n q f,
+      count-one n q,
+    )
+  where
+    first : (a b : Bool) → T (both a (not b)) → T a × (b ≡ false)
+    first true false t = (tt, refl)
+    first true true t = absurd t
+    first false b t = absurd t
+
+    rest : (p : ℕ) → p < n → T (both (f p) (not (eqb p q))) → List·Memᴰ p ps
+    rest p l t =
+        let r = first (f p) (eqb p q) t in
+        ⊎-elim (λ (e : p ≡ q). let z : true ≡ false = sym (eq-eqb p q e) ∙ r .1 in absurd (subst T z tt)) (λ m. m)
+        (List·Memᴰ·cases-cons (h p l (r .0)))
+
+among : (p : ℕ) (ps : List ℕ) → (List·Memᴰ p ps) ⊎ (¬ List·Memᴰ p ps)
+among p [] = inr List·Memᴰ·not-nil
+among p (q ∷ ps) = go (ℕ-discrete p q) (among p ps)
+  where
+    go : Dec (p ≡ q) → (List·Memᴰ p ps) ⊎ (¬ List·Memᴰ p ps) → (List·Memᴰ p (q ∷ ps)) ⊎ (¬ List·Memᴰ p (q ∷ ps))
+    go (yes e) a = inl (List·Memᴰ·head e)
+    go (no d) (inl m) = inl (List·Memᴰ·tail m)
+    go (no d) (inr n) = inr (λ m. ⊎-elim d n (List·Memᴰ·cases-cons m))
+
+second : (a b : Bool) → T (a && b) → T b
+second true b t = t
+second false b t = absurd t
+
+module _ (n : ℕ) where
+  pub record Outside (ps u v : List ℕ) : Type 0 where
+    pub size : length v ≡ n
+    pub same : (p : ℕ) → ¬ List·Memᴰ p ps → getD v p 0 ≡ getD u p 0
+
+  pub outside-differing : (counts : ℕ → Bool) {ps word u v : List ℕ} → Outside ps word u → Outside ps word v → differingIn counts n u v ≤ length ps
+  unfolding differingIn
+  outside-differing counts {ps} {word} {u} {v} a b =
+      count-members ps n (λ p. counts p && differAt u v p)
+      (λ p l t. ⊎-elim (λ m. m) (λ o. absurd (apart p l (second (counts p) (differAt u v p) t) o)) (among p ps))
+    where
+      apart : (p : ℕ) → p < n → T (differAt u v p) → ¬ List·Memᴰ p ps → ⊥
+      apart p l t o =
+          subst (λ c. T (not c)) (agree-true u v p (omega (arith, a .size)) (omega (arith, b .size)) (a .same p o ∙ sym (b .same p o))) t
+
+  pub expand-outside : (columns : ℕ → List ℕ) (word ps : List ℕ) → length word ≡ n → (t : List ℕ) → List·Memᴰ t (expand columns word ps) → Outside ps word t
+  expand-outside columns word ps l t i =
+      record { size = expand-length columns word ps t i ∙ l; same = λ p out. expand-settled columns word ps t i p out }
+
+  unfoldable pub filledOf : List ℕ → List ℕ → List ℕ → List ℕ
+  filledOf c word [] = word
+  filledOf c word (p ∷ ps) = filledOf c (set word (p % n) (getD c (p % n) 0)) ps
+
+  pub filled-outside : (c : List ℕ) {ps : List ℕ} → Places n ps → (word : List ℕ) → length word ≡ n → Outside ps word (filledOf c word ps)
+  unfolding filledOf
+  filled-outside c places-nil word l = record { size = l; same = λ p o. refl }
+  filled-outside c (places-cons {p} {ps} h fresh P) word l =
+      let s = getD c (p % n) 0 in
+      let r = filled-outside c P (set word (p % n) s) (length-set word (p % n) s ∙ l) in
+      record {
+        size = r .size;
+        same = λ q o.
+            r .same q (λ m. o (List·Memᴰ·tail m)) ∙ getD-set-other word (p % n) q s 0 (λ e. o (List·Memᴰ·head (e ∙ mod-eq-of-lt h)));
+      }
+
+module _ (𝓜 : Member) (counts : ℕ → Bool) (reach : ℕ) where
+  abbrev pub Governed : ℕ → List ℕ → List ℕ → Type 0
+  Governed k c t = differingIn counts (places 𝓜) c t + reach + mOf 𝓜 k < count (places 𝓜) counts
+
+  pub governed-outside : (k : ℕ) (c word : List ℕ) {ps : List ℕ} → Places (places 𝓜) ps → length word ≡ places 𝓜
+      → differingIn counts (places 𝓜) c (filledOf (places 𝓜) c word ps) + length ps + reach + mOf 𝓜 k < count (places 𝓜) counts
+      → (t : List ℕ) → Outside (places 𝓜) ps word t → Governed k c t
+  governed-outside k c word {ps} P size close t o =
+      omega (
+        arith,
+        close,
+        differing-triangle counts (places 𝓜) c (filledOf (places 𝓜) c word ps) t,
+        outside-differing (places 𝓜) counts (filled-outside (places 𝓜) c P word size) o,
+      )
+
+  -- ---- how many test words are within T of a codeword
+
+  unfoldable pub testsWithin : List ℕ → List (List ℕ) → ℕ
+  testsWithin c [] = 0
+  testsWithin c (t ∷ tests) = bit (leb (differingIn counts (places 𝓜) c t) reach) + testsWithin c tests
+
+  module _ (c : List ℕ) where
+    pub within-nil : testsWithin c [] ≡ 0
+    unfolding testsWithin
+    within-nil = refl
+
+    pub within-cons : (t : List ℕ) (ts : List (List ℕ)) → testsWithin c (t ∷ ts) ≡ bit (leb (differingIn counts (places 𝓜) c t) reach) + testsWithin c ts
+    unfolding testsWithin
+    within-cons t ts = refl
+
+    pub within-append : (ts us : List (List ℕ)) → testsWithin c (ts ++ us) ≡ testsWithin c ts + testsWithin c us
+    within-append [] us = omega (arith, within-nil)
+    within-append (t ∷ ts) us = omega (arith, within-cons t (ts ++ us), within-cons t ts, within-append ts us)
+
+  -- ---- near one codeword there is no other
+
+  module _ {k : ℕ} (rate : Workable 𝓜 k) {m : List ℕ} (w : Word (symbols 𝓜) k m) where
+    pub governed-only : (t n : List ℕ) → Governed k (encodeOf 𝓜 k m) t → Found (symbols 𝓜) k (nearTo 𝓜 counts reach k t) n → n ≡ m
+    unfolding nearTo
+    governed-only t n close f =
+        ⊎-elim (λ l. absurd (far (λ e. lex-asym m n l (subst (λ x. Lex n x) (sym e) (subst (λ x. Lex x n) e l)))))
+        (⊎-elim (λ e. e) (λ l. absurd (far (λ e. lex-asym n m l (subst (λ x. Lex m x) e (subst (λ x. Lex x m) (sym e) l)))))) (lex-or m n)
+      where
+        far : (m ≡ n → ⊥) → ⊥
+        far other =
+            omega (
+              arith,
+              codewords-apart 𝓜 counts rate w (f .word) other,
+              differing-triangle counts (places 𝓜) (encodeOf 𝓜 k m) t (encodeOf 𝓜 k n),
+              differing-comm counts (places 𝓜) t (encodeOf 𝓜 k n),
+              leb→le (differingIn counts (places 𝓜) (encodeOf 𝓜 k n) t) reach (f .passed),
+            )
+
+    pub governed-here : (t : List ℕ) → Governed k (encodeOf 𝓜 k m) t → isSome (codewordNear 𝓜 counts reach k t) ≡ nearTo 𝓜 counts reach k t m
+    governed-here t close = go (nearTo 𝓜 counts reach k t m) refl
+      where
+        go : (b : Bool) → nearTo 𝓜 counts reach k t m ≡ b → isSome (codewordNear 𝓜 counts reach k t) ≡ b
+        go true e =
+            ap isSome
+            (answers-unique (word-answers 𝓜 counts reach k t)
+            (best (record { word = w; passed = subst T (sym e) tt }) (λ n f. inl (governed-only t n close f))))
+        go false e =
+            ap isSome
+            (codeword-none 𝓜 counts reach k t (λ n f. subst T (ap (nearTo 𝓜 counts reach k t) (governed-only t n close f) ∙ e) (f .passed)))
+
+    pub within-tests : (ts : List (List ℕ)) → ((t : List ℕ) → List·Memᴰ t ts → Governed k (encodeOf 𝓜 k m) t)
+        → testsNear 𝓜 counts reach k ts ≡ testsWithin (encodeOf 𝓜 k m) ts
+    unfolding nearTo
+    within-tests [] h = tests-nil 𝓜 counts reach k ∙ sym (within-nil (encodeOf 𝓜 k m))
+    within-tests (t ∷ ts) h =
+        omega (
+          arith,
+          tests-cons 𝓜 counts reach k t ts,
+          within-cons (encodeOf 𝓜 k m) t ts,
+          ap bit (governed-here t (h t (List·Memᴰ·head refl))),
+          within-tests ts (λ u i. h u (List·Memᴰ·tail i)),
+        )
+
+    within-near : (ts : List (List ℕ)) → 0 < testsWithin (encodeOf 𝓜 k m) ts → T (near 𝓜 counts reach k ts m)
+    unfolding nearTo near
+    within-near [] h = absurd (omega (arith, within-nil (encodeOf 𝓜 k m)))
+    within-near (t ∷ ts) h = go (leb (differingIn counts (places 𝓜) (encodeOf 𝓜 k m) t) reach) refl (within-near ts)
+      where
+        go : (b : Bool) → leb (differingIn counts (places 𝓜) (encodeOf 𝓜 k m) t) reach ≡ b
+            → (0 < testsWithin (encodeOf 𝓜 k m) ts → T (near 𝓜 counts reach k ts m))
+            → T (nearTo 𝓜 counts reach k t m || near 𝓜 counts reach k ts m)
+        go true e ih = subst (λ b. T (b || near 𝓜 counts reach k ts m)) (sym e) tt
+        go false e ih = subst (λ b. T (b || near 𝓜 counts reach k ts m)) (sym e) (ih (omega (arith, within-cons (encodeOf 𝓜 k m) t ts, ap bit e)))
+
+    near-within : (ts : List (List ℕ)) (t : List ℕ) → List·Memᴰ t ts → T (nearTo 𝓜 counts reach k t m) → 0 < testsWithin (encodeOf 𝓜 k m) ts
+    unfolding nearTo
+    near-within [] t i h = absurd (List·Memᴰ·not-nil i)
+    near-within (u ∷ ts) t i h =
+        ⊎-elim
+        (λ (e : t ≡ u).
+        omega (
+          arith,
+          within-cons (encodeOf 𝓜 k m) u ts,
+          ap bit
+              (le-leb (differingIn counts (places 𝓜) (encodeOf 𝓜 k m) u) reach
+              (subst (λ v. differingIn counts (places 𝓜) (encodeOf 𝓜 k m) v ≤ reach) e (leb→le (differingIn counts (places 𝓜) (encodeOf 𝓜 k m) t) reach h))),
+        ))
+        (λ j. omega (arith, within-cons (encodeOf 𝓜 k m) u ts, near-within ts t j h)) (List·Memᴰ·cases-cons i)
+
+    module _ (columns : ℕ → List ℕ) (ts : List (List ℕ)) (h : (t : List ℕ) → List·Memᴰ t ts → Governed k (encodeOf 𝓜 k m) t) where
+      pub within-some : 0 < testsWithin (encodeOf 𝓜 k m) ts → answerOf 𝓜 counts reach k columns ts ≡ some m
+      within-some some-one =
+          answers-unique (near-answers 𝓜 counts reach k columns ts)
+          (best (record { word = w; passed = within-near ts some-one })
+          (λ n f.
+          let r = near-member 𝓜 counts reach k ts n (f .passed) in
+          inl (governed-only (r .0) n (h (r .0) (r .1)) (record { word = f .word; passed = r .2 }))))
+
+      pub within-none : testsWithin (encodeOf 𝓜 k m) ts ≡ 0 → answerOf 𝓜 counts reach k columns ts ≡ none
+      within-none e =
+          answer-none 𝓜 counts reach k columns ts
+          (λ n f.
+          let r = near-member 𝓜 counts reach k ts n (f .passed) in
+          let q = governed-only (r .0) n (h (r .0) (r .1)) (record { word = f .word; passed = r .2 }) in
+          omega (arith, near-within ts (r .0) (r .1) (subst (λ x. T (nearTo 𝓜 counts reach k (r .0) x)) q (r .2))))
