@@ -12,18 +12,20 @@ use Rattle.lists.specs.Over.{over}
 use Rattle.lists.specs.Padded.{padded, padded-over}
 use Rattle.hermitian.specs.Orders.{orderOf}
 use Rattle.code.specs.Encoding.{encodeOf}
-use Rattle.code.specs.Rates.{longest, longest-is}
+use Rattle.code.specs.Rates.{mostRate, longest, longest-is}
 use Rattle.family.specs.Evaluation.{order-below, encode-beyond}
 use Rattle.candidate.specs.Candidate.{symbolIn}
 use Rattle.family.specs.Member.{m16}
+use Rattle.near.specs.Held as Family
+use Rattle.rows.specs.Rows.{plainWidth, xOrder}
 
 -- the order of a symbol, and what stands there
-pub order-fits : (t : ℕ) {o : ℕ} → o ≡ orderOf 4 (t % longest) → o < 64
+pub order-fits : (t : ℕ) {o : ℕ} → o ≡ orderOf xOrder (t % longest) → o < plainWidth
 order-fits t e = omega (arith, order-below m16 (t % longest) (omega (arith, longest-is)))
 
-pub symbol-at : (function : List ℕ) (t : ℕ) {o : ℕ} → t < longest → o ≡ orderOf 4 (t % longest) → getD function o 0 ≡ symbolIn function t
-unfolding symbolIn
-symbol-at function t h e = ap (λ k. getD function k 0) (e ∙ ap (orderOf 4) (mod-eq-of-lt h))
+pub symbol-at : (function : List ℕ) (t : ℕ) {o : ℕ} → t < longest → o ≡ orderOf xOrder (t % longest) → getD function o 0 ≡ symbolIn function t
+unfolding Family.symbolIn
+symbol-at function t h e = ap (λ k. getD function k 0) (e ∙ ap (orderOf xOrder) (mod-eq-of-lt h))
 
 -- behind the symbols stand the array's zeros
 pub message-end : (w k t : ℕ) (out : List ℕ) (f : ℕ → ℕ) → t ≡ k → Filled (replicate w 0) f t out → out ≡ padded w (listed k f)
@@ -36,7 +38,7 @@ message-end w k t out f e h =
     ∙ padded-over w (listed k f)
 
 -- the first k symbols of a message, lent as a part
-pub lent-message : (k : ℕ) (message : List ℕ) → k ≤ 49 → length message ≡ 49
+pub lent-message : (k : ℕ) (message : List ℕ) → k ≤ mostRate → length message ≡ mostRate
     → encodeOf longest (take (k - 0) (drop 0 message)) ≡ encodeOf k (take k message)
 lent-message k message h e =
     let z : k - 0 ≡ k = omega arith in

@@ -5,40 +5,31 @@
 --   CandidateOf k row r    r is a message of k symbols, with zeros behind it, and its codeword; and the only one that can be within T of a word that the row holds
 --   candidate-near         a candidate within T of such a word is the message whose codeword is,
 --   candidate-far          and where it is not, there is none
-use mathlib.Core.Path.{_≡_, ap, subst}
+use mathlib.Core.Path.{_≡_, subst}
 use mathlib.Core.List.{List}
 use mathlib.Core.Option.{some, none}
 use Prim.Native.Nat.{ℕ, _<_, _≤_}
-use native.Mathlib.Omega.{arith}
-use lib.Dec.{le→leb, leb→le}
-use lib.ListN.{getD, take}
+use lib.ListN.{take}
 use Rattle.lists.specs.Padded.{padded}
 use Rattle.lists.specs.Words.{Word}
-use Rattle.lists.specs.Answers.{Found, firstThat-only}
-use Rattle.algebra.specs.Coefficients.{Lead}
-use Rattle.galois.specs.Field16.{K16}
-use Rattle.hermitian.specs.Orders.{orderOf}
+use Rattle.lists.specs.Answers.{Found}
 use Rattle.rows.specs.Rows.{coef}
 use Rattle.code.specs.Encoding.{encodeOf}
 use Rattle.code.specs.Rates.{mostRate}
-use Rattle.code.specs.Nodes.{ThroughNodes}
 use Rattle.soft.specs.Column.{places, symbols}
 use Rattle.soft.specs.Total.{everywhere, differing}
-use Rattle.near.specs.Here.{mOf, reachOf, nearTo, codewordNear, limitOf, nodesOf}
-use Rattle.near.specs.Laws.{codeword-none}
+use Rattle.near.specs.Here.{mOf, reachOf, nearTo, codewordNear}
+use Rattle.near.specs.Laws.{only-near, only-far}
+use Rattle.near.specs.Held as Family
 use Rattle.interpolation.specs.Polynomial.{polynomial}
-use Rattle.candidate.specs.declared.Candidate.{Candidate}
 use Rattle.family.specs.Member.{m16}
-use Rattle.near.specs.Near as Near
+use Rattle.candidate.specs.declared.Candidate.{Candidate}
 
-unfoldable pub symbolIn : List ℕ → ℕ → ℕ
-symbolIn function t = getD function (orderOf 4 t) 0
+abbrev pub symbolIn : List ℕ → ℕ → ℕ
+symbolIn function t = Family.symbolIn m16 function t
 
-pub record Held (k : ℕ) (word row : List ℕ) : Type 0 where
-  pub lead : ℕ
-  pub through : ThroughNodes (mOf k) (nodesOf word) (polynomial (mOf k) (coef row))
-  pub leads : Lead K16 (polynomial (mOf k) (coef row)) lead
-  pub unspent : lead ≤ limitOf k
+abbrev pub Held : ℕ → List ℕ → List ℕ → Type 0
+Held k word row = Family.Held m16 everywhere (reachOf k) k word (polynomial (mOf k) (coef row))
 
 pub record CandidateOf (k : ℕ) (row : List ℕ) (r : Candidate) : Type 0 where
   pub word : Word symbols k (take k (r .message))
@@ -48,19 +39,9 @@ pub record CandidateOf (k : ℕ) (row : List ℕ) (r : Candidate) : Type 0 where
 
 module _ {k : ℕ} {row : List ℕ} {r : Candidate} (C : CandidateOf k row r) (word : List ℕ) (h : Held k word row) where
   pub candidate-near : differing places (r .codeword) word ≤ reachOf k → codewordNear k word ≡ some (take k (r .message))
-  unfolding Near.codewordNear Near.nearTo
   candidate-near close =
-      firstThat-only symbols k (nearTo k word) (take k (r .message))
-      (record { word = C .word; passed = le→leb _ _ (subst (λ c. differing places c word ≤ reachOf k) (C .encoded) close) }) (C .only word h)
+      only-near m16 everywhere (reachOf k) k word (C .word) (C .only word h) (subst (λ c. differing places c word ≤ reachOf k) (C .encoded) close)
 
   pub candidate-far : reachOf k < differing places (r .codeword) word → codewordNear k word ≡ none
-  unfolding Near.nearTo
   candidate-far far =
-      codeword-none m16 everywhere (reachOf k) k word
-      (λ n f.
-      omega (
-        arith,
-        leb→le (differing places (encodeOf k n) word) (reachOf k) (f .passed),
-        ap (λ c. differing places c word) (C .encoded),
-        ap (λ m. differing places (encodeOf k m) word) (C .only word h n f),
-      ))
+      only-far m16 everywhere (reachOf k) k word (C .word) (C .only word h) (subst (λ c. reachOf k < differing places c word) (C .encoded) far)

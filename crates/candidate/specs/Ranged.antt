@@ -1,6 +1,7 @@
 -- The rates that rows have room for.
 --
---   Ranged k        k from 27 to 49
+--   leastRate       27, the smallest of them
+--   Ranged k        k from there to the largest rate
 --   workable        such a rate has a T
 --   top-small       M is from 32 to 54
 --   reach-small     T is at most 28
@@ -14,8 +15,11 @@ use Rattle.near.specs.Interpolated as Interpolated
 use Rattle.near.specs.Near as Near
 use Rattle.hermitian.specs.Present.{genus}
 
+abbrev pub leastRate : ℕ
+leastRate = 27
+
 pub record Ranged (k : ℕ) : Type 0 where
-  pub least : 27 ≤ k
+  pub least : leastRate ≤ k
   pub most : k ≤ mostRate
 
 pub workable : {k : ℕ} → Ranged k → Workable k
