@@ -33,9 +33,9 @@ before-more : (a b : ℕ) (m n : List ℕ) → b < a → isBefore (a ∷ m) (b �
 unfolding isBefore
 before-more a b m n h = simp (le-ltb a b (omega arith), ne-eqb a b (λ (e : a ≡ b). omega arith))
 
-module _ (k t : ℕ) (a b : List ℕ) (small : k ≤ 49) (la : length a ≡ 49) (lb : length b ≡ 49) (inside : t < k) where
+module _ (k t : ℕ) (a b : List ℕ) {size : ℕ} (small : k ≤ size) (la : length a ≡ size) (lb : length b ≡ size) (inside : t < k) where
   -- from symbol t on
-  heads : (l : List ℕ) → length l ≡ 49 → drop t (take k l) ≡ getD l t 0 ∷ drop (suc t) (take k l)
+  heads : (l : List ℕ) → length l ≡ size → drop t (take k l) ≡ getD l t 0 ∷ drop (suc t) (take k l)
   heads l e =
       drop-cons (take k l) t 0 (omega (arith, length-take k l))
       ∙ ap (λ x. x ∷ drop (suc t) (take k l)) (getD-take k l t 0 inside)
@@ -52,12 +52,12 @@ module _ (k t : ℕ) (a b : List ℕ) (small : k ≤ 49) (la : length a ≡ 49) 
       ∙ ap (λ n. isBefore (drop n (take k a)) (drop n (take k b))) (sym (add-one t))
 
 -- nothing is left
-pub before-end : (k t : ℕ) (a b : List ℕ) → t ≡ k → k ≤ 49 → length a ≡ 49 → length b ≡ 49
+pub before-end : (k t : ℕ) (a b : List ℕ) {size : ℕ} → t ≡ k → k ≤ size → length a ≡ size → length b ≡ size
     → isBefore (drop t (take k a)) (drop t (take k b)) ≡ false
 unfolding isBefore
-before-end k t a b e h la lb = ap₂ isBefore (none-left a la) (none-left b lb)
+before-end k t a b {size} e h la lb = ap₂ isBefore (none-left a la) (none-left b lb)
   where
-    none-left : (l : List ℕ) → length l ≡ 49 → drop t (take k l) ≡ []
+    none-left : (l : List ℕ) → length l ≡ size → drop t (take k l) ≡ []
     none-left l q = let b : length (take k l) ≤ t = omega (arith, length-take k l) in drop-of-length-le (take k l) b
 
 -- ---- two answers

@@ -13,12 +13,11 @@ use native.Mathlib.Omega.{arith}
 use lib.ListN.{length, take, replicate}
 use Rattle.lists.specs.Padded.{padded, padded-take}
 use Rattle.lists.specs.Words.{Word}
-use Rattle.lists.specs.Answers.{Answers, answers-some, Found as Passed}
 use Rattle.code.specs.Encoding.{encodeOf}
 use Rattle.code.specs.Rates.{mostRate}
 use Rattle.soft.specs.Column.{places, symbols}
-use Rattle.near.specs.Here.{reachOf, near, testsNear, messageCost, answerOf}
-use Rattle.near.specs.Laws.{near-answers, tests-answerless}
+use Rattle.near.specs.Here.{reachOf, testsNear, messageCost, answerOf}
+use Rattle.near.specs.Laws.{answer-word, tests-answerless}
 use Rattle.answers.specs.declared.Answer.{Answer}
 use Rattle.answers.specs.declared.Answer.the-variants.{NoneNear, Near}
 use Rattle.answers.specs.declared.Found.{Found}
@@ -71,13 +70,10 @@ module _ {k : ℕ} {columns : ℕ → List ℕ} where
           ∙ sym (ap (foundFor k columns (testsNear k ts)) (q .0))
 
 module _ (k : ℕ) (columns : ℕ → List ℕ) (ts : List (List ℕ)) (small : k ≤ mostRate) where
-  answer-word : {m : List ℕ} → answerOf k columns ts ≡ some m → Word symbols k m
-  answer-word e = answers-some (subst (Answers (messageCost k columns) (Passed symbols k (near k ts))) e (near-answers m16 everywhere (reachOf k) k columns ts)) .word
-
   -- the answer's message is read back from the front
   front : {m : List ℕ} → answerOf k columns ts ≡ some m → m ≡ take k (padded mostRate m)
   front {m} e =
-      let l : length m ≡ k = answer-word e .size in
+      let l : length m ≡ k = answer-word m16 everywhere (reachOf k) k columns ts e .size in
       sym (ap (λ n. take n (padded mostRate m)) (sym l) ∙ padded-take mostRate m (omega arith))
 
   pub found-nearest : Nearest k columns ts (foundOf k columns ts)
@@ -99,7 +95,7 @@ module _ (k : ℕ) (columns : ℕ → List ℕ) (ts : List (List ℕ)) (small : 
       go (some m) e =
           record {
             nothing = λ h. let z : _≡_ {A = ℕ} 0 1 = cc in absurd (omega arith);
-            word = λ t h. subst (Word symbols k) (front e) (answer-word e);
+            word = λ t h. subst (Word symbols k) (front e) (answer-word m16 everywhere (reachOf k) k columns ts e);
             behind = λ t h. ap (padded mostRate) (front e);
             encoded = λ t h. ap (encodeOf k) (front e);
             cost = λ t h. let q : t ≡ messageCost k columns m = cc in q ∙ ap (messageCost k columns) (front e);

@@ -20,7 +20,8 @@ use Rattle.near.specs.Laws.{tests-append, answer-append}
 use Rattle.answers.specs.declared.Answer.{Answer}
 use Rattle.answers.specs.declared.Answer.the-variants.{NoneNear, Near}
 use Rattle.answers.specs.declared.Found.{Found}
-use Rattle.answers.specs.Result.{resultFor, resultOf}
+use Rattle.near.specs.Result as Family
+use Rattle.answers.specs.Result.{resultFor}
 use Rattle.answers.specs.Nearest.{Nearest, nearest-nobody, nearest-somebody}
 use Rattle.answers.specs.Answered.{counted, Sound, sound-counted}
 use Rattle.family.specs.Member.{m16}
@@ -84,7 +85,7 @@ module _ {k : ℕ} {columns : ℕ → List ℕ} {ts us : List (List ℕ)} {a b :
       ∙ ap (λ c. cond c (answerOf k columns ts) (answerOf k columns us)) (beats-by (messageCost k columns) m n (P .1) (Q .1))
 
   pub better-joins : Nearest k columns (ts ++ us) (betterOf k a b)
-  unfolding betterOf counted resultOf
+  unfolding betterOf counted Family.resultOf
   better-joins = go (isBetter k (a .answer) (a .message) (b .answer) (b .message)) (answer-kept (a .answer) (b .answer) refl refl)
     where
       counts : a .tests + b .tests ≡ testsNear k (ts ++ us)

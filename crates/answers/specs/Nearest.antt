@@ -14,7 +14,9 @@ use Rattle.near.specs.Here.{reachOf, testsNear, messageCost, answerOf}
 use Rattle.near.specs.Laws.{tests-answerless}
 use Rattle.answers.specs.declared.Answer.the-variants.{NoneNear, Near}
 use Rattle.answers.specs.declared.Found.{Found}
-use Rattle.answers.specs.Result.{Result, refusedResult, resultIn, resultFor, resultOf, nothingFound}
+use Rattle.near.specs.Result.{Result, refusedResult}
+use Rattle.near.specs.Result as Family
+use Rattle.answers.specs.Result.{resultIn, resultFor, resultOf, nothingFound}
 use Rattle.family.specs.Member.{m16}
 use Rattle.soft.specs.Total.{everywhere}
 
@@ -25,13 +27,13 @@ pub record Nearest (k : ℕ) (columns : ℕ → List ℕ) (tests : List (List �
 -- results tell the cases apart
 module _ (k : ℕ) (columns : ℕ → List ℕ) (message : List ℕ) where
   result-none : (o : Option (List ℕ)) → resultIn k NoneNear message ≡ resultFor k columns o → o ≡ none
-  unfolding resultIn resultFor refusedResult
+  unfolding resultIn Family.resultFor refusedResult
   result-none none e = refl
   result-none (some m) e = let z : noneNear ≡ accepted = ap (λ (r : Result). r .number) e in absurd (omega arith)
 
   result-some : (t : ℕ) (o : Option (List ℕ)) → resultIn k (Near t) message ≡ resultFor k columns o
       → (o ≡ some (take k message)) × (t ≡ messageCost k columns (take k message))
-  unfolding resultIn resultFor refusedResult
+  unfolding resultIn Family.resultFor refusedResult
   result-some t none e = let z : accepted ≡ noneNear = ap (λ (r : Result). r .number) e in absurd (omega arith)
   result-some t (some m) e =
       let q : take k message ≡ m = ap (λ (r : Result). r .message) e in
@@ -40,21 +42,21 @@ module _ (k : ℕ) (columns : ℕ → List ℕ) (message : List ℕ) where
 module _ {k : ℕ} {columns : ℕ → List ℕ} {ts : List (List ℕ)} where
   module _ {f : Found} (n : Nearest k columns ts f) where
     pub nearest-nobody : f .answer ≡ NoneNear → answerOf k columns ts ≡ none
-    unfolding resultOf
+    unfolding Family.resultOf
     nearest-nobody e = result-none k columns (f .message) (answerOf k columns ts) (ap (λ a. resultIn k a (f .message)) (sym e) ∙ n .result)
 
     pub nearest-somebody : (t : ℕ) → f .answer ≡ Near t
         → (answerOf k columns ts ≡ some (take k (f .message))) × (t ≡ messageCost k columns (take k (f .message)))
-    unfolding resultOf
+    unfolding Family.resultOf
     nearest-somebody t e = result-some k columns (f .message) t (answerOf k columns ts) (ap (λ a. resultIn k a (f .message)) (sym e) ∙ n .result)
 
   pub nearest-nothing : answerOf k columns ts ≡ none → Nearest k columns ts nothingFound
-  unfolding nothingFound resultIn resultOf resultFor
+  unfolding nothingFound resultIn Family.resultOf Family.resultFor
   nearest-nothing e = record { count = sym (tests-answerless m16 everywhere (reachOf k) k columns ts e); result = sym (ap (resultFor k columns) e) }
 
   pub nearest-some : (f : Found) (t : ℕ) → f .answer ≡ Near t → testsNear k ts ≡ f .tests → answerOf k columns ts ≡ some (take k (f .message))
       → t ≡ messageCost k columns (take k (f .message)) → Nearest k columns ts f
-  unfolding resultIn resultOf resultFor
+  unfolding resultIn Family.resultOf Family.resultFor
   nearest-some f t e p q r =
       record {
         count = sym p;

@@ -1,15 +1,13 @@
 -- Document 01's number and values for each case of the answer, and what a search returns.
 --
---   Result                     0 or the refusal's number, the message and its total
---   refusedResult n            refused with the number n: no message, and zero in the other number
 --   resultIn k answer message  the result of an answer with the message beside it: 9 where none is near; else 0, the first k symbols, the total
---   resultOf k columns tests   the result of a list of test words: 9 if no codeword is near; else 0, the answer's message and its total cost
+--   resultFor, resultOf        the result of an answer's message and of a list of test words, as the family has them
 --   nothingFound               none near, and zeros beside it
 --   foundOf k columns tests    the answer with its total, its message with zeros behind it, its codeword, and how many test words have a codeword
 --                              within T; or nothing found
 --   found-same                 two findings are equal by their parts
 use mathlib.Core.Path.{_≡_}
-use mathlib.Core.List.{List, []}
+use mathlib.Core.List.{List}
 use mathlib.Core.Option.{Option, none, some}
 use Prim.Native.Nat.{ℕ}
 use lib.ListN.{take, replicate}
@@ -18,30 +16,24 @@ use Rattle.lists.specs.Padded.{padded}
 use Rattle.code.specs.Encoding.{encodeOf}
 use Rattle.code.specs.Rates.{mostRate}
 use Rattle.soft.specs.Column.{places}
-use Rattle.near.specs.Here.{testsNear, messageCost, answerOf}
+use Rattle.soft.specs.Total.{everywhere}
+use Rattle.family.specs.Member.{m16}
+use Rattle.near.specs.Here.{reachOf, testsNear, messageCost, answerOf}
+use Rattle.near.specs.Result.{Result, refusedResult}
+use Rattle.near.specs.Result as Family
 use Rattle.answers.specs.declared.Answer.{Answer}
 use Rattle.answers.specs.declared.Answer.the-variants.{NoneNear, Near}
 use Rattle.answers.specs.declared.Found.{Found}
-
-pub record Result : Type 0 where
-  pub number : ℕ
-  pub message : List ℕ
-  pub total : ℕ
-
-unfoldable pub refusedResult : ℕ → Result
-refusedResult n = record { number = n; message = []; total = 0 }
 
 unfoldable pub resultIn : ℕ → Answer → List ℕ → Result
 resultIn k NoneNear message = refusedResult noneNear
 resultIn k (Near t) message = record { number = accepted; message = take k message; total = t }
 
--- by the answer's message, if there is one
-unfoldable pub resultFor : ℕ → (ℕ → List ℕ) → Option (List ℕ) → Result
-resultFor k columns none = refusedResult noneNear
-resultFor k columns (some m) = record { number = accepted; message = m; total = messageCost k columns m }
+abbrev pub resultFor : ℕ → (ℕ → List ℕ) → Option (List ℕ) → Result
+resultFor k columns o = Family.resultFor m16 k columns o
 
-unfoldable pub resultOf : ℕ → (ℕ → List ℕ) → List (List ℕ) → Result
-resultOf k columns tests = resultFor k columns (answerOf k columns tests)
+abbrev pub resultOf : ℕ → (ℕ → List ℕ) → List (List ℕ) → Result
+resultOf k columns tests = Family.resultOf m16 everywhere (reachOf k) k columns tests
 
 unfoldable pub nothingFound : Found
 nothingFound = record { answer = NoneNear; message = replicate mostRate 0; codeword = replicate places 0; tests = 0 }
