@@ -5,32 +5,33 @@ use mathlib.Core.List.{List, []}
 use Prim.Native.Nat.{ℕ, _+_, _-_, _%_, _^_, _<_, _≤_}
 use native.Mathlib.Omega.{arith}
 use lib.Dec.{leb, ltb}
-use lib.ListN.{length, getD, take, drop, set, length-take, length-drop}
+use lib.ListN.{length, getD, take, drop, set}
 use borrow.Author.Tests.{le-leb, lt-leb}
 use Rattle.lists.specs.Count.{bit, bit-le}
-use Rattle.soft.specs.Total.{differing}
+use Rattle.soft.specs.Column.{places}
+use Rattle.soft.specs.Doubt.{mostDoubt}
+use Rattle.soft.specs.Total.{everywhere, differing}
+use Rattle.family.specs.Member.{m16}
 use Rattle.soft.specs.TestWord.{bestAt, secondAt, expand}
 use Rattle.soft.specs.TestWordLaws.{expand-nil, expand-cons}
 use Rattle.near.specs.Here.{mOf, reachOf, Places}
 use Rattle.answers.specs.declared.Answer.the-variants.{NoneNear, Near}
 use Rattle.answers.specs.declared.Found.{Found}
-use Rattle.known.specs.Left.{left-cons, left-none, places-rest, split-places, twice}
+use Rattle.near.specs.Left.{left-cons, left-none, places-rest, split-places, twice}
+use Rattle.near.specs.Governing.{within-nil, within-cons, within-append}
+use Rattle.near.specs.Governing as Family
 use Rattle.known.specs.Known.{isNear, laterOf, filledOf, governsOf, testsWithin, WithinOf}
-use Rattle.known.specs.Governing.{within-nil, within-cons, within-append}
-
-pub rest-length : (doubtful : List ℕ) (doubt left : ℕ) → length doubtful ≡ 8 → doubt ≤ 8 → left ≤ doubt → length (drop (doubt - left) (take doubt doubtful)) ≡ left
-rest-length doubtful doubt left eight few within = omega (arith, length-drop (doubt - left) (take doubt doubtful), length-take doubt doubtful)
 
 -- a loop that writes one place after the other
 module _ (c doubtful out : List ℕ) (doubt i : ℕ) where
-  pub filled-turn : length doubtful ≡ 8 → doubt ≤ 8 → i < doubt
+  pub filled-turn : length doubtful ≡ mostDoubt → doubt ≤ mostDoubt → i < doubt
       → filledOf c out (drop i (take doubt doubtful))
-      ≡ filledOf c (set out (getD doubtful i 0 % 64) (getD c (getD doubtful i 0 % 64) 0)) (drop (i + 1) (take doubt doubtful))
-  unfolding filledOf
+      ≡ filledOf c (set out (getD doubtful i 0 % places) (getD c (getD doubtful i 0 % places) 0)) (drop (i + 1) (take doubt doubtful))
+  unfolding Family.filledOf
   filled-turn eight few h = ap (filledOf c out) (left-cons doubtful doubt i eight few h)
 
   pub filled-end : doubt ≤ i → filledOf c out (drop i (take doubt doubtful)) ≡ out
-  unfolding filledOf
+  unfolding Family.filledOf
   filled-end h = ap (filledOf c out) (left-none doubtful doubt i h)
 
 module _ (k : ℕ) (known : Found) (word ps : List ℕ) where
@@ -39,7 +40,7 @@ module _ (k : ℕ) (known : Found) (word ps : List ℕ) where
   governs-none e = sym (rw e)
 
   pub governs-some : (t left d r m : ℕ) (agreed : List ℕ) → known .answer ≡ Near t → length ps ≡ left → agreed ≡ filledOf (known .codeword) word ps
-      → d ≡ differing 64 (known .codeword) agreed → r ≡ reachOf k → m ≡ 64 - mOf k → ltb (d + left + r) m ≡ governsOf k known word ps
+      → d ≡ differing places (known .codeword) agreed → r ≡ reachOf k → m ≡ places - mOf k → ltb (d + left + r) m ≡ governsOf k known word ps
   unfolding governsOf isNear
   governs-some t left d r m agreed near size agreed-is d-is r-is m-is = rw (near, d-is, agreed-is, sym size, r-is, m-is)
 
@@ -53,28 +54,28 @@ module _ (first known : Found) where
   later-some t e = sym (rw e)
 
 -- one word, by the distance that is measured
-module _ (k : ℕ) (c word : List ℕ) (d r : ℕ) (d-is : d ≡ differing 64 c word) (r-is : r ≡ reachOf k) where
-  pub within-yes : d ≤ r → 1 ≡ bit (leb (differing 64 c word) (reachOf k))
-  within-yes h = sym (ap bit (le-leb (differing 64 c word) (reachOf k) (omega arith)))
+module _ (k : ℕ) (c word : List ℕ) (d r : ℕ) (d-is : d ≡ differing places c word) (r-is : r ≡ reachOf k) where
+  pub within-yes : d ≤ r → 1 ≡ bit (leb (differing places c word) (reachOf k))
+  within-yes h = sym (ap bit (le-leb (differing places c word) (reachOf k) (omega arith)))
 
-  pub within-no : r < d → 0 ≡ bit (leb (differing 64 c word) (reachOf k))
-  within-no h = sym (ap bit (lt-leb (differing 64 c word) (reachOf k) (omega arith)))
+  pub within-no : r < d → 0 ≡ bit (leb (differing places c word) (reachOf k))
+  within-no h = sym (ap bit (lt-leb (differing places c word) (reachOf k) (omega arith)))
 
 -- where no place is left
-pub within-end : (k : ℕ) (columns : ℕ → List ℕ) (c word ps : List ℕ) (left n : ℕ) → left ≡ 0 → ps ≡ [] → n ≡ bit (leb (differing 64 c word) (reachOf k))
+pub within-end : (k : ℕ) (columns : ℕ → List ℕ) (c word ps : List ℕ) (left n : ℕ) → left ≡ 0 → ps ≡ [] → n ≡ bit (leb (differing places c word) (reachOf k))
     → WithinOf k columns c word ps left n
 within-end k columns c word ps left n none-left end n-is =
     record {
-      few = subst (λ l. n ≤ 2 ^ l) (sym none-left) (subst (λ m. m ≤ 1) (sym n-is) (bit-le (leb (differing 64 c word) (reachOf k))));
-      counts = λ P. n-is ∙ sym (ap (λ q. testsWithin k c (expand columns word q)) end ∙ ap (testsWithin k c) (expand-nil columns word) ∙ within-cons k c word [] ∙ omega (arith, within-nil k c));
+      few = subst (λ l. n ≤ 2 ^ l) (sym none-left) (subst (λ m. m ≤ 1) (sym n-is) (bit-le (leb (differing places c word) (reachOf k))));
+      counts = λ P. n-is ∙ sym (ap (λ q. testsWithin k c (expand columns word q)) end ∙ ap (testsWithin k c) (expand-nil columns word) ∙ within-cons m16 everywhere (reachOf k) c word [] ∙ omega (arith, within-nil m16 everywhere (reachOf k) c));
     }
 
 -- both branches of a place
-module _ (doubtful : List ℕ) (doubt left : ℕ) (eight : length doubtful ≡ 8) (few : doubt ≤ 8) (within : left ≤ doubt) (some-left : 0 < left) where
+module _ (doubtful : List ℕ) (doubt left : ℕ) (eight : length doubtful ≡ mostDoubt) (few : doubt ≤ mostDoubt) (within : left ≤ doubt) (some-left : 0 < left) where
   abbrev rest : List ℕ
   rest = drop (doubt - (left - 1)) (take doubt doubtful)
 
-  pub within-node : (k : ℕ) (columns : ℕ → List ℕ) (word : List ℕ) (place : ℕ) → place ≡ getD doubtful (doubt - left) 0 % 64 → (s o : ℕ) → s ≡ bestAt columns place
+  pub within-node : (k : ℕ) (columns : ℕ → List ℕ) (word : List ℕ) (place : ℕ) → place ≡ getD doubtful (doubt - left) 0 % places → (s o : ℕ) → s ≡ bestAt columns place
       → o ≡ secondAt columns place → (c : List ℕ) (a b : ℕ) → WithinOf k columns c (set word place s) rest (left - 1) a
       → WithinOf k columns c (set word place o) rest (left - 1) b → WithinOf k columns c word (drop (doubt - left) (take doubt doubtful)) left (a + b)
   within-node k columns word place place-is s o s-is o-is c a b A B =
@@ -87,5 +88,5 @@ module _ (doubtful : List ℕ) (doubt left : ℕ) (eight : length doubtful ≡ 8
             ∙ ap₂ (λ y z. testsWithin k c (expand columns (set word place y) rest) + testsWithin k c (expand columns (set word place z) rest)) s-is o-is
             ∙ sym
             (ap (λ ps. testsWithin k c (expand columns word ps)) q
-            ∙ ap (testsWithin k c) (expand-cons columns word place rest) ∙ within-append k c _ _);
+            ∙ ap (testsWithin k c) (expand-cons columns word place rest) ∙ within-append m16 everywhere (reachOf k) c _ _);
       }

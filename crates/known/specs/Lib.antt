@@ -1,3 +1,3 @@
-pub mod Left
+pub mod Counts
 pub mod Known
 pub mod Governing

@@ -5,7 +5,8 @@ use native.Mathlib.Omega.{arith}
 use lib.ListN.{length}
 use Rattle.soft.specs.Column.{bestOf, secondOf}
 use Rattle.known.proofs.Counting.{within-end, within-node}
-use Rattle.known.specs.Left.{tests-fit, none-left, some-left}
+use Rattle.near.specs.Left.{none-left, some-left}
+use Rattle.known.specs.Counts.{tests-fit}
 use borrow.Author.Needs.{needs}
 use borrow.Fn.Kinds.{In}
 use borrow.Fn.PlainCycle.{Measures, is, falls, and}

@@ -4,7 +4,8 @@ use Prim.Native.Nat.{_≤_}
 use lib.ListN.{length}
 use Rattle.soft.specs.TotalLaws.{differing-le}
 use Rattle.candidate.specs.Ranged.{reach-small}
-use Rattle.known.proofs.Counting.{governs-none, governs-some, rest-length}
+use Rattle.near.specs.Left.{rest-length}
+use Rattle.known.proofs.Counting.{governs-none, governs-some}
 use borrow.Author.Needs.{needs}
 use Rattle.known.proofs.governs.Statement.{statement}
 use Rattle.known.proofs.governs.Tie as tie
