@@ -11,11 +11,13 @@ use lib.ListN.{length, getD, take, drop, set, length-set}
 use Rattle.algebra.specs.Koetter.{Basis}
 use Rattle.galois.specs.Field16.{K16}
 use Rattle.basis.specs.Choice.{leadAt}
-use Rattle.basis.specs.Step.{rowAt}
+use Rattle.basis.specs.Step.{classes, rowAt}
 use Rattle.interpolation.specs.Polynomial.{polynomials}
 use Rattle.interpolation.specs.Extending.{Extends}
 use Rattle.code.specs.Nodes.{ThroughNodes}
 use Rattle.family.specs.Nodes.{node}
+use Rattle.soft.specs.Column.{places}
+use Rattle.soft.specs.Doubt.{mostDoubt}
 use Rattle.soft.specs.TestWord.{bestAt, secondAt, expand}
 use Rattle.soft.specs.TestWordLaws.{expand-nil, expand-cons}
 use Rattle.near.specs.Here.{mOf, reachOf, limitOf, Places, Decided}
@@ -30,13 +32,13 @@ use Rattle.candidate.specs.Ranged.{Ranged, workable}
 use Rattle.answers.specs.Answered.{Sound}
 use Rattle.answers.specs.Better.{betterOf, better-tests, better-joins}
 use Rattle.known.specs.Known.{governsOf, WithinOf, belowOf}
-use Rattle.known.specs.Left.{places-rest, split-places, twice}
+use Rattle.near.specs.Left.{places-rest, split-places, twice}
 use Rattle.known.specs.Governing.{governs-all, below-tests, governed-nearest}
 use Rattle.near.specs.Near as Near
 use Rattle.hermitian.specs.Present.{genus}
 
 -- the class of least lead, one more class
-pub lowest-turn : (leads : List ℕ) (q r p : ℕ) → p < 8 → leadAt leads p ≤ leadAt leads r → leadAt leads p ≤ leadAt leads q → Lowest leads q r
+pub lowest-turn : (leads : List ℕ) (q r p : ℕ) → p < classes → leadAt leads p ≤ leadAt leads r → leadAt leads p ≤ leadAt leads q → Lowest leads q r
     → Lowest leads (q + 1) p
 lowest-turn leads q r p h a b l =
     record {
@@ -48,7 +50,7 @@ lowest-turn leads q r p h a b l =
 
 -- a node that is spent, and a leaf
 module _ {k : ℕ} (rate : Ranged k) (columns : ℕ → List ℕ) (word ps : List ℕ) (rows : List (List ℕ)) (leads : List ℕ) (left : ℕ) (L : ℕ)
-    (L-is : L ≡ limitOf k) (class : ℕ) (low : Lowest leads 8 class) where
+    (L-is : L ≡ limitOf k) (class : ℕ) (low : Lowest leads classes class) where
   pub node-spent : L < leadAt leads class → SearchOf k columns word ps rows leads left nothingFound
   unfolding nothingFound
   node-spent far =
@@ -75,7 +77,7 @@ module _ {k : ℕ} (rate : Ranged k) (columns : ℕ → List ℕ) (word ps : Lis
 
 -- one branch: the place is decided with the symbol, by a codeword that is known or by one more node
 module _ {k : ℕ} (rate : Ranged k) (columns : ℕ → List ℕ) (word : List ℕ) (place symbol : ℕ) (ps : List ℕ) (rows : List (List ℕ)) (leads : List ℕ)
-    (left : ℕ) (size : length word ≡ 64) where
+    (left : ℕ) (size : length word ≡ places) where
   pub branch-known : (known : Found) (tests : ℕ) (b : Bool) → Sound k columns known → b ≡ governsOf k known (set word place symbol) ps → b ≡ true
       → WithinOf k columns (known .codeword) (set word place symbol) ps left tests
       → BranchOf k columns word place symbol ps rows leads left (belowOf known tests)
@@ -83,8 +85,8 @@ module _ {k : ℕ} (rate : Ranged k) (columns : ℕ → List ℕ) (word : List �
       record {
         few = omega (arith, below-tests known tests, counted .few);
         finds = λ R P.
-            let l : length (set word place symbol) ≡ 64 = length-set word place symbol ∙ size in
-            let g = governs-all k known (set word place symbol) ps rate l (sym test ∙ governs) (places-rest P) in
+            let l : length (set word place symbol) ≡ places = length-set word place symbol ∙ size in
+            let g = governs-all k known (set word place symbol) ps l (sym test ∙ governs) (places-rest P) in
             governed-nearest (workable rate) columns known (set word place symbol) ps l sound g tests (counted .counts (places-rest P));
       }
 
@@ -96,9 +98,9 @@ module _ {k : ℕ} (rate : Ranged k) (columns : ℕ → List ℕ) (word : List �
           nodes = node place symbol ∷ R .nodes;
           decided = decided-step m16 everywhere symbol size h tt fresh (R .decided);
           basis =
-              subst (λ l. Basis K16 8 l (ThroughNodes (mOf k) (node place symbol ∷ R .nodes)) (polynomials (mOf k) rows′) (leadAt leads′)) L-is
+              subst (λ l. Basis K16 classes l (ThroughNodes (mOf k) (node place symbol ∷ R .nodes)) (polynomials (mOf k) rows′) (leadAt leads′)) L-is
               (E .basis (mOf k) (omega (arith, rate .least)) (R .nodes)
-              (subst (λ l. Basis K16 8 l (ThroughNodes (mOf k) (R .nodes)) (polynomials (mOf k) rows) (leadAt leads)) (sym L-is) (R .basis)));
+              (subst (λ l. Basis K16 classes l (ThroughNodes (mOf k) (R .nodes)) (polynomials (mOf k) rows) (leadAt leads)) (sym L-is) (R .basis)));
         }
 
     pub branch-node : (f : Found) → SearchOf k columns (set word place symbol) ps rows′ leads′ left f
@@ -106,14 +108,14 @@ module _ {k : ℕ} (rate : Ranged k) (columns : ℕ → List ℕ) (word : List �
     branch-node f S = record { few = S .few; finds = λ R P. S .finds (next-ready R P) (places-rest P) }
 
 -- two branches
-module _ (doubtful : List ℕ) (doubt left : ℕ) (eight : length doubtful ≡ 8) (few : doubt ≤ 8) (within : left ≤ doubt) (some-left : 0 < left) where
+module _ (doubtful : List ℕ) (doubt left : ℕ) (eight : length doubtful ≡ mostDoubt) (few : doubt ≤ mostDoubt) (within : left ≤ doubt) (some-left : 0 < left) where
   abbrev x : ℕ
   x = getD doubtful (doubt - left) 0
 
   abbrev rest : List ℕ
   rest = drop (doubt - (left - 1)) (take doubt doubtful)
 
-  module _ (k : ℕ) (columns : ℕ → List ℕ) (word : List ℕ) (place : ℕ) (place-is : place ≡ x % 64) (s o : ℕ) (s-is : s ≡ bestAt columns place)
+  module _ (k : ℕ) (columns : ℕ → List ℕ) (word : List ℕ) (place : ℕ) (place-is : place ≡ x % places) (s o : ℕ) (s-is : s ≡ bestAt columns place)
       (o-is : o ≡ secondAt columns place) where
     pub node-branch : (rows : List (List ℕ)) (leads : List ℕ) (a b : Found) → BranchOf k columns word place s rest rows leads (left - 1) a
         → BranchOf k columns word place o rest rows leads (left - 1) b

@@ -1,15 +1,15 @@
 -- A leaf: its candidate is the answer if it is within T of the test word, and otherwise there is none.
 use mathlib.Core.Path.{_≡_, refl, ap, _∙_}
 use mathlib.Core.List.{List, [], _∷_}
-use mathlib.Core.Option.{Option}
 use Prim.Native.Nat.{ℕ, _<_, _≤_}
 use native.Mathlib.Omega.{arith}
 use lib.ListN.{take}
 use Rattle.lists.specs.Count.{bit}
+use Rattle.soft.specs.Column.{places}
 use Rattle.soft.specs.Total.{everywhere, differing, totalOf}
-use Rattle.near.specs.Here.{repairable, reachOf, codewordNear, testsNear, messageCost}
+use Rattle.near.specs.Here.{repairable, reachOf, messageCost}
 use Rattle.near.specs.Near.{isSome}
-use Rattle.near.specs.Laws.{answer-one, tests-cons, tests-nil}
+use Rattle.near.specs.Laws.{answer-one, tests-one}
 use Rattle.answers.specs.declared.Answer.the-variants.{Near}
 use Rattle.answers.specs.declared.Found.{Found}
 use Rattle.answers.specs.Result.{nothingFound}
@@ -23,10 +23,7 @@ use Rattle.family.specs.Member.{m16}
 use Rattle.near.specs.Near as Near
 
 module _ {k : ℕ} (rate : Ranged k) (columns : ℕ → List ℕ) (word row : List ℕ) (held : Candidate) (C : CandidateOf k row held) (d : ℕ)
-    (d-is : d ≡ differing 64 (held .codeword) word) (r : ℕ) (r-is : r ≡ reachOf k) where
-  one-count : (o : Option (List ℕ)) → codewordNear k word ≡ o → testsNear k (word ∷ []) ≡ bit (isSome o)
-  one-count o e = tests-cons m16 everywhere (reachOf k) k word [] ∙ omega (arith, tests-nil m16 everywhere (reachOf k) k, ap (λ x. bit (isSome x)) e)
-
+    (d-is : d ≡ differing places (held .codeword) word) (r : ℕ) (r-is : r ≡ reachOf k) where
   pub leaf-none : r < d → LeafOf k columns word row nothingFound
   unfolding nothingFound
   leaf-none far =
@@ -35,13 +32,13 @@ module _ {k : ℕ} (rate : Ranged k) (columns : ℕ → List ℕ) (word row : Li
         finds = λ h. nearest-nothing (answer-one m16 everywhere (reachOf k) (workable rate) (repairable (workable rate)) columns word ∙ candidate-far C word h (omega arith));
       }
 
-  module _ (total : ℕ) (t-is : total ≡ totalOf 64 columns (held .codeword)) where
+  module _ (total : ℕ) (t-is : total ≡ totalOf places columns (held .codeword)) where
     abbrev answered : Found
     answered = record { answer = Near total; message = held .message; codeword = held .codeword; tests = 1 }
 
     cost-is : total ≡ messageCost k columns (take k (held .message))
     unfolding Near.messageCost
-    cost-is = t-is ∙ ap (totalOf 64 columns) (C .encoded)
+    cost-is = t-is ∙ ap (totalOf places columns) (C .encoded)
 
     pub leaf-sound : Sound k columns answered
     leaf-sound =
@@ -59,5 +56,5 @@ module _ {k : ℕ} (rate : Ranged k) (columns : ℕ → List ℕ) (word row : Li
           few = omega arith;
           finds = λ h.
               let c = candidate-near C word h (omega arith) in
-              nearest-some answered total refl (one-count _ c) (answer-one m16 everywhere (reachOf k) (workable rate) (repairable (workable rate)) columns word ∙ c) cost-is;
+              nearest-some answered total refl (tests-one m16 everywhere (reachOf k) k word ∙ ap (λ o. bit (isSome o)) c) (answer-one m16 everywhere (reachOf k) (workable rate) (repairable (workable rate)) columns word ∙ c) cost-is;
         }

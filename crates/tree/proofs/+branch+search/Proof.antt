@@ -11,7 +11,8 @@ use Rattle.known.specs.Governing.{sound-below, sound-later}
 use Rattle.tree.specs.Searching.{SearchOf, BranchOf}
 use Rattle.candidate.specs.Ranged.{limit-small}
 use Rattle.tree.proofs.Descending.{branch-known, branch-node, node-spent, node-leaf, node-branch}
-use Rattle.known.specs.Left.{tests-fit, none-left, some-left}
+use Rattle.near.specs.Left.{none-left, some-left}
+use Rattle.known.specs.Counts.{tests-fit}
 use borrow.Author.Needs.{needs}
 use borrow.Fn.Kinds.{In}
 use borrow.Fn.PlainCycle.{Measures, is, falls, and}
