@@ -6,21 +6,21 @@
 --   Governs k known word ps    the known codeword governs each word that has the word's symbols at all places but ps: no other codeword is within T of it
 --   governsOf k known word ps  the test of it: the places outside ps where the known codeword differs from the word, ps, and T are together less than n − M
 --   testsWithin k c tests  how many test words are within T of the codeword c, as the family has it
---   WithinOf …             what counting them below a node finds
+--   WithinOf …             what counting them below a node finds, as the family has it
 --   belowOf known tests    what is found where tests of the test words are within T of the known codeword, and no other codeword is near
 use mathlib.Core.Bool.{Bool, true, false, cond, _&&_}
 use mathlib.Core.Path.{_≡_}
 use mathlib.Core.List.{List}
-use Prim.Native.Nat.{ℕ, _+_, _-_, _^_, _≤_}
+use Prim.Native.Nat.{ℕ, _+_, _-_}
 use lib.Dec.{eqb, ltb}
 use lib.ListN.{length}
 use Rattle.soft.specs.Column.{places}
 use Rattle.soft.specs.Total.{everywhere, differing}
-use Rattle.soft.specs.TestWord.{expand}
 use Rattle.family.specs.Member.{m16}
-use Rattle.near.specs.Here.{mOf, reachOf, Places}
+use Rattle.near.specs.Here.{mOf, reachOf}
 use Rattle.near.specs.Governing.{Outside, Governed}
-use Rattle.near.specs.Governing as Family
+use Rattle.near.specs.Governing as Governing
+use Rattle.near.specs.Within as Within
 use Rattle.answers.specs.declared.Answer.{Answer}
 use Rattle.answers.specs.declared.Answer.the-variants.{NoneNear, Near}
 use Rattle.answers.specs.declared.Found.{Found}
@@ -35,7 +35,7 @@ unfoldable pub laterOf : Found → Found → Found
 laterOf first known = cond (isNear (first .answer)) first known
 
 abbrev pub filledOf : List ℕ → List ℕ → List ℕ → List ℕ
-filledOf c word ps = Family.filledOf places c word ps
+filledOf c word ps = Governing.filledOf places c word ps
 
 pub record Governs (k : ℕ) (known : Found) (word ps : List ℕ) : Type 0 where
   pub total : ℕ
@@ -48,11 +48,10 @@ governsOf k known word ps =
     && ltb (differing places (known .codeword) (filledOf (known .codeword) word ps) + length ps + reachOf k) (places - mOf k)
 
 abbrev pub testsWithin : ℕ → List ℕ → List (List ℕ) → ℕ
-testsWithin k c tests = Family.testsWithin m16 everywhere (reachOf k) c tests
+testsWithin k c tests = Within.testsWithin m16 everywhere (reachOf k) c tests
 
-pub record WithinOf (k : ℕ) (columns : ℕ → List ℕ) (c word ps : List ℕ) (left n : ℕ) : Type 0 where
-  pub few : n ≤ 2 ^ left
-  pub counts : Places ps → n ≡ testsWithin k c (expand columns word ps)
+abbrev pub WithinOf : ℕ → (ℕ → List ℕ) → List ℕ → List ℕ → List ℕ → ℕ → ℕ → Type 0
+WithinOf k columns c word ps left n = Within.WithinOf m16 everywhere (reachOf k) columns c word ps left n
 
 unfoldable pub belowOf : Found → ℕ → Found
 belowOf known tests = cond (eqb tests 0) nothingFound (counted tests known)

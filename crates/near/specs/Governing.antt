@@ -4,15 +4,15 @@
 --   outside-differing         two such words differ in no more places than ps has
 --   expand-outside            the test words of a tree are such words
 --   filledOf n c word ps      the word with the symbols of c at the places ps, each taken below n; filled-outside: it is such a word
+--   filled-turn, filled-end   a loop that writes one place after the other
 --   Governed k c t            so few of the places that count are places where c and t differ that no other codeword than c is within T of t
 --   governed-outside          where c and the filled word differ in few enough places, it is so for every word outside ps
---   testsWithin c tests       how many test words are within T of the word c; within-nil, within-cons, within-append
 --   governed-only             a message whose codeword is within T of a governed word is the one that governs it
 --   governed-here             whether there is one is whether the codeword that governs is within T
 --   within-tests, within-some, within-none   so the test words that it governs are only counted: how many are near, and the answer
 use mathlib.Core.Bool.{Bool, true, false, not, _&&_, _||_}
 use mathlib.Core.Path.{_≡_, refl, sym, ap, _∙_, subst}
-use mathlib.Core.List.{List, [], _∷_, _++_, List·Memᴰ, List·Memᴰ·head, List·Memᴰ·tail, List·Memᴰ·cases-cons, List·Memᴰ·not-nil}
+use mathlib.Core.List.{List, [], _∷_, List·Memᴰ, List·Memᴰ·head, List·Memᴰ·tail, List·Memᴰ·cases-cons, List·Memᴰ·not-nil}
 use mathlib.Core.Logic.{_⊎_, inl, inr, ⊎-elim}
 use mathlib.Core.Option.{some, none}
 use Prim.Native.Nat.{ℕ, zero, suc, _+_, _%_, _<_, _≤_}
@@ -20,7 +20,7 @@ use native.Mathlib.Nat.{mod-eq-of-lt}
 use native.Mathlib.Decide.{ℕ-discrete}
 use native.Mathlib.Omega.{arith}
 use lib.Dec.{T, eqb, leb, leb→le}
-use lib.ListN.{length, getD, set, length-set}
+use lib.ListN.{length, getD, take, drop, set, length-set}
 use lib.Seq.{getD-set-other}
 use borrow.Author.Tests.{eq-eqb, ne-eqb, le-leb}
 use Rattle.lists.specs.Count.{bit, sumOf-mono, sumOf-plus, count, count-nil, count-suc, count-none}
@@ -38,6 +38,8 @@ use Rattle.near.specs.Reach.{Workable}
 use Rattle.near.specs.Distance.{codewords-apart}
 use Rattle.near.specs.Laws.{near-member, near-answers, word-answers, answer-none, codeword-none, tests-nil, tests-cons}
 use Rattle.near.specs.Tree.{Places, places-nil, places-cons}
+use Rattle.near.specs.Left.{left-cons, left-none}
+use Rattle.near.specs.Within.{testsWithin, within-nil, within-cons}
 
 -- ---- words that have the same symbols but at some places differ in no more than these
 
@@ -142,6 +144,17 @@ module _ (n : ℕ) where
             r .same q (λ m. o (List·Memᴰ·tail m)) ∙ getD-set-other word (p % n) q s 0 (λ e. o (List·Memᴰ·head (e ∙ mod-eq-of-lt h)));
       }
 
+  module _ (c doubtful out : List ℕ) (doubt i : ℕ) where
+    pub filled-turn : {size : ℕ} → length doubtful ≡ size → doubt ≤ size → i < doubt
+        → filledOf c out (drop i (take doubt doubtful))
+        ≡ filledOf c (set out (getD doubtful i 0 % n) (getD c (getD doubtful i 0 % n) 0)) (drop (i + 1) (take doubt doubtful))
+    unfolding filledOf
+    filled-turn long few h = ap (filledOf c out) (left-cons doubtful doubt i long few h)
+
+    pub filled-end : doubt ≤ i → filledOf c out (drop i (take doubt doubtful)) ≡ out
+    unfolding filledOf
+    filled-end h = ap (filledOf c out) (left-none doubtful doubt i h)
+
 module _ (𝓜 : Member) (counts : ℕ → Bool) (reach : ℕ) where
   abbrev pub Governed : ℕ → List ℕ → List ℕ → Type 0
   Governed k c t = differingIn counts (places 𝓜) c t + reach + mOf 𝓜 k < count (places 𝓜) counts
@@ -156,25 +169,6 @@ module _ (𝓜 : Member) (counts : ℕ → Bool) (reach : ℕ) where
         differing-triangle counts (places 𝓜) c (filledOf (places 𝓜) c word ps) t,
         outside-differing (places 𝓜) counts (filled-outside (places 𝓜) c P word size) o,
       )
-
-  -- ---- how many test words are within T of a codeword
-
-  unfoldable pub testsWithin : List ℕ → List (List ℕ) → ℕ
-  testsWithin c [] = 0
-  testsWithin c (t ∷ tests) = bit (leb (differingIn counts (places 𝓜) c t) reach) + testsWithin c tests
-
-  module _ (c : List ℕ) where
-    pub within-nil : testsWithin c [] ≡ 0
-    unfolding testsWithin
-    within-nil = refl
-
-    pub within-cons : (t : List ℕ) (ts : List (List ℕ)) → testsWithin c (t ∷ ts) ≡ bit (leb (differingIn counts (places 𝓜) c t) reach) + testsWithin c ts
-    unfolding testsWithin
-    within-cons t ts = refl
-
-    pub within-append : (ts us : List (List ℕ)) → testsWithin c (ts ++ us) ≡ testsWithin c ts + testsWithin c us
-    within-append [] us = omega (arith, within-nil)
-    within-append (t ∷ ts) us = omega (arith, within-cons t (ts ++ us), within-cons t ts, within-append ts us)
 
   -- ---- near one codeword there is no other
 
@@ -208,30 +202,30 @@ module _ (𝓜 : Member) (counts : ℕ → Bool) (reach : ℕ) where
             (codeword-none 𝓜 counts reach k t (λ n f. subst T (ap (nearTo 𝓜 counts reach k t) (governed-only t n close f) ∙ e) (f .passed)))
 
     pub within-tests : (ts : List (List ℕ)) → ((t : List ℕ) → List·Memᴰ t ts → Governed k (encodeOf 𝓜 k m) t)
-        → testsNear 𝓜 counts reach k ts ≡ testsWithin (encodeOf 𝓜 k m) ts
+        → testsNear 𝓜 counts reach k ts ≡ testsWithin 𝓜 counts reach (encodeOf 𝓜 k m) ts
     unfolding nearTo
-    within-tests [] h = tests-nil 𝓜 counts reach k ∙ sym (within-nil (encodeOf 𝓜 k m))
+    within-tests [] h = tests-nil 𝓜 counts reach k ∙ sym (within-nil 𝓜 counts reach (encodeOf 𝓜 k m))
     within-tests (t ∷ ts) h =
         omega (
           arith,
           tests-cons 𝓜 counts reach k t ts,
-          within-cons (encodeOf 𝓜 k m) t ts,
+          within-cons 𝓜 counts reach (encodeOf 𝓜 k m) t ts,
           ap bit (governed-here t (h t (List·Memᴰ·head refl))),
           within-tests ts (λ u i. h u (List·Memᴰ·tail i)),
         )
 
-    within-near : (ts : List (List ℕ)) → 0 < testsWithin (encodeOf 𝓜 k m) ts → T (near 𝓜 counts reach k ts m)
+    within-near : (ts : List (List ℕ)) → 0 < testsWithin 𝓜 counts reach (encodeOf 𝓜 k m) ts → T (near 𝓜 counts reach k ts m)
     unfolding nearTo near
-    within-near [] h = absurd (omega (arith, within-nil (encodeOf 𝓜 k m)))
+    within-near [] h = absurd (omega (arith, within-nil 𝓜 counts reach (encodeOf 𝓜 k m)))
     within-near (t ∷ ts) h = go (leb (differingIn counts (places 𝓜) (encodeOf 𝓜 k m) t) reach) refl (within-near ts)
       where
         go : (b : Bool) → leb (differingIn counts (places 𝓜) (encodeOf 𝓜 k m) t) reach ≡ b
-            → (0 < testsWithin (encodeOf 𝓜 k m) ts → T (near 𝓜 counts reach k ts m))
+            → (0 < testsWithin 𝓜 counts reach (encodeOf 𝓜 k m) ts → T (near 𝓜 counts reach k ts m))
             → T (nearTo 𝓜 counts reach k t m || near 𝓜 counts reach k ts m)
         go true e ih = subst (λ b. T (b || near 𝓜 counts reach k ts m)) (sym e) tt
-        go false e ih = subst (λ b. T (b || near 𝓜 counts reach k ts m)) (sym e) (ih (omega (arith, within-cons (encodeOf 𝓜 k m) t ts, ap bit e)))
+        go false e ih = subst (λ b. T (b || near 𝓜 counts reach k ts m)) (sym e) (ih (omega (arith, within-cons 𝓜 counts reach (encodeOf 𝓜 k m) t ts, ap bit e)))
 
-    near-within : (ts : List (List ℕ)) (t : List ℕ) → List·Memᴰ t ts → T (nearTo 𝓜 counts reach k t m) → 0 < testsWithin (encodeOf 𝓜 k m) ts
+    near-within : (ts : List (List ℕ)) (t : List ℕ) → List·Memᴰ t ts → T (nearTo 𝓜 counts reach k t m) → 0 < testsWithin 𝓜 counts reach (encodeOf 𝓜 k m) ts
     unfolding nearTo
     near-within [] t i h = absurd (List·Memᴰ·not-nil i)
     near-within (u ∷ ts) t i h =
@@ -239,15 +233,15 @@ module _ (𝓜 : Member) (counts : ℕ → Bool) (reach : ℕ) where
         (λ (e : t ≡ u).
         omega (
           arith,
-          within-cons (encodeOf 𝓜 k m) u ts,
+          within-cons 𝓜 counts reach (encodeOf 𝓜 k m) u ts,
           ap bit
               (le-leb (differingIn counts (places 𝓜) (encodeOf 𝓜 k m) u) reach
               (subst (λ v. differingIn counts (places 𝓜) (encodeOf 𝓜 k m) v ≤ reach) e (leb→le (differingIn counts (places 𝓜) (encodeOf 𝓜 k m) t) reach h))),
         ))
-        (λ j. omega (arith, within-cons (encodeOf 𝓜 k m) u ts, near-within ts t j h)) (List·Memᴰ·cases-cons i)
+        (λ j. omega (arith, within-cons 𝓜 counts reach (encodeOf 𝓜 k m) u ts, near-within ts t j h)) (List·Memᴰ·cases-cons i)
 
     module _ (columns : ℕ → List ℕ) (ts : List (List ℕ)) (h : (t : List ℕ) → List·Memᴰ t ts → Governed k (encodeOf 𝓜 k m) t) where
-      pub within-some : 0 < testsWithin (encodeOf 𝓜 k m) ts → answerOf 𝓜 counts reach k columns ts ≡ some m
+      pub within-some : 0 < testsWithin 𝓜 counts reach (encodeOf 𝓜 k m) ts → answerOf 𝓜 counts reach k columns ts ≡ some m
       within-some some-one =
           answers-unique (near-answers 𝓜 counts reach k columns ts)
           (best (record { word = w; passed = within-near ts some-one })
@@ -255,7 +249,7 @@ module _ (𝓜 : Member) (counts : ℕ → Bool) (reach : ℕ) where
           let r = near-member 𝓜 counts reach k ts n (f .passed) in
           inl (governed-only (r .0) n (h (r .0) (r .1)) (record { word = f .word; passed = r .2 }))))
 
-      pub within-none : testsWithin (encodeOf 𝓜 k m) ts ≡ 0 → answerOf 𝓜 counts reach k columns ts ≡ none
+      pub within-none : testsWithin 𝓜 counts reach (encodeOf 𝓜 k m) ts ≡ 0 → answerOf 𝓜 counts reach k columns ts ≡ none
       within-none e =
           answer-none 𝓜 counts reach k columns ts
           (λ n f.

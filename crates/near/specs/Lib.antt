@@ -7,8 +7,9 @@ pub mod Distance
 pub mod Tree
 pub mod Result
 pub mod Held
-pub mod Governing
 pub mod Left
 pub mod Flags
+pub mod Within
+pub mod Governing
 pub mod Here
 pub mod BenchSheet

@@ -7,7 +7,7 @@
 --   decided-step       one doubtful place less: its node is decided, with the symbol that the word gets there
 --   decided-through    where none is left, what passes through ns passes through the word, and back
 --   tree-spent         where every class is spent, no test word of the tree has a codeword within T, and there is no answer
-use mathlib.Core.Bool.{Bool, true, false, not, _&&_, true≢false}
+use mathlib.Core.Bool.{Bool, true, false, not, true≢false}
 use mathlib.Core.Path.{_≡_, refl, sym, ap, _∙_, subst}
 use mathlib.Core.List.{List, [], _∷_, List·Memᴰ, List·Memᴰ·head, List·Memᴰ·tail, List·Memᴰ·cases-cons, List·Memᴰ·not-nil}
 use mathlib.Core.Logic.{_≢_, ⊎-elim}
@@ -20,7 +20,7 @@ use lib.Dec.{T, ltb}
 use lib.ListN.{length, getD, set}
 use lib.Seq.{getD-set-same, getD-set-other}
 use borrow.Author.Tests.{ne-eqb, lt-ltb, not-true}
-use Rattle.lists.specs.Count.{count, kept, kept-length, kept-member}
+use Rattle.lists.specs.Count.{count, kept-length, kept-member}
 use Rattle.lists.specs.Member.{member-at, at-member}
 use Rattle.lists.specs.Distinct.{among, among-member, distinct, below, below-cons, and-left, and-right, and-both}
 use Rattle.lists.specs.Listed.{listed, listed-length, listed-at}

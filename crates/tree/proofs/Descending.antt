@@ -87,7 +87,7 @@ module _ {k : ℕ} (rate : Ranged k) (columns : ℕ → List ℕ) (word : List �
         finds = λ R P.
             let l : length (set word place symbol) ≡ places = length-set word place symbol ∙ size in
             let g = governs-all k known (set word place symbol) ps l (sym test ∙ governs) (places-rest P) in
-            governed-nearest (workable rate) columns known (set word place symbol) ps l sound g tests (counted .counts (places-rest P));
+            governed-nearest (workable rate) columns known (set word place symbol) ps l sound g tests (counted .count (places-rest P));
       }
 
   module _ (L : ℕ) (L-is : L ≡ limitOf k) (rows′ : List (List ℕ)) (leads′ : List ℕ) (E : Extends L place symbol rows leads rows′ leads′) where

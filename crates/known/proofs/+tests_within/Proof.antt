@@ -4,7 +4,9 @@ use Prim.Native.Nat.{ℕ, _+_, _<_, _≤_}
 use native.Mathlib.Omega.{arith}
 use lib.ListN.{length}
 use Rattle.soft.specs.Column.{bestOf, secondOf}
-use Rattle.known.proofs.Counting.{within-end, within-node}
+use Rattle.soft.specs.Total.{everywhere}
+use Rattle.family.specs.Member.{m16}
+use Rattle.near.specs.Within.{within-end, within-node}
 use Rattle.near.specs.Left.{none-left, some-left}
 use Rattle.known.specs.Counts.{tests-fit}
 use borrow.Author.Needs.{needs}
@@ -59,7 +61,7 @@ tests-within-within-requires : (t : ℕ) → tests-within-lts.Need-within-requir
 tests-within-within-requires t c κs = search needs
 
 tests-within-returns : (t : ℕ) → tests-within-lts.Need-returns (tests-within-claims t) (tests-within-at t) tests-within.Post
-tests-within-returns t c = within-end _ _ _ _ _ _ _ (c .before .if1 .taken) (none-left _ _ _ (c .before .if1 .taken)) (c .within .ensures)
+tests-within-returns t c = within-end m16 everywhere _ _ _ _ _ _ _ (c .before .if1 .taken) (none-left _ _ _ (c .before .if1 .taken)) (c .within .ensures)
 
 tests-within-sub-place : (t : ℕ) → tests-within-lts.Need-sub-place (tests-within-claims t) (tests-within-at t) tests-within.Post
 tests-within-sub-place t c = search needs
@@ -111,7 +113,7 @@ tests-within-add-result t c =
 tests-within-returns-2 : (t : ℕ) → tests-within-lts.Need-returns-2 (tests-within-claims t) (tests-within-at t) tests-within.Post
 tests-within-returns-2 t c =
     let h = c .before .before .before .before .before .before .before .pre .1 in
-    within-node _ _ _ (tests-within-lengths t (c .before .before .before .before .before .before .before)) (h .1) (h .2) (some-left _ (c .before .before .before .before .before .if1 .left)) _ _ _ _ refl _ _
+    within-node m16 everywhere _ _ _ _ (tests-within-lengths t (c .before .before .before .before .before .before .before)) (h .1) (h .2) (some-left _ (c .before .before .before .before .before .if1 .left)) _ _ _ refl _ _
     (c .before .before .before .best .ensures ∙ ap bestOf (c .before .before .before .before .column-of .ensures)) (c .before .before .second .ensures ∙ ap secondOf (c .before .before .before .before .column-of .ensures)) _ _ _
     (c .before .tests-within .ensures) (c .tests-within2 .ensures)
 

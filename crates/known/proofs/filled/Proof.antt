@@ -2,8 +2,9 @@
 use mathlib.Core.Path.{_≡_, refl, sym, _∙_}
 use Prim.Native.Nat.{_-_, _<_, _≤_}
 use lib.ListN.{length, take, drop}
+use Rattle.soft.specs.Column.{places}
 use Rattle.known.specs.Known.{filledOf}
-use Rattle.known.proofs.Counting.{filled-turn, filled-end}
+use Rattle.near.specs.Governing.{filled-turn, filled-end}
 use borrow.Author.Needs.{needs}
 use Rattle.known.proofs.filled.Statement.{statement}
 use Rattle.known.proofs.filled.Tie as tie
@@ -45,13 +46,13 @@ loop-again c =
     let i = c .before .loop .inv in
     let h : c .before .before .args .doubt ≤ 8 = search needs in
     let b : c .before .loop .i < c .before .before .args .doubt = search needs in
-    (i .0, search needs, i .2 ∙ filled-turn _ _ _ _ _ (i .0) h b)
+    (i .0, search needs, i .2 ∙ filled-turn places _ _ _ _ _ (i .0) h b)
 
 returns : tie.Need-returns Inv-loop μ-loop
 returns c =
     let i = c .before .loop .inv in
     let h : c .before .before .args .doubt ≤ c .before .loop .i = search needs in
-    sym (i .2 ∙ filled-end _ _ _ _ _ h)
+    sym (i .2 ∙ filled-end places _ _ _ _ _ h)
 
 pub filled-spec : {M : Type 1} → statement M
 filled-spec =
