@@ -1,36 +1,37 @@
--- From the settled places to the root of the tree: flags, nodes, and the known rates.
+-- From the settled places to the root of the tree: nodes, and the known rates.
 use mathlib.Core.Bool.{Bool, true, false, cond}
 use mathlib.Core.Path.{_≡_, refl, sym, ap, _∙_, subst, subst₂}
-use mathlib.Core.List.{List, [], _∷_, _++_, List·Memᴰ, List·Memᴰ·head, List·Memᴰ·tail, List·Memᴰ·cases-cons, List·Memᴰ·append-cases, List·Memᴰ·eq-of-singleton, List·Memᴰ·not-nil, Memᴰ·append-left, Memᴰ·append-right}
-use mathlib.Core.Logic.{_⊎_, inl, inr, ⊎-elim}
-use Prim.Native.Nat.{ℕ, zero, suc, _+_, _-_, _%_, _<_, _≤_}
-use native.Mathlib.Nat.{mod-eq-of-lt, eq-or-lt-of-le, le-of-suc-le-suc, le-step}
-use native.Mathlib.Decide.{ℕ-discrete}
-use native.Mathlib.Numerals.{add-one}
+use mathlib.Core.List.{List, _∷_, List·Memᴰ, List·Memᴰ·head, List·Memᴰ·tail, List·Memᴰ·cases-cons, List·Memᴰ·not-nil}
+use mathlib.Core.Logic.{⊎-elim}
+use Prim.Native.Nat.{ℕ, zero, suc, _-_, _<_}
+use native.Mathlib.Nat.{eq-or-lt-of-le, le-of-suc-le-suc, le-step}
 use native.Mathlib.Omega.{arith}
-use lib.Dec.{eqb}
-use lib.ListN.{length, getD, take, drop, set, replicate, length-set, length-take, getD-replicate}
-use lib.Seq.{take-suc, getD-set-same, getD-set-other, getD-take}
+use lib.Dec.{T, eqb}
+use lib.ListN.{getD, take, drop}
 use borrow.Author.Tests.{eq-eqb, eqb-true}
 use Rattle.code.specs.Nodes.{ThroughNodes}
+use Rattle.family.specs.Member as Family
+use Rattle.family.specs.Member.{Member, m16}
 use Rattle.family.specs.Nodes.{Node, node}
 use Rattle.code.specs.Encoding.{knownRate}
 use Rattle.code.specs.Rates.{known-bounds}
 use Rattle.interpolation.specs.Settled.{settled, settled-nil, settled-suc}
-use Rattle.near.specs.Here.{Places, Decided, mOf, limitOf}
-use Rattle.near.specs.Tree.{places-nil, places-cons}
+use Rattle.near.specs.Here.{mOf, limitOf}
+use Rattle.near.specs.Tree.{Places, Decided}
+use Rattle.near.specs.Flags.{Flagged}
 use Rattle.algebra.specs.Koetter.{Basis}
 use Rattle.galois.specs.Field16.{K16}
 use Rattle.basis.specs.Choice.{leadAt}
+use Rattle.basis.specs.Step.{classes}
 use Rattle.interpolation.specs.Polynomial.{polynomials}
-use Rattle.soft.specs.Column.{columnOf}
+use Rattle.soft.specs.Column.{places, symbols, columnOf}
+use Rattle.soft.specs.Total.{everywhere}
 use Rattle.soft.specs.TestWord.{bestWord, expand, testWords}
 use Rattle.answers.specs.declared.Found.{Found}
 use Rattle.chase.specs.Call.{Asked, nearestOf}
 use Rattle.chase.specs.Laws.{nearest-asked}
 use Rattle.answers.specs.Nearest.{Nearest}
 use Rattle.candidate.specs.Ranged.{Ranged}
-use Rattle.chase.specs.Places.{Flagged}
 use Rattle.tree.specs.Searching.{SearchOf}
 use Rattle.answers.specs.Answered.{Sound, found-is}
 
@@ -38,48 +39,6 @@ use Rattle.answers.specs.Answered.{Sound, found-is}
 
 pub known-range : (k : ℕ) → knownRate k ≡ true → Ranged k
 known-range k e = let h = known-bounds k e in record { least = omega arith; most = omega arith }
-
--- ---- places
-
-pub places-at : {ps : List ℕ} → Places ps → (i : ℕ) → i < length ps → getD ps i 0 < 64
-places-at places-nil i h = absurd (omega arith)
-places-at (places-cons a f P) zero h = a
-places-at (places-cons a f P) (suc i) h = places-at P i (le-of-suc-le-suc h)
-
--- ---- flags
-
-pub flag-start : (doubtful : List ℕ) → Flagged (take 0 doubtful) (replicate 64 1)
-flag-start doubtful =
-    record { size = refl; on = λ p h n. getD-replicate 64 p 1 0 h; off = λ p m. absurd (List·Memᴰ·not-nil m) }
-
-pub flag-turn : (doubtful out : List ℕ) (i : ℕ) → i < length doubtful → getD doubtful i 0 < 64 → Flagged (take i doubtful) out
-    → Flagged (take (i + 1) doubtful) (set out (getD doubtful i 0 % 64) 0)
-flag-turn doubtful out i h small F =
-    record {
-      size = length-set out (x % 64) 0 ∙ F .size;
-      on = λ p b n. getD-set-other out (x % 64) p 0 0 (λ e. n (at-end (e ∙ same))) ∙ F .on p b (λ m. n (earlier m));
-      off = λ p m. cases p (List·Memᴰ·append-cases (take i doubtful) (subst (List·Memᴰ p) longer m)) (ℕ-discrete p (x % 64));
-    }
-  where
-    x : ℕ
-    x = getD doubtful i 0
-
-    same : x % 64 ≡ x
-    same = mod-eq-of-lt small
-
-    longer : take (i + 1) doubtful ≡ take i doubtful ++ (x ∷ [])
-    longer = ap (λ n. take n doubtful) (add-one i) ∙ take-suc doubtful i 0 h
-
-    at-end : {p : ℕ} → p ≡ x → List·Memᴰ p (take (i + 1) doubtful)
-    at-end {p} e = subst (List·Memᴰ p) (sym longer) (Memᴰ·append-right (take i doubtful) (List·Memᴰ·head e))
-
-    earlier : {p : ℕ} → List·Memᴰ p (take i doubtful) → List·Memᴰ p (take (i + 1) doubtful)
-    earlier {p} m = subst (List·Memᴰ p) (sym longer) (Memᴰ·append-left (x ∷ []) m)
-
-    cases : (p : ℕ) → List·Memᴰ p (take i doubtful) ⊎ List·Memᴰ p (x ∷ []) → Dec (p ≡ x % 64) → getD (set out (x % 64) 0) p 0 ≡ 0
-    cases p m (yes e) = ap (λ q. getD (set out (x % 64) 0) q 0) e ∙ getD-set-same out (x % 64) 0 0 (omega (arith, F .size))
-    cases p (inl m) (no e) = getD-set-other out (x % 64) p 0 0 e ∙ F .off p m
-    cases p (inr m) (no e) = absurd (e (List·Memᴰ·eq-of-singleton m ∙ sym same))
 
 -- ---- the nodes of the settled places
 
@@ -113,40 +72,45 @@ module _ (word flags : List ℕ) where
       later true a = List·Memᴰ·tail a
       later false a = a
 
-  pub settled-decided : (ps : List ℕ) → Flagged ps flags → Decided word ps (settled word flags 64)
-  settled-decided ps F =
+  -- those of the places that count, where the flags are 1 at the settled ones of these and nowhere else
+  decided-by : (𝓜 : Member) (counts : ℕ → Bool) (ps : List ℕ) → ((p : ℕ) → p < Family.places 𝓜 → getD flags p 0 ≡ 1 → T (counts p) × (¬ List·Memᴰ p ps))
+      → ((p : ℕ) → p < Family.places 𝓜 → T (counts p) → ¬ List·Memᴰ p ps → getD flags p 0 ≡ 1) → Decided 𝓜 counts word ps (settled word flags (Family.places 𝓜))
+  decided-by 𝓜 counts ps off on =
       record {
         inside = λ n m.
-            let r = settled-inside 64 n m in
-            (r .0, r .1, tt, (λ i. let z : _≡_ {A = ℕ} 0 1 = sym (F .off (r .0) i) ∙ r .2 in absurd (omega arith)), r .3);
-        covers = λ p h t n. settled-covers 64 p h (F .on p h n);
+            let r = settled-inside (Family.places 𝓜) n m in
+            let q = off (r .0) (r .1) (r .2) in
+            (r .0, r .1, q .0, q .1, r .3);
+        covers = λ p h t n. settled-covers (Family.places 𝓜) p h (on p h t n);
       }
 
-pub place-small : (doubtful : List ℕ) (doubt i : ℕ) → length doubtful ≡ 8 → doubt ≤ 8 → i < doubt → Places (take doubt doubtful) → getD doubtful i 0 < 64
-place-small doubtful doubt i l h b P =
-    subst (λ x. x < 64) (getD-take doubt doubtful i 0 b) (places-at P i (omega (arith, length-take doubt doubtful)))
+  pub settled-decided : (𝓜 : Member) (ps : List ℕ) → Flagged (Family.places 𝓜) ps flags → Decided 𝓜 everywhere word ps (settled word flags (Family.places 𝓜))
+  settled-decided 𝓜 ps F =
+      decided-by 𝓜 everywhere ps
+      (λ p h e. (tt, λ i. let z : _≡_ {A = ℕ} 0 1 = sym (F .off p i) ∙ e in absurd (omega arith)))
+      (λ p h t n. F .on p h n)
 
 -- ---- the root of the tree
 
 module _ (k : ℕ) (costs doubtful : List ℕ) (doubt : ℕ) (f : Found) where
   pub root : (word flags : List ℕ) (rows : List (List ℕ)) (leads : List ℕ) (m L : ℕ) → Asked k costs doubtful doubt
-      → word ≡ bestWord 64 (columnOf 16 costs)
-      → (Places (take doubt doubtful) → Flagged (take doubt doubtful) flags) → m ≡ mOf k → L ≡ limitOf k
-      → Basis K16 8 L (ThroughNodes m (settled word flags 64)) (polynomials m rows) (leadAt leads)
-      → SearchOf k (columnOf 16 costs) word (drop (doubt - doubt) (take doubt doubtful)) rows leads doubt f
-      → Sound k (columnOf 16 costs) f → f ≡ nearestOf k costs doubtful doubt
+      → word ≡ bestWord places (columnOf symbols costs)
+      → (Places places (take doubt doubtful) → Flagged places (take doubt doubtful) flags) → m ≡ mOf k → L ≡ limitOf k
+      → Basis K16 classes L (ThroughNodes m (settled word flags places)) (polynomials m rows) (leadAt leads)
+      → SearchOf k (columnOf symbols costs) word (drop (doubt - doubt) (take doubt doubtful)) rows leads doubt f
+      → Sound k (columnOf symbols costs) f → f ≡ nearestOf k costs doubtful doubt
   unfolding testWords
   root word flags rows leads m L A w-is flagged m-is L-is B S sound =
       let z : doubt - doubt ≡ 0 = omega arith in
-      let S′ : SearchOf k (columnOf 16 costs) word (take doubt doubtful) rows leads doubt f =
-      subst (λ n. SearchOf k (columnOf 16 costs) word (drop n (take doubt doubtful)) rows leads doubt f) z S in
-      let N : Nearest k (columnOf 16 costs) (testWords 64 (columnOf 16 costs) (take doubt doubtful)) f =
-      subst (λ w. Nearest k (columnOf 16 costs) (expand (columnOf 16 costs) w (take doubt doubtful)) f) w-is
+      let S′ : SearchOf k (columnOf symbols costs) word (take doubt doubtful) rows leads doubt f =
+      subst (λ n. SearchOf k (columnOf symbols costs) word (drop n (take doubt doubtful)) rows leads doubt f) z S in
+      let N : Nearest k (columnOf symbols costs) (testWords places (columnOf symbols costs) (take doubt doubtful)) f =
+      subst (λ w. Nearest k (columnOf symbols costs) (expand (columnOf symbols costs) w (take doubt doubtful)) f) w-is
       (S′ .finds
       (record {
-        nodes = settled word flags 64;
-        decided = settled-decided word flags (take doubt doubtful) (flagged (A .fit));
-        basis = subst₂ (λ n l. Basis K16 8 l (ThroughNodes n (settled word flags 64)) (polynomials n rows) (leadAt leads)) m-is L-is B;
+        nodes = settled word flags places;
+        decided = settled-decided word flags m16 (take doubt doubtful) (flagged (A .fit));
+        basis = subst₂ (λ n l. Basis K16 classes l (ThroughNodes n (settled word flags places)) (polynomials n rows) (leadAt leads)) m-is L-is B;
       })
       (A .fit)) in
       found-is N sound ∙ sym (nearest-asked k costs doubtful doubt A)

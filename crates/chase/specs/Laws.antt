@@ -1,48 +1,32 @@
 -- The test of what may be asked decides it, and what the call says in each case.
 --
---   not-among             what is no member is not among the list
 --   asked-yes, asked-is   the test decides Asked
 --   nearest-asked, nearest-unasked   the two cases of the call
 --   nearest-call          what it says of the near codewords
-use mathlib.Core.Bool.{Bool, true, false, cond, not, _&&_, false≢true}
+use mathlib.Core.Bool.{Bool, true, false, cond, _&&_, false≢true}
 use mathlib.Core.Path.{_≡_, refl, sym, ap, _∙_, subst}
-use mathlib.Core.List.{List, [], _∷_, List·Memᴰ, List·Memᴰ·head, List·Memᴰ·tail}
+use mathlib.Core.List.{List}
 use Prim.Native.Nat.{ℕ, _*_}
-use lib.Dec.{ltb, leb, eqb}
+use lib.Dec.{leb, eqb}
 use lib.ListN.{length, take}
-use borrow.Author.Tests.{eq-eqb, ne-eqb, eqb-true, lt-ltb, le-leb, leb-true}
-use Rattle.lists.specs.Distinct.{among, below, distinct, and-left, and-right, and-both}
+use borrow.Author.Tests.{eq-eqb, eqb-true, le-leb, leb-true}
+use Rattle.lists.specs.Distinct.{below, distinct, and-left, and-right}
 use Rattle.code.specs.Encoding.{knownRate}
 use Rattle.code.specs.Rates.{known-bounds}
 use Rattle.soft.specs.Column.{places, symbols, columnOf}
 use Rattle.soft.specs.Doubt.{mostDoubt}
 use Rattle.soft.specs.TestWord.{testWords}
-use Rattle.near.specs.Here.{Places}
-use Rattle.near.specs.Tree.{places-nil, places-cons, places-of}
+use Rattle.near.specs.Tree.{places-of, places-test}
+use Rattle.near.specs.Flags as Family
 use Rattle.answers.specs.declared.Found.{Found}
 use Rattle.answers.specs.Result.{nothingFound, foundOf}
 use Rattle.answers.specs.Nearest.{Nearest}
 use Rattle.answers.specs.Answered.{Sound, sound-nothing, found-nearest, found-sound}
-use Rattle.chase.specs.Places.{arePlaces}
 use Rattle.chase.specs.Call.{Asked, askedOf, nearestOf, NearestCall}
-
-pub not-among : (p : ℕ) (ps : List ℕ) → ¬ List·Memᴰ p ps → among p ps ≡ false
-unfolding among
-not-among p [] n = refl
-not-among p (q ∷ ps) n = rw (ne-eqb q p (λ e. n (List·Memᴰ·head (sym e)))) (not-among p ps (λ m. n (List·Memᴰ·tail m)))
-
-places-test : {ps : List ℕ} → Places ps → (below places ps ≡ true) × (distinct ps ≡ true)
-unfolding below distinct
-places-test places-nil = (refl, refl)
-places-test (places-cons {p} {ps} h fresh P) =
-    let t = places-test P in (
-      and-both (ltb p places) (below places ps) (lt-ltb p places h) (t .0),
-      and-both (not (among p ps)) (distinct ps) (ap not (not-among p ps fresh)) (t .1),
-    )
 
 module _ (rate : ℕ) (costs doubtful : List ℕ) (doubt : ℕ) where
   pub asked-yes : askedOf rate costs doubtful doubt ≡ true → Asked rate costs doubtful doubt
-  unfolding askedOf arePlaces
+  unfolding askedOf Family.arePlaces
   asked-yes e =
       let size = eqb (length costs) (places * symbols) in
       let few = leb doubt mostDoubt in
@@ -59,7 +43,7 @@ module _ (rate : ℕ) (costs doubtful : List ℕ) (doubt : ℕ) where
       }
 
   pub asked-is : Asked rate costs doubtful doubt → askedOf rate costs doubtful doubt ≡ true
-  unfolding askedOf arePlaces
+  unfolding askedOf Family.arePlaces
   asked-is A =
       let t = places-test (A .fit) in
       rw (A .known, eq-eqb (length costs) (places * symbols) (A .size), le-leb doubt mostDoubt (A .few), t .0, t .1)

@@ -1,19 +1,15 @@
--- The doubtful places as they are given, and the flags of the others.
+-- The doubtful places as they are given, and the flags of the others, in document 01's modem.
 --
---   arePlaces ps        the test of a list's places: all below 64, and different
---   Flagged ps flags    the settled places have the flag 1, the doubtful ones, ps, have 0
-use mathlib.Core.Bool.{Bool, _&&_}
-use mathlib.Core.Path.{_≡_}
-use mathlib.Core.List.{List, List·Memᴰ}
-use Prim.Native.Nat.{ℕ, _<_}
-use lib.ListN.{length, getD}
-use Rattle.lists.specs.Distinct.{below, distinct}
+--   arePlaces ps        the test of a list's places, and
+--   Flagged ps flags    the flags of the settled places, as the family has them
+use mathlib.Core.Bool.{Bool}
+use mathlib.Core.List.{List}
+use Prim.Native.Nat.{ℕ}
 use Rattle.soft.specs.Column.{places}
+use Rattle.near.specs.Flags as Family
 
-unfoldable pub arePlaces : List ℕ → Bool
-arePlaces ps = below places ps && distinct ps
+abbrev pub arePlaces : List ℕ → Bool
+arePlaces ps = Family.arePlaces places ps
 
-pub record Flagged (ps flags : List ℕ) : Type 0 where
-  pub size : length flags ≡ places
-  pub on : (p : ℕ) → p < places → ¬ List·Memᴰ p ps → getD flags p 0 ≡ 1
-  pub off : (p : ℕ) → List·Memᴰ p ps → getD flags p 0 ≡ 0
+abbrev pub Flagged : List ℕ → List ℕ → Type 0
+Flagged ps flags = Family.Flagged places ps flags

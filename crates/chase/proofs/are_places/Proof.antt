@@ -6,8 +6,8 @@ use native.Mathlib.Omega.{arith}
 use lib.ListN.{length, take}
 use Rattle.lists.specs.Distinct.{below, distinct}
 use Rattle.chase.specs.Places.{arePlaces, Flagged}
-use Rattle.chase.proofs.Settling.{flag-start}
-use Rattle.chase.proofs.Asking.{places-turn, places-above, places-again}
+use Rattle.near.specs.Flags as Family
+use Rattle.near.specs.Flags.{flag-start, places-turn, places-above, places-again}
 use borrow.Author.Needs.{needs}
 use Rattle.chase.proofs.are_places.Statement.{statement}
 use Rattle.chase.proofs.are_places.Tie as tie
@@ -20,7 +20,7 @@ abbrev μ-loop : tie.MeasureT-loop
 μ-loop doubt doubtful unnamed₀ i₀ unnamed i = doubt - i
 
 loop-holds : tie.Need-loop-holds Inv-loop μ-loop
-unfolding arePlaces below distinct
+unfolding Family.arePlaces below distinct
 loop-holds c = (search needs, search needs, search needs, flag-start (c .args .t1), refl)
 
 array-read-place : tie.Need-array-read-place Inv-loop μ-loop

@@ -5,7 +5,7 @@ use native.Mathlib.Omega.{arith}
 use lib.ListN.{length, take}
 use Rattle.near.specs.Here.{Places}
 use Rattle.chase.specs.Places.{Flagged}
-use Rattle.chase.proofs.Settling.{flag-start, flag-turn, place-small}
+use Rattle.near.specs.Flags.{flag-start, flag-turn, place-small}
 use borrow.Author.Needs.{needs}
 use Rattle.chase.proofs.settled_places.Statement.{statement}
 use Rattle.chase.proofs.settled_places.Tie as tie
