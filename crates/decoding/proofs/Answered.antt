@@ -1,6 +1,6 @@
 -- From what the search found to what decoding answers.
 --
---   list-few           the search is asked for at most 8 doubtful places
+--   list-few           the search is asked for at most eight doubtful places
 --   tests-few          so at most 256 test words have a codeword within T, and their count fits two bytes
 --   answered-none      nobody near: refused with 9, the buffers as they were
 --   answered-near      somebody near: the message, and the report with its total, the count, and the pinned and changed places of its codeword
@@ -13,10 +13,13 @@ use lib.ListN.{length, take, length-take}
 use lib.Pow.{pow-mono}
 use Rattle.refusals.specs.Refusal.{accepted, noneNear}
 use Rattle.lists.specs.Over.{over, over-same, over-short}
+use Rattle.soft.specs.Column.{places}
+use Rattle.soft.specs.Doubt.{mostDoubt}
 use Rattle.soft.specs.TestWord.{testWords}
 use Rattle.soft.specs.Total.{everywhere, pinnedOf, changedOf, reportOf}
 use Rattle.code.specs.Encoding.{encodeOf}
-use Rattle.near.specs.Here.{reachOf, messageCost}
+use Rattle.code.specs.Rates.{mostRate}
+use Rattle.near.specs.Here.{reachOf}
 use Rattle.near.specs.Laws.{tests-tree}
 use Rattle.book.specs.Closing.{refusedClosing, reportFor, decodeOf}
 use Rattle.book.specs.ClosingLaws.{decode-none, decode-some}
@@ -28,14 +31,14 @@ use Rattle.chase.specs.Call.{Asked}
 use Rattle.family.specs.Member.{m16}
 use Rattle.near.specs.Near as Near
 
-pub list-few : {rate doubt : ℕ} {costs doubtful : List ℕ} → Asked rate costs doubtful doubt → length (take doubt doubtful) ≤ 8
+pub list-few : {rate doubt : ℕ} {costs doubtful : List ℕ} → Asked rate costs doubtful doubt → length (take doubt doubtful) ≤ mostDoubt
 list-few {rate} {doubt} {costs} {doubtful} asked = omega (arith, length-take doubt doubtful, asked .few)
 
-module _ (rate : ℕ) (columns : ℕ → List ℕ) (doubtful : List ℕ) (f : Found) (near : Nearest rate columns (testWords 64 columns doubtful) f) where
-  pub tests-few : length doubtful ≤ 8 → f .tests ≤ 256
+module _ (rate : ℕ) (columns : ℕ → List ℕ) (doubtful : List ℕ) (f : Found) (near : Nearest rate columns (testWords places columns doubtful) f) where
+  pub tests-few : length doubtful ≤ mostDoubt → f .tests ≤ 256
   tests-few h =
       let p : 2 ^ length doubtful ≤ 256 = pow-mono h in
-      omega (arith, near .count, tests-tree m16 everywhere (reachOf rate) rate 64 columns doubtful)
+      omega (arith, near .count, tests-tree m16 everywhere (reachOf rate) rate places columns doubtful)
 
   module _ (message report : List ℕ) where
     pub answered-none : f .answer ≡ NoneNear → closed noneNear message report ≡ decodeOf rate columns doubtful message report
@@ -44,25 +47,25 @@ module _ (rate : ℕ) (columns : ℕ → List ℕ) (doubtful : List ℕ) (f : Fo
 
     pub answered-near : (t : ℕ) → f .answer ≡ Near t
         → closed accepted (take rate (f .message))
-        (reportOf t (f .tests) (pinnedOf 64 columns (encodeOf rate (take rate (f .message))))
-        (changedOf 64 columns (encodeOf rate (take rate (f .message)))))
+        (reportOf t (f .tests) (pinnedOf places columns (encodeOf rate (take rate (f .message))))
+        (changedOf places columns (encodeOf rate (take rate (f .message)))))
         ≡ decodeOf rate columns doubtful message report
     unfolding reportFor Near.messageCost
     answered-near t e =
         let m = take rate (f .message) in
         ap₂
-        (λ total tests. closed accepted m (reportOf total tests (pinnedOf 64 columns (encodeOf rate m)) (changedOf 64 columns (encodeOf rate m))))
+        (λ total tests. closed accepted m (reportOf total tests (pinnedOf places columns (encodeOf rate m)) (changedOf places columns (encodeOf rate m))))
         (nearest-somebody near t e .1) (near .count)
         ∙ sym (decode-some rate columns doubtful message report (nearest-somebody near t e .0))
 
     -- the same, step by step as the code goes
     pub decoded-near : {t pinned changed : ℕ} {message′ word bytes report′ : List ℕ} → f .answer ≡ Near t → length message ≡ rate
-        → length (f .message) ≡ 49 → rate ≤ 49 → message′ ≡ over (f .message) message → word ≡ encodeOf rate (take rate (f .message))
-        → pinned ≡ pinnedOf 64 columns word → changed ≡ changedOf 64 columns word → bytes ≡ reportOf t (f .tests) pinned changed
+        → length (f .message) ≡ mostRate → rate ≤ mostRate → message′ ≡ over (f .message) message → word ≡ encodeOf rate (take rate (f .message))
+        → pinned ≡ pinnedOf places columns word → changed ≡ changedOf places columns word → bytes ≡ reportOf t (f .tests) pinned changed
         → length report ≡ length bytes → report′ ≡ over bytes report
         → closed accepted message′ report′ ≡ decodeOf rate columns doubtful message report
     decoded-near {t} {pinned} {changed} {message′} {word} {bytes} {report′} e long size small m w p q b whole r =
         let a : message′ ≡ take rate (f .message) = m ∙ over-short (f .message) message (omega arith) ∙ ap (λ n. take n (f .message)) long in
         ap₂ (λ (x y : List ℕ). closed accepted x y) a
-        (r ∙ over-same bytes report whole ∙ b ∙ ap₂ (λ (x y : ℕ). reportOf t (f .tests) x y) (p ∙ ap (pinnedOf 64 columns) w) (q ∙ ap (changedOf 64 columns) w))
+        (r ∙ over-same bytes report whole ∙ b ∙ ap₂ (λ (x y : ℕ). reportOf t (f .tests) x y) (p ∙ ap (pinnedOf places columns) w) (q ∙ ap (changedOf places columns) w))
         ∙ answered-near t e

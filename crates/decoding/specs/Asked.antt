@@ -1,19 +1,22 @@
 -- When the search may be asked: for a rate and a doubtful list that opening accepts.
 --
---   fit-places         a fit doubtful list has different places, all below 64
+--   fit-places         a fit doubtful list has different places, all below the number of places
 --   asked-fit          so the search may be asked for it at a known rate
 use mathlib.Core.Bool.{true, _&&_}
 use mathlib.Core.Path.{_≡_}
 use mathlib.Core.List.{List, [], _∷_, List·Memᴰ, List·Memᴰ·cases-cons, List·Memᴰ·not-nil}
 use mathlib.Core.Logic.{⊎-elim}
-use Prim.Native.Nat.{ℕ, suc, _≤_}
+use Prim.Native.Nat.{ℕ, suc, _*_, _≤_}
 use native.Mathlib.Omega.{arith}
 use lib.Dec.{leb}
 use lib.ListN.{length, take}
 use borrow.Author.Tests.{leb-true}
 use Rattle.lists.specs.Distinct.{below, below-cons, and-left, and-right}
 use Rattle.code.specs.Encoding.{knownRate}
+use Rattle.soft.specs.Column.{places, symbols}
+use Rattle.soft.specs.Doubt.{mostDoubt}
 use Rattle.near.specs.Here.{Places}
+use Rattle.near.specs.Tree as Family
 use Rattle.near.specs.Tree.{places-nil, places-cons}
 use Rattle.book.specs.Opening.{risingFrom, rising, fitPlaces, fitDoubt}
 use Rattle.chase.specs.Call.{Asked}
@@ -27,25 +30,26 @@ rising-above n (p ∷ list) e q m =
     (λ l. omega (arith, rising-above (suc p) list (and-right (leb n p) (risingFrom (suc p) list) e) q l))
     (List·Memᴰ·cases-cons m)
 
-rising-places : (n : ℕ) (list : List ℕ) → risingFrom n list ≡ true → below 64 list ≡ true → Places list
+-- for any number of places
+rising-places : (least n : ℕ) (list : List ℕ) → risingFrom least list ≡ true → below n list ≡ true → Family.Places n list
 unfolding risingFrom
-rising-places n [] e b = places-nil
-rising-places n (p ∷ list) e b =
-    let r : risingFrom (suc p) list ≡ true = and-right (leb n p) (risingFrom (suc p) list) e in
-    let h = below-cons 64 p list b in
-    places-cons (h .0) (λ (m : List·Memᴰ p list). omega (arith, rising-above (suc p) list r p m)) (rising-places (suc p) list r (h .1))
+rising-places least n [] e b = places-nil
+rising-places least n (p ∷ list) e b =
+    let r : risingFrom (suc p) list ≡ true = and-right (leb least p) (risingFrom (suc p) list) e in
+    let h = below-cons n p list b in
+    places-cons (h .0) (λ (m : List·Memᴰ p list). omega (arith, rising-above (suc p) list r p m)) (rising-places (suc p) n list r (h .1))
 
 pub fit-places : (list : List ℕ) → fitDoubt list ≡ true → Places list
 unfolding fitDoubt fitPlaces rising
 fit-places list e =
-    let a = leb (length list) 8 in
-    let b = below 64 list in
+    let a = leb (length list) mostDoubt in
+    let b = below places list in
     let c = risingFrom 0 list in
     let f : (b && c) ≡ true = and-right a (b && c) e in
-    rising-places 0 list (and-right b c f) (and-left b c f)
+    rising-places 0 places list (and-right b c f) (and-left b c f)
 
 module _ (rate : ℕ) (costs doubtful : List ℕ) (doubt : ℕ) where
-  pub asked-fit : knownRate rate ≡ true → fitDoubt (take doubt doubtful) ≡ true → length costs ≡ 1024 → doubt ≤ 8
+  pub asked-fit : knownRate rate ≡ true → fitDoubt (take doubt doubtful) ≡ true → length costs ≡ places * symbols → doubt ≤ mostDoubt
       → Asked rate costs doubtful doubt
   asked-fit known fit size few =
       record { known = known; size = size; few = few; fit = fit-places (take doubt doubtful) fit }
