@@ -35,9 +35,9 @@ pub list-few : {rate doubt : ℕ} {costs doubtful : List ℕ} → Asked rate cos
 list-few {rate} {doubt} {costs} {doubtful} asked = omega (arith, length-take doubt doubtful, asked .few)
 
 module _ (rate : ℕ) (columns : ℕ → List ℕ) (doubtful : List ℕ) (f : Found) (near : Nearest rate columns (testWords places columns doubtful) f) where
-  pub tests-few : length doubtful ≤ mostDoubt → f .tests ≤ 256
+  pub tests-few : length doubtful ≤ mostDoubt → f .tests ≤ 2 ^ mostDoubt
   tests-few h =
-      let p : 2 ^ length doubtful ≤ 256 = pow-mono h in
+      let p : 2 ^ length doubtful ≤ 2 ^ mostDoubt = pow-mono h in
       omega (arith, near .count, tests-tree m16 everywhere (reachOf rate) rate places columns doubtful)
 
   module _ (message report : List ℕ) where
