@@ -12,17 +12,14 @@ use Rattle.lists.specs.Over.{over}
 use Rattle.lists.specs.Padded.{padded, padded-over}
 use Rattle.hermitian.specs.Orders.{orderOf}
 use Rattle.code.specs.Encoding.{encodeOf}
-use Rattle.code.specs.Rates.{mostRate, longest, longest-is}
-use Rattle.family.specs.Evaluation.{order-below, encode-beyond}
+use Rattle.code.specs.Rates.{mostRate, longest}
+use Rattle.family.specs.Evaluation.{encode-beyond}
 use Rattle.candidate.specs.Candidate.{symbolIn}
 use Rattle.family.specs.Member.{m16}
 use Rattle.near.specs.Held as Family
-use Rattle.rows.specs.Rows.{plainWidth, xOrder}
+use Rattle.rows.specs.Rows.{xOrder}
 
--- the order of a symbol, and what stands there
-pub order-fits : (t : ℕ) {o : ℕ} → o ≡ orderOf xOrder (t % longest) → o < plainWidth
-order-fits t e = omega (arith, order-below m16 (t % longest) (omega (arith, longest-is)))
-
+-- what stands at the order of a symbol
 pub symbol-at : (function : List ℕ) (t : ℕ) {o : ℕ} → t < longest → o ≡ orderOf xOrder (t % longest) → getD function o 0 ≡ symbolIn function t
 unfolding Family.symbolIn
 symbol-at function t h e = ap (λ k. getD function k 0) (e ∙ ap (orderOf xOrder) (mod-eq-of-lt h))

@@ -5,7 +5,8 @@ use native.Mathlib.Omega.{arith}
 use lib.ListN.{replicate}
 use Rattle.lists.specs.Filled.{Filled, filled-start, filled-turn}
 use Rattle.candidate.specs.Candidate.{symbolIn}
-use Rattle.candidate.proofs.Message.{order-fits, symbol-at, message-end}
+use Rattle.candidate.proofs.Message.{symbol-at, message-end}
+use Rattle.code.specs.Rates.{order-fits}
 use borrow.Author.Needs.{needs}
 use Rattle.candidate.proofs.message_of.Statement.{statement}
 use Rattle.candidate.proofs.message_of.Tie as tie
@@ -23,7 +24,7 @@ order-requires : tie.Need-order-requires Inv-loop μ-loop
 order-requires c κs = search needs
 
 array-read-out : tie.Need-array-read-out Inv-loop μ-loop
-array-read-out c = order-fits _ (c .order .ensures)
+array-read-out c = order-fits _ (c .order .ensures) .1
 
 array-write-out : tie.Need-array-write-out Inv-loop μ-loop
 array-write-out c = search needs
