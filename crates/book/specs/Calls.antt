@@ -1,30 +1,25 @@
--- The book under a list of calls: what each call answers, fed its arguments except the session.
+-- The book of the modem of 64 places under a list of calls: what each call answers, fed its arguments except the session.
 --
 --   Call                 delivery of a place and its column, interpolant reading, capture writing or closing, with the buffers as they are lent
---   Answer               a call's number, and the lent buffers afterwards (empty lists where there are none)
 --   firstLent, secondLent   the buffers as they are lent
 --   answer book call     what the book answers to a call
 --   after book call      the book after it: only an accepted delivery changes it
---   answers, afterAll    the same of a list of calls, each of which finds the book that the call before it left (Machine)
+--   answers, afterAll    the same of a list of calls, each of which finds the book that the call before it left
 use mathlib.Core.List.{List, []}
 use Prim.Native.Nat.{ℕ}
-use Rattle.book.specs.Machine.{answersBy, afterBy}
 use Rattle.book.specs.Book.{Book}
-use Rattle.book.specs.Delivery.{deliverOf}
 use Rattle.book.specs.Reading.{readOf}
 use Rattle.book.specs.Writing.{writeOf}
-use Rattle.book.specs.Closing.{closeOf}
+use Rattle.book.specs.Model.{modem64}
+use Rattle.book.specs.Here.{deliverOf}
+use Rattle.book.specs.AnyCalls.{Answer, toDelivery, toClosing}
+use Rattle.book.specs.Machine.{afterBy, answersBy}
 
 pub data Call : Type 0 where
   deliver : ℕ → List ℕ → Call
   reading : List ℕ → Call
   writing : List ℕ → Call
   closing : List ℕ → List ℕ → Call
-
-pub record Answer : Type 0 where
-  pub number : ℕ
-  pub first : List ℕ
-  pub second : List ℕ
 
 -- a column is given by value, so a delivery lends no buffer
 unfoldable pub firstLent : Call → List ℕ
@@ -40,15 +35,10 @@ secondLent (writing out) = []
 secondLent (closing message report) = report
 
 unfoldable pub answer : Book → Call → Answer
-answer book (deliver p column) = record { number = deliverOf book p column .number; first = []; second = [] }
+answer book (deliver p column) = toDelivery modem64 book p column
 answer book (reading out) = record { number = readOf book out .number; first = readOf book out .bytes; second = [] }
 answer book (writing out) = record { number = writeOf book out .number; first = writeOf book out .bytes; second = [] }
-answer book (closing message report) =
-    record {
-      number = closeOf book message report .number;
-      first = closeOf book message report .message;
-      second = closeOf book message report .report;
-    }
+answer book (closing message report) = toClosing modem64 book message report
 
 unfoldable pub after : Book → Call → Book
 after book (deliver p column) = deliverOf book p column .book

@@ -11,7 +11,8 @@ use mathlib.Core.List.{List, [], _∷_, _++_}
 use Prim.Native.Nat.{ℕ, zero, suc, _+_, _/_, _%_}
 use lib.ListN.{length, getD, take, drop}
 use Rattle.soft.specs.Column.{costsFrom}
-use Rattle.book.specs.Book.{width, Entry, Book}
+use Rattle.book.specs.Book.{Entry, Book}
+use Rattle.book.specs.Here.{width}
 
 abbrev pub recordLength : ℕ
 recordLength = 33

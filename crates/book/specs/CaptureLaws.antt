@@ -12,14 +12,17 @@ use native.Mathlib.Omega.{arith}
 use lib.Dec.{eqb}
 use lib.ListN.{length, take, drop, length-append, length-drop, take-append-drop}
 use lib.Seq.{take-at, drop-at, length-take-le}
-use borrow.Author.Tests.{eqb-true, eq-eqb}
+use borrow.Author.Tests.{eq-eqb}
 use Rattle.lists.specs.Listed.{listed-nil, listed-cons, listed-ext}
-use Rattle.lists.specs.Distinct.{below, below-cons, below-take, below-drop, and-left, and-right, and-both}
-use Rattle.book.specs.Book.{width, Entry}
+use Rattle.lists.specs.Distinct.{below, below-cons, below-take, below-drop, and-both}
 use Rattle.soft.specs.Column.{costFrom, costsFrom}
 use Rattle.soft.specs.ColumnLaws.{costs-length}
+use Rattle.book.specs.Model.{modem64}
+use Rattle.book.specs.Book.{Entry}
 use Rattle.book.specs.Capture.{recordLength, costBytes, rowBytes, recordsOf}
-use Rattle.book.specs.RowLaws.{wide}
+use Rattle.book.specs.RowLaws.{wide-cons}
+use Rattle.book.specs.Here.{width, wide}
+use Rattle.book.specs.RowLaws as BookRows
 
 -- ---- cost bytes
 
@@ -88,13 +91,6 @@ row-bytes-append (e ∷ a) b =
     ap (λ (l : List ℕ). (e .place ∷ costBytes (e .column)) ++ l) (row-bytes-append a b)
     ∙ sym (append-assoc (e .place ∷ costBytes (e .column)) (rowBytes a) (rowBytes b))
 
-pub wide-cons : (e : Entry) (row : List Entry) → wide (e ∷ row) ≡ true → (length (e .column) ≡ width) × (wide row ≡ true)
-unfolding wide
-wide-cons e row w = (
-  eqb-true (length (e .column)) width (and-left (eqb (length (e .column)) width) (wide row) w),
-  and-right (eqb (length (e .column)) width) (wide row) w,
-)
-
 record-length : (e : Entry) → length (e .column) ≡ width → length (e .place ∷ costBytes (e .column)) ≡ recordLength
 record-length e l = omega (arith, cost-bytes-length (e .column))
 
@@ -103,18 +99,18 @@ unfolding rowBytes
 row-bytes-length [] w = refl
 row-bytes-length (e ∷ row) w =
     length-append (e .place ∷ costBytes (e .column)) (rowBytes row)
-    ∙ omega (arith, record-length e (wide-cons e row w .0), row-bytes-length row (wide-cons e row w .1))
+    ∙ omega (arith, record-length e (wide-cons modem64 e row w .0), row-bytes-length row (wide-cons modem64 e row w .1))
 
 pub records-row : (row : List Entry) → wide row ≡ true → recordsOf (length row) (rowBytes row) ≡ row
 unfolding rowBytes recordsOf
 records-row [] w = refl
 records-row (e ∷ row) w =
-    let l : length (e .column) ≡ width = wide-cons e row w .0 in
+    let l : length (e .column) ≡ width = wide-cons modem64 e row w .0 in
     let n : length (costBytes (e .column)) ≡ 32 = omega (arith, cost-bytes-length (e .column)) in
     ap₂ (λ (c : List ℕ) (r : List Entry). record { place = e .place; column = c } ∷ r)
     (ap (costsFrom width) (take-at (costBytes (e .column)) (rowBytes row) 32 n) ∙ costs-bytes (e .column) l)
     (ap (recordsOf (length row)) (drop-at (e .place ∷ costBytes (e .column)) (rowBytes row) recordLength (omega arith))
-    ∙ records-row row (wide-cons e row w .1))
+    ∙ records-row row (wide-cons modem64 e row w .1))
 
 pub row-records : (n : ℕ) (bytes : List ℕ) → length bytes ≡ recordLength * n → below 256 bytes ≡ true → rowBytes (recordsOf n bytes) ≡ bytes
 unfolding rowBytes recordsOf
@@ -132,7 +128,7 @@ row-records (suc n) (p ∷ bytes) e b =
     ∙ take-append-drop 32 bytes)
 
 pub records-wide : (n : ℕ) (bytes : List ℕ) → wide (recordsOf n bytes) ≡ true
-unfolding recordsOf wide
+unfolding recordsOf BookRows.wide
 records-wide zero bytes = refl
 records-wide (suc n) bytes =
     and-both (eqb (length (costsFrom width (take 32 (drop 1 bytes)))) width) (wide (recordsOf n (drop recordLength bytes)))

@@ -1,27 +1,17 @@
 -- Opening a capture: total size, version, length, and then opening with its rate and list and delivering its records in their order.
 --
---   onAccepted o next        the next step from the book of an accepted one; a refused one refuses the opening with its number
---   deliverRow book entries  the entries delivered in their order, up to the first that is refused
 --   rateIn, doubtIn, listIn, recordsIn   what a capture's bytes hold: the rate, d, the doubtful list, the 64 records
 --   sizeFits, versionFits, lengthFits    its first three checks; the length is checked against both the total and d
 --   openCaptureOf bytes      what opening a capture answers: 11, 10, 11, 1, 4, 5 or 6 if refused, by the first check that fails; else 0 and the book
 use mathlib.Core.Bool.{Bool, cond, _&&_}
-use mathlib.Core.List.{List, [], _∷_}
+use mathlib.Core.List.{List}
 use Prim.Native.Nat.{ℕ, _+_, _*_}
 use lib.Dec.{eqb, leb}
 use lib.ListN.{length, getD, take, drop}
-use Rattle.refusals.specs.Refusal.{accepted, wrongVersion, wrongLength}
-use Rattle.book.specs.Book.{places, Entry, Book, Outcome}
-use Rattle.book.specs.Opening.{refusedOpening, openOf}
-use Rattle.book.specs.Delivery.{deliverOf}
+use Rattle.refusals.specs.Refusal.{wrongVersion, wrongLength}
+use Rattle.book.specs.Book.{Entry, Outcome}
 use Rattle.book.specs.Capture.{bodyLength, recordsOf}
-
-unfoldable pub onAccepted : Outcome → (Book → Outcome) → Outcome
-onAccepted o next = cond (eqb (o .number) accepted) (next (o .book)) (refusedOpening (o .number))
-
-unfoldable pub deliverRow : Book → List Entry → Outcome
-deliverRow book [] = record { number = accepted; book = book }
-deliverRow book (e ∷ entries) = onAccepted (deliverOf book (e .place) (e .column)) (λ after. deliverRow after entries)
+use Rattle.book.specs.Here.{places, refusedOpening, openOf, onAccepted, deliverRow}
 
 abbrev pub rateIn : List ℕ → ℕ
 rateIn bytes = getD bytes 3 0

@@ -2,25 +2,25 @@
 --
 --   Closed               what closing answers: 0 or the refusal's number, and the two lent buffers after the call
 --   refusedClosing n message report   refused with the number n: the buffers as they were
+--   reportLength         the report's bytes: four of the total, two of the test words, and those of the two counts of places
+--   testsFor, answerFor k columns doubtful   how many test words have a codeword within T, and the answer, if there is one
 --   reportFor k columns doubtful m    the report of the message m: total, test words with a codeword within T, pinned and changed places
 --   decodeOf k columns doubtful message report   9 if no codeword is near, the buffers as they were; else 0, the answer's message and its report
 --   closeOf book message report   2 if a buffer has the wrong size, 7 if a place is missing; else what decoding by the row's columns and the doubtful list answers
 use mathlib.Core.Bool.{Bool, cond, _&&_}
 use mathlib.Core.List.{List}
 use mathlib.Core.Option.{Option, none, some}
-use Prim.Native.Nat.{ℕ}
+use Prim.Native.Nat.{ℕ, _+_}
 use lib.Dec.{eqb}
 use lib.ListN.{length}
 use Rattle.refusals.specs.Refusal.{accepted, wrongSize, placeMissing, noneNear}
 use Rattle.soft.specs.TestWord.{testWords}
-use Rattle.soft.specs.Total.{totalOf, pinnedOf, changedOf, reportOf}
-use Rattle.code.specs.Encoding.{encodeOf}
-use Rattle.near.specs.Here.{testsNear, answerOf}
-use Rattle.book.specs.Book.{places, Book, someMissing}
+use Rattle.soft.specs.Total.{everywhere, totalOf, pinnedOf, changedOf, reportOf}
+use Rattle.family.specs.Encoding.{encodeOf}
+use Rattle.near.specs.Near.{reachOf, testsNear, answerOf}
+use Rattle.book.specs.Model.{Model, places}
+use Rattle.book.specs.Book.{Book, someMissing}
 use Rattle.book.specs.Columns.{columnsOf}
-
-abbrev pub reportLength : ℕ
-reportLength = 8
 
 pub record Closed : Type 0 where
   pub number : ℕ
@@ -30,29 +30,42 @@ pub record Closed : Type 0 where
 unfoldable pub refusedClosing : ℕ → List ℕ → List ℕ → Closed
 refusedClosing n message report = record { number = n; message = message; report = report }
 
-unfoldable pub reportFor : ℕ → (ℕ → List ℕ) → List ℕ → List ℕ → List ℕ
-reportFor k columns doubtful m =
-    reportOf (totalOf places columns (encodeOf k m)) (testsNear k (testWords places columns doubtful))
-    (pinnedOf places columns (encodeOf k m)) (changedOf places columns (encodeOf k m))
+module _ (𝓓 : Model) where
+  open Model 𝓓 using (member, wide)
 
--- by the answer's message, if there is one
-unfoldable pub answered : ℕ → (ℕ → List ℕ) → List ℕ → Option (List ℕ) → List ℕ → List ℕ → Closed
-answered k columns doubtful none message report = refusedClosing noneNear message report
-answered k columns doubtful (some m) message report =
-    record { number = accepted; message = m; report = reportFor k columns doubtful m }
+  abbrev pub reportLength : ℕ
+  reportLength = 6 + wide + wide
 
-unfoldable pub decodeOf : ℕ → (ℕ → List ℕ) → List ℕ → List ℕ → List ℕ → Closed
-decodeOf k columns doubtful message report =
-    answered k columns doubtful (answerOf k columns (testWords places columns doubtful)) message report
+  -- T at the rate, and every place counts
+  abbrev pub testsFor : ℕ → (ℕ → List ℕ) → List ℕ → ℕ
+  testsFor k columns doubtful = testsNear member everywhere (reachOf member k) k (testWords (places 𝓓) columns doubtful)
 
--- a message of k symbols, where k is the rate, and a report of 8 bytes
-unfoldable pub closingFits : Book → List ℕ → List ℕ → Bool
-closingFits book message report = eqb (length message) (book .rate) && eqb (length report) reportLength
+  abbrev pub answerFor : ℕ → (ℕ → List ℕ) → List ℕ → Option (List ℕ)
+  answerFor k columns doubtful = answerOf member everywhere (reachOf member k) k columns (testWords (places 𝓓) columns doubtful)
 
-unfoldable pub closeOf : Book → List ℕ → List ℕ → Closed
-closeOf book message report =
-    cond (closingFits book message report)
-    (cond (someMissing (book .row))
-    (refusedClosing placeMissing message report)
-    (decodeOf (book .rate) (columnsOf (book .row)) (book .doubtful) message report))
-    (refusedClosing wrongSize message report)
+  unfoldable pub reportFor : ℕ → (ℕ → List ℕ) → List ℕ → List ℕ → List ℕ
+  reportFor k columns doubtful m =
+      reportOf wide (totalOf (places 𝓓) columns (encodeOf member k m)) (testsFor k columns doubtful)
+      (pinnedOf (places 𝓓) columns (encodeOf member k m)) (changedOf (places 𝓓) columns (encodeOf member k m))
+
+  -- by the answer's message, if there is one
+  unfoldable pub answered : ℕ → (ℕ → List ℕ) → List ℕ → Option (List ℕ) → List ℕ → List ℕ → Closed
+  answered k columns doubtful none message report = refusedClosing noneNear message report
+  answered k columns doubtful (some m) message report =
+      record { number = accepted; message = m; report = reportFor k columns doubtful m }
+
+  unfoldable pub decodeOf : ℕ → (ℕ → List ℕ) → List ℕ → List ℕ → List ℕ → Closed
+  decodeOf k columns doubtful message report =
+      answered k columns doubtful (answerFor k columns doubtful) message report
+
+  -- a message of k symbols, where k is the rate, and a report of its length
+  unfoldable pub closingFits : Book → List ℕ → List ℕ → Bool
+  closingFits book message report = eqb (length message) (book .rate) && eqb (length report) reportLength
+
+  unfoldable pub closeOf : Book → List ℕ → List ℕ → Closed
+  closeOf book message report =
+      cond (closingFits book message report)
+      (cond (someMissing 𝓓 (book .row))
+      (refusedClosing placeMissing message report)
+      (decodeOf (book .rate) (columnsOf 𝓓 (book .row)) (book .doubtful) message report))
+      (refusedClosing wrongSize message report)

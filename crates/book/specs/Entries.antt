@@ -1,6 +1,6 @@
 -- Entries of a row and the columns of its places.
 --
---   Missing row p        'one of the 64 that is not in it is missing': no entry of the row has that place
+--   Missing row p        'one of the 64 that is not in it is missing': one of the modem's places, and no entry of the row has it
 --   absent-none, none-absent   a place has no column exactly if no entry of the row has it
 --   missing-there, missing-none   a place is missing, or none is, as the test says
 --   place-among          an entry's place is among the row's places
@@ -15,7 +15,8 @@ use Prim.Native.Nat.{ℕ, _<_}
 use lib.Dec.{eqb, ltb}
 use borrow.Author.Tests.{eqb-true, eqb-false, eq-eqb, ne-eqb, ltb-true, lt-ltb, not-true}
 use Rattle.lists.specs.Distinct.{among, distinct, and-left, and-right, and-both}
-use Rattle.book.specs.Book.{places, Entry, columnIn, taken, missing, someMissing}
+use Rattle.book.specs.Model.{Model, places}
+use Rattle.book.specs.Book.{Entry, columnIn, taken, missing, someMissing}
 use Rattle.book.specs.Columns.{column-free, none-free}
 use Rattle.book.specs.RowLaws.{placesOf, missing-some, some-missing}
 
@@ -72,12 +73,6 @@ column-entry (x ∷ row) p {column} c = go (eqb (x .place) p) refl (λ f. column
         let r = ih (sym (column-later x row p (eqb-false (x .place) p f)) ∙ c) in
         (r .0, List·Memᴰ·tail (r .1), r .2, r .3)
 
--- ---- missing places
-
-pub record Missing (row : List Entry) (p : ℕ) : Type 0 where
-  pub one-of-them : p < places
-  pub absent : (e : Entry) → List·Memᴰ e row → e .place ≢ p
-
 pub absent-none : (row : List Entry) (p : ℕ) → ((e : Entry) → List·Memᴰ e row → e .place ≢ p) → columnIn row p ≡ none
 absent-none [] p f = column-nil p
 absent-none (x ∷ row) p f = column-later x row p (f x (List·Memᴰ·head refl)) ∙ absent-none row p (λ e m. f e (List·Memᴰ·tail m))
@@ -91,25 +86,32 @@ none-absent (x ∷ row) p c e m q = go (eqb (x .place) p) refl (List·Memᴰ·ca
     go false f (inl r) ih = eqb-false (x .place) p f (ap (λ (y : Entry). y .place) (sym r) ∙ q)
     go false f (inr l) ih = ih (sym (column-later x row p (eqb-false (x .place) p f)) ∙ c) l
 
-pub missing-there : (row : List Entry) → someMissing row ≡ true → (p : ℕ) × Missing row p
-unfolding missing
-missing-there row e =
-    let r = some-missing row e in
-    let a = ltb (r .0) places in
-    let b = taken row (r .0) in (
-      r .0,
-      record {
-        one-of-them = ltb-true (r .0) places (and-left a (not b) (r .1));
-        absent = none-absent row (r .0) (column-free row (r .0) (not-true b (and-right a (not b) (r .1))));
-      },
-    )
+module _ (𝓓 : Model) where
+  -- ---- missing places
 
-pub missing-none : (row : List Entry) → someMissing row ≡ false → (p : ℕ) → Missing row p → ⊥
-unfolding missing
-missing-none row e p m =
-    true≢false
-    (sym
-    (missing-some row p
-    (and-both (ltb p places) (not (taken row p)) (lt-ltb p places (m .one-of-them))
-    (ap not (none-free row p (absent-none row p (m .absent))))))
-    ∙ e)
+  pub record Missing (row : List Entry) (p : ℕ) : Type 0 where
+    pub one-of-them : p < places 𝓓
+    pub absent : (e : Entry) → List·Memᴰ e row → e .place ≢ p
+
+  pub missing-there : (row : List Entry) → someMissing 𝓓 row ≡ true → (p : ℕ) × Missing row p
+  unfolding missing
+  missing-there row e =
+      let r = some-missing 𝓓 row e in
+      let a = ltb (r .0) (places 𝓓) in
+      let b = taken row (r .0) in (
+        r .0,
+        record {
+          one-of-them = ltb-true (r .0) (places 𝓓) (and-left a (not b) (r .1));
+          absent = none-absent row (r .0) (column-free row (r .0) (not-true b (and-right a (not b) (r .1))));
+        },
+      )
+
+  pub missing-none : (row : List Entry) → someMissing 𝓓 row ≡ false → (p : ℕ) → Missing row p → ⊥
+  unfolding missing
+  missing-none row e p m =
+      true≢false
+      (sym
+      (missing-some 𝓓 row p
+      (and-both (ltb p (places 𝓓)) (not (taken row p)) (lt-ltb p (places 𝓓) (m .one-of-them))
+      (ap not (none-free row p (absent-none row p (m .absent))))))
+      ∙ e)

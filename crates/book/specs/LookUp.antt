@@ -8,9 +8,9 @@ use Prim.Native.Nat.{ℕ, zero, suc, _+_, _*_}
 use lib.Dec.{eqb, ltb}
 use lib.ListN.{getD, take, drop}
 use Rattle.refusals.specs.Refusal.{accepted}
-use Rattle.book.specs.Book.{places}
 use Rattle.book.specs.Capture.{recordLength}
 use Rattle.book.specs.CaptureOpening.{doubtIn, openCaptureOf}
+use Rattle.book.specs.Here.{places}
 
 unfoldable pub recordWith : ℕ → ℕ → List ℕ → ℕ
 recordWith p zero bytes = 0

@@ -17,15 +17,16 @@ use lib.Seq.{length-take-le, drop-drop}
 use borrow.Author.Tests.{eq-eqb, ne-eqb, lt-ltb, le-ltb}
 use Rattle.refusals.specs.Refusal.{accepted}
 use Rattle.lists.specs.Distinct.{among, below, below-take, below-drop, distinct-all}
-use Rattle.book.specs.Book.{places, width, columnIn, Outcome}
-use Rattle.book.specs.Capture.{recordLength, captureLength, costBytes, recordsOf}
 use Rattle.soft.specs.Column.{costsFrom}
+use Rattle.book.specs.Book.{columnIn, Outcome}
+use Rattle.book.specs.Capture.{recordLength, captureLength, costBytes, recordsOf}
 use Rattle.book.specs.CaptureOpening.{doubtIn, recordsIn, openCaptureOf}
 use Rattle.book.specs.LookUp.{recordWith, costsBegin, lookUpOf}
 use Rattle.book.specs.RowLaws.{placesOf, places-length}
 use Rattle.book.specs.CaptureLaws.{bytes-costs, records-length}
 use Rattle.book.specs.CaptureCases.{bookIn, Fit, capture-fit}
 use Rattle.book.specs.RoundTrip.{size-range, length-right}
+use Rattle.book.specs.Here.{places, width}
 
 pub record Found (p n : ℕ) (bytes : List ℕ) : Type 0 where
   pub within : recordWith p n bytes < n

@@ -1,11 +1,17 @@
 -- Which rates and doubtful lists opening accepts, in document 01's words.
 --
+--   Known rate T         a known rate of the modem, and T, its reach
+--   DoubtfulList list    at most as many places as the largest doubt, all of them the modem's, strictly rising: each smaller than the next
+--   list-fits, fits-list the lists that pass the test
+--   list-short           they are no longer than the largest doubt
+--
+-- Of the modem of 64 places:
+--
 --   Rate rate T          the two rates and their reach: T = 6 at rate 39, T = 1 at rate 49
---   DoubtfulList list    at most 8 places, none above 63, strictly rising: each smaller than the next
 --   rate-known, known-rate   the rates that pass the test
 --   rate-reach           T is document 01's
+--   rate-is              so each is a known rate with its reach
 --   rate-orders          M is at least 43, so that the 82 bytes of a reading have room for the least Q
---   list-fits, fits-list the lists that pass the test
 use mathlib.Core.Bool.{true, _&&_}
 use mathlib.Core.Path.{_≡_, refl, sym, subst}
 use mathlib.Core.List.{List, [], _∷_}
@@ -19,35 +25,11 @@ use borrow.Author.Tests.{lt-ltb, leb-true, le-leb}
 use Rattle.lists.specs.Distinct.{below, below-at, and-left, and-right, and-both}
 use Rattle.code.specs.Encoding.{knownRate}
 use Rattle.code.specs.Rates.{known-rates}
-use Rattle.near.specs.Here.{mOf, reachOf, reaches}
-use Rattle.book.specs.Book.{places}
+use Rattle.near.specs.Near.{mOf, reachOf}
+use Rattle.near.specs.Here.{reaches}
+use Rattle.family.specs.Member.{m16}
+use Rattle.book.specs.Model.{Model, places, modem64}
 use Rattle.book.specs.Opening.{risingFrom, rising, fitPlaces, fitDoubt}
-
-pub data Rate : ℕ → ℕ → Type 0 where
-  rate-39 : Rate 39 6
-  rate-49 : Rate 49 1
-
-pub record DoubtfulList (list : List ℕ) : Type 0 where
-  pub short : length list ≤ 8
-  pub in-range : (i : ℕ) → i < length list → getD list i 0 ≤ 63
-  pub rises : (i : ℕ) → suc i < length list → getD list i 0 < getD list (suc i) 0
-
-pub rate-known : {rate T : ℕ} → Rate rate T → knownRate rate ≡ true
-unfolding knownRate
-rate-known rate-39 = refl
-rate-known rate-49 = refl
-
-pub rate-reach : {rate T : ℕ} → Rate rate T → reachOf rate ≡ T
-rate-reach rate-39 = reaches .1
-rate-reach rate-49 = reaches .3
-
-pub rate-orders : {rate T : ℕ} → Rate rate T → 43 ≤ mOf rate
-rate-orders rate-39 = omega (arith, reaches .0)
-rate-orders rate-49 = omega (arith, reaches .2)
-
-pub known-rate : (rate : ℕ) → knownRate rate ≡ true → (T : ℕ) × Rate rate T
-known-rate rate e =
-    ⊎-elim (λ f. (6, subst (λ k. Rate k 6) (sym f) rate-39)) (λ f. (1, subst (λ k. Rate k 1) (sym f) rate-49)) (known-rates rate e)
 
 rising-of : (n : ℕ) (list : List ℕ) → (0 < length list → n ≤ getD list 0 0)
     → ((i : ℕ) → suc i < length list → getD list i 0 < getD list (suc i) 0) → risingFrom n list ≡ true
@@ -77,22 +59,64 @@ below-of n [] h = refl
 below-of n (p ∷ list) h =
     and-both (ltb p n) (below n list) (lt-ltb p n (h 0 (omega arith))) (below-of n list (λ i l. h (suc i) (omega arith)))
 
-pub list-fits : {list : List ℕ} → DoubtfulList list → fitDoubt list ≡ true
-unfolding fitDoubt fitPlaces rising
-list-fits {list} d =
-    and-both (leb (length list) 8) (below places list && risingFrom 0 list) (le-leb (length list) 8 (d .short))
-    (and-both (below places list) (risingFrom 0 list) (below-of places list (λ i l. omega (arith, d .in-range i l)))
-    (rising-of 0 list (λ l. omega arith) (d .rises)))
+module _ (𝓓 : Model) where
+  open Model 𝓓 using (member, known, mostDoubt)
 
-pub fits-list : (list : List ℕ) → fitDoubt list ≡ true → DoubtfulList list
-unfolding fitDoubt fitPlaces rising
-fits-list list e =
-    let a = leb (length list) 8 in
-    let b = below places list in
-    let c = risingFrom 0 list in
-    let f : (b && c) ≡ true = and-right a (b && c) e in
-    record {
-      short = leb-true (length list) 8 (and-left a (b && c) e);
-      in-range = λ i l. omega (arith, below-at places list i (and-left b c f) l);
-      rises = rising-from 0 list (and-right b c f) .1;
-    }
+  pub record Known (rate T : ℕ) : Type 0 where
+    pub known-rate : known rate ≡ true
+    pub reach : reachOf member rate ≡ T
+
+  pub record DoubtfulList (list : List ℕ) : Type 0 where
+    pub short : length list ≤ mostDoubt
+    pub in-range : (i : ℕ) → i < length list → getD list i 0 < places 𝓓
+    pub rises : (i : ℕ) → suc i < length list → getD list i 0 < getD list (suc i) 0
+
+  pub list-fits : {list : List ℕ} → DoubtfulList list → fitDoubt 𝓓 list ≡ true
+  unfolding fitDoubt fitPlaces rising
+  list-fits {list} d =
+      and-both (leb (length list) mostDoubt) (below (places 𝓓) list && risingFrom 0 list) (le-leb (length list) mostDoubt (d .short))
+      (and-both (below (places 𝓓) list) (risingFrom 0 list) (below-of (places 𝓓) list (d .in-range))
+      (rising-of 0 list (λ l. omega arith) (d .rises)))
+
+  pub list-short : (list : List ℕ) → fitDoubt 𝓓 list ≡ true → length list ≤ mostDoubt
+  unfolding fitDoubt
+  list-short list f = leb-true (length list) mostDoubt (and-left (leb (length list) mostDoubt) (fitPlaces 𝓓 list) f)
+
+  pub fits-list : (list : List ℕ) → fitDoubt 𝓓 list ≡ true → DoubtfulList list
+  unfolding fitDoubt fitPlaces rising
+  fits-list list e =
+      let a = leb (length list) mostDoubt in
+      let b = below (places 𝓓) list in
+      let c = risingFrom 0 list in
+      let f : (b && c) ≡ true = and-right a (b && c) e in
+      record {
+        short = leb-true (length list) mostDoubt (and-left a (b && c) e);
+        in-range = λ i l. below-at (places 𝓓) list i (and-left b c f) l;
+        rises = rising-from 0 list (and-right b c f) .1;
+      }
+
+-- ---- the modem of 64 places
+
+pub data Rate : ℕ → ℕ → Type 0 where
+  rate-39 : Rate 39 6
+  rate-49 : Rate 49 1
+
+pub rate-known : {rate T : ℕ} → Rate rate T → knownRate rate ≡ true
+unfolding knownRate
+rate-known rate-39 = refl
+rate-known rate-49 = refl
+
+pub rate-reach : {rate T : ℕ} → Rate rate T → reachOf m16 rate ≡ T
+rate-reach rate-39 = reaches .1
+rate-reach rate-49 = reaches .3
+
+pub rate-orders : {rate T : ℕ} → Rate rate T → 43 ≤ mOf m16 rate
+rate-orders rate-39 = omega (arith, reaches .0)
+rate-orders rate-49 = omega (arith, reaches .2)
+
+pub known-rate : (rate : ℕ) → knownRate rate ≡ true → (T : ℕ) × Rate rate T
+known-rate rate e =
+    ⊎-elim (λ f. (6, subst (λ k. Rate k 6) (sym f) rate-39)) (λ f. (1, subst (λ k. Rate k 1) (sym f) rate-49)) (known-rates rate e)
+
+pub rate-is : {rate T : ℕ} → Rate rate T → Known modem64 rate T
+rate-is rate = record { known-rate = rate-known rate; reach = rate-reach rate }

@@ -16,9 +16,9 @@ use Rattle.soft.specs.Column.{bestOf}
 use Rattle.family.specs.Nodes.{Node, node}
 use Rattle.near.specs.Here.{mOf}
 use Rattle.interpolant.specs.LeastQ.{readingOf}
-use Rattle.book.specs.Book.{places, Book, taken}
-use Rattle.book.specs.Columns.{columnsOf}
+use Rattle.book.specs.Book.{Book, taken}
 use Rattle.book.specs.Writing.{Filled}
+use Rattle.book.specs.Here.{places, columnsOf}
 
 abbrev pub readingLength : ℕ
 readingLength = 82

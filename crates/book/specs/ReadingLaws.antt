@@ -24,12 +24,14 @@ use Rattle.soft.specs.Column.{bestOf}
 use Rattle.family.specs.Nodes.{Node, node}
 use Rattle.interpolant.specs.LeastQ.{readingOf}
 use Rattle.interpolant.specs.Reading.{reading-size, reading-any-order}
-use Rattle.book.specs.Book.{places, Entry, Book, taken}
+use Rattle.book.specs.Model.{modem64}
+use Rattle.book.specs.Book.{Entry, Book, taken}
 use Rattle.book.specs.Columns.{columns-taken, column-taken}
 use Rattle.book.specs.Writing.{Filled}
 use Rattle.book.specs.Reading.{readingLength, highestOrder, isSettled, settledAt, settledBelow, settledOf, readOf}
-use Rattle.book.specs.RowLaws.{placesOf, Proper, taken-among}
+use Rattle.book.specs.RowLaws.{placesOf, taken-among}
 use Rattle.book.specs.Entries.{place-among, entry-column, column-entry}
+use Rattle.book.specs.Here.{places, Proper}
 
 -- ---- the settled places, place by place
 
@@ -144,7 +146,7 @@ module _ (book : Book) (proper : Proper book) where
   entry-settled : (e : Entry) → List·Memᴰ e (book .row) → settledAt book (e .place) ≡ node (e .place) (bestOf (e .column))
   unfolding settledAt
   entry-settled e m =
-      ap (λ c. node (e .place) (bestOf c)) (columns-taken (book .row) (e .place) (entry-column e (book .row) (proper .apart) m))
+      ap (λ c. node (e .place) (bestOf c)) (columns-taken modem64 (book .row) (e .place) (entry-column e (book .row) (proper .apart) m))
 
   pub reading-row : (M : ℕ) → readingOf M (settledRow (book .doubtful) (book .row)) ≡ readingOf M (settledOf book)
   reading-row M =
@@ -157,7 +159,7 @@ module _ (book : Book) (proper : Proper book) where
       (taken-among (book .row) (r .0 .place) ∙ a) (r .2)))
       (λ s m.
       let r = settled-only book s m in
-      let e = column-entry (book .row) (r .0) (column-taken (book .row) (r .0) (r .2)) in
+      let e = column-entry (book .row) (r .0) (column-taken modem64 (book .row) (r .0) (r .2)) in
       subst (λ (x : Node). List·Memᴰ x (settledRow (book .doubtful) (book .row)))
       (sym (entry-settled (e .0) (e .1)) ∙ ap (settledAt book) (e .2) ∙ sym (r .4))
       (row-there (book .doubtful) (book .row) (e .0) (e .1) (ap (λ p. among p (book .doubtful)) (e .2) ∙ r .3)))

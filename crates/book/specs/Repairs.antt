@@ -4,7 +4,7 @@
 --   FewWrong k columns doubtful T m   m is a message; at each doubtful place its codeword has the best or the second symbol, and at most T settled
 --                        places are wrong
 --   few-near             so its codeword is near
---   notBest k columns m  at how many of the 64 places the codeword of m has not the best symbol; not-best-changed: the changed places of its report
+--   notBest k columns m  at how many places the codeword of m has not the best symbol; not-best-changed: the changed places of its report
 --   Repaired k columns doubtful m c   the call accepts and gives the message m with its report
 --   NoDearer k columns doubtful m c   the call accepts; the total of what it gives is at most that of m, and where the totals are equal the message
 --                        given is m or smaller
@@ -13,7 +13,7 @@
 --   always-repaired      no doubtful places, and at most T places at which the sent symbol is not the best symbol: closing gives the message sent
 --   always-found         few wrong places: closing never says 'none near', and gives the message sent or one that is no dearer
 --   table-repaired       table decoding with doubt 0 gives the message sent where at most T of its symbols are not the best symbols
---   table-found          with a doubt of at most 8 it never says 'none near' where few places are wrong by the doubtful places picked
+--   table-found          with no larger doubt than the largest it never says 'none near' where few places are wrong by the doubtful places picked
 --
 -- From here to the code: the contract of `close` is `Closing` in `session`, whose number, message and report are those of `closeOf` of the session's
 -- book; the contract of `decode_table` is `tableOf`. `closes-only`, `closes-repaired` and `closes-found` are the same of whatever answers as closing
@@ -22,50 +22,41 @@ use mathlib.Core.Bool.{Bool, true, false, not, _&&_, _||_, true≢false, false�
 use mathlib.Core.Path.{_≡_, refl, sym, ap, _∙_, subst}
 use mathlib.Core.List.{List, [], _∷_, List·Memᴰ, List·Memᴰ·head, List·Memᴰ·tail, List·Memᴰ·eq-of-singleton}
 use mathlib.Core.Logic.{_≢_, _⊎_, inl, inr, ⊎-elim}
-use Prim.Native.Nat.{ℕ, _<_, _≤_}
+use Prim.Native.Nat.{ℕ, zero, suc, _<_, _≤_}
 use native.Mathlib.Omega.{arith}
 use lib.Dec.{T as Holds, eqb, le→leb}
 use lib.ListN.{length, getD}
 use borrow.Author.Tests.{eqb-true}
 use Rattle.refusals.specs.Refusal.{accepted}
 use Rattle.lists.specs.Count.{count, count-mono}
-use Rattle.lists.specs.Distinct.{among, among-member, below, distinct}
-use Rattle.lists.specs.Listed.{listed}
+use Rattle.lists.specs.Distinct.{among, among-member, below, below-append, below-one, below-nil, below-among, distinct, distinct-nil, distinct-snoc, and-both}
+use Rattle.lists.specs.Listed.{listed, listed-nil, listed-suc, listed-length}
 use Rattle.lists.specs.Words.{Word, Lex, lex-or, lex-asym}
 use Rattle.lists.specs.Answers.{Found}
 use Rattle.soft.specs.TestWord.{bestAt, Offered, bestWord, expand, testWords}
 use Rattle.soft.specs.TestWordLaws.{expand-nil, testWords-length, testWords-settled, chosen-test}
 use Rattle.soft.specs.Total.{everywhere, symbolAt, changedAt, changedOf, totalOf, differAt, differingIn, differing}
 use Rattle.soft.specs.TotalLaws.{agree-true, changed-differing}
-use Rattle.soft.specs.Doubt.{mostDoubt}
 use Rattle.soft.specs.DoubtLaws.{doubtful-none}
-use Rattle.code.specs.Encoding.{encodeOf}
+use Rattle.family.specs.Encoding.{encodeOf}
 use Rattle.family.specs.Evaluation.{encode-length}
-use Rattle.near.specs.Here.{reachOf, nearTo, Workable, repairable}
-use Rattle.near.specs.Here as Here
+use Rattle.near.specs.Near.{reachOf, nearTo}
+use Rattle.near.specs.Reach.{Workable, radius}
 use Rattle.near.specs.Codeword.{near-one}
-use Rattle.book.specs.Book.{places, Entry, Book}
+use Rattle.book.specs.Model.{Model, places, width}
+use Rattle.book.specs.Book.{Entry, Book}
 use Rattle.book.specs.Columns.{columnsOf}
 use Rattle.book.specs.Entries.{Missing, missing-none}
 use Rattle.book.specs.Closing.{reportLength, Closed, reportFor, closeOf}
-use Rattle.book.specs.OpeningLaws.{Rate, rate-39, rate-49, rate-known, rate-reach}
+use Rattle.book.specs.OpeningLaws.{Known}
 use Rattle.book.specs.Sentences.{testsOf, totalFor, IsNear, Dearer, IsAnswer, Closes, closes}
 use Rattle.book.specs.Table.{tableLength, tableColumns, pickedOf, tableOf, Delivered, delivered-columns, delivered-none-missing, table-as-session, entriesOf, order-delivered}
-use Rattle.family.specs.Member.{m16}
-use Rattle.near.specs.Near as Near
-
--- ---- few wrong places
 
 abbrev pub wrongAt : (ℕ → List ℕ) → List ℕ → List ℕ → ℕ → Bool
 wrongAt columns doubtful word p = not (among p doubtful) && changedAt columns word p
 
 unfoldable pub wrongOf : ℕ → (ℕ → List ℕ) → List ℕ → List ℕ → ℕ
 wrongOf n columns doubtful word = count n (wrongAt columns doubtful word)
-
-pub record FewWrong (k : ℕ) (columns : ℕ → List ℕ) (doubtful : List ℕ) (T : ℕ) (m : List ℕ) : Type 0 where
-  pub word : Word 16 k m
-  pub at-doubtful : (p : ℕ) → List·Memᴰ p doubtful → Offered columns p (symbolAt (encodeOf k m) p)
-  pub at-settled : wrongOf places columns doubtful (encodeOf k m) ≤ T
 
 among-there : (p : ℕ) (l : List ℕ) → among p l ≡ true → List·Memᴰ p l
 unfolding among
@@ -98,51 +89,6 @@ module _ (n : ℕ) (columns : ℕ → List ℕ) (doubtful word t : List ℕ) (si
   unfolding differingIn wrongOf
   differing-wrong = count-mono n (differAt word t) (wrongAt columns doubtful word) differ-wrong
 
-abbrev pub FewWrongIn : Book → ℕ → List ℕ → Type 0
-FewWrongIn book = FewWrong (book .rate) (columnsOf (book .row)) (book .doubtful)
-
-pub few-near : (book : Book) (T : ℕ) (m : List ℕ) → FewWrongIn book T m → IsNear book T m
-unfolding testsOf
-few-near book T m few =
-    let columns = columnsOf (book .row) in
-    let sent = encodeOf (book .rate) m in
-    let r = chosen-test columns (symbolAt sent) places (book .doubtful) (few .at-doubtful) in
-    record {
-      word = few .word;
-      test = r .0;
-      tested = r .1;
-      few = omega (
-        arith,
-        few .at-settled,
-        differing-wrong places columns (book .doubtful) sent (r .0) (encode-length m16 (book .rate) m) (r .1) (r .2),
-      );
-    }
-
--- ---- what a call makes of it
-
-abbrev pub notBest : ℕ → (ℕ → List ℕ) → List ℕ → ℕ
-notBest k columns m = differing places (encodeOf k m) (bestWord places columns)
-
-pub not-best-changed : (k : ℕ) (columns : ℕ → List ℕ) (m : List ℕ) → changedOf places columns (encodeOf k m) ≡ notBest k columns m
-not-best-changed k columns m = changed-differing places columns (encodeOf k m) (encode-length m16 k m)
-
-pub record Repaired (k : ℕ) (columns : ℕ → List ℕ) (doubtful m : List ℕ) (c : Closed) : Type 0 where
-  pub number : c .number ≡ accepted
-  pub message : c .message ≡ m
-  pub report : c .report ≡ reportFor k columns doubtful m
-
-pub record NoDearer (k : ℕ) (columns : ℕ → List ℕ) (doubtful m : List ℕ) (c : Closed) : Type 0 where
-  pub number : c .number ≡ accepted
-  pub total : totalOf places columns (encodeOf k (c .message)) ≤ totalOf places columns (encodeOf k m)
-  pub tie : totalOf places columns (encodeOf k (c .message)) ≡ totalOf places columns (encodeOf k m) → (c .message ≡ m) ⊎ Lex (c .message) m
-  pub report : c .report ≡ reportFor k columns doubtful (c .message)
-
-abbrev pub RepairedIn : Book → List ℕ → Closed → Type 0
-RepairedIn book = Repaired (book .rate) (columnsOf (book .row)) (book .doubtful)
-
-abbrev pub NoDearerIn : Book → List ℕ → Closed → Type 0
-NoDearerIn book = NoDearer (book .rate) (columnsOf (book .row)) (book .doubtful)
-
 -- two messages are equal or not
 equal-or : (m n : List ℕ) → (m ≡ n) ⊎ (n ≢ m)
 equal-or m n =
@@ -150,143 +96,217 @@ equal-or m n =
     (⊎-elim (λ e. inl (sym e)) (λ l. inr (λ e. lex-asym m m (subst (λ x. Lex x m) e l) (subst (λ x. Lex x m) e l))))
     (lex-or m n)
 
-workable : {k T : ℕ} → Rate k T → Workable k
-workable rate-39 = Here.workable (omega arith) (omega arith)
-workable rate-49 = Here.workable (omega arith) (omega arith)
+-- the first n numbers in their order
+upTo : ℕ → List ℕ
+upTo n = listed n (λ p. p)
 
-abbrev bestIn : Book → List ℕ
-bestIn book = bestWord places (columnsOf (book .row))
+up-to : (n m : ℕ) → n ≤ m → (distinct (upTo n) ≡ true) × (below m (upTo n) ≡ true)
+unfolding upTo
+up-to zero m h = (ap distinct (listed-nil (λ p. p)) ∙ distinct-nil, ap (below m) (listed-nil (λ p. p)) ∙ below-nil m)
+up-to (suc n) m h =
+    let r = up-to n m (omega arith) in
+    let s = up-to n n (omega arith) in (
+      ap distinct (listed-suc n (λ p. p)) ∙ distinct-snoc (upTo n) n (s .0) (fresh (among n (upTo n)) refl (s .1)),
+      ap (below m) (listed-suc n (λ p. p)) ∙ below-append m (upTo n) (n ∷ [])
+          ∙ and-both (below m (upTo n)) (below m (n ∷ [])) (r .1) (below-one m n (omega arith)),
+    )
+  where
+    fresh : (b : Bool) → among n (upTo n) ≡ b → below n (upTo n) ≡ true → among n (upTo n) ≡ false
+    fresh true e small = absurd (omega (arith, below-among n (upTo n) n small e))
+    fresh false e small = e
 
--- where no place is doubtful, the word of best symbols is the only test word
-one-test : (book : Book) → book .doubtful ≡ [] → testsOf book ≡ bestIn book ∷ []
-unfolding testsOf testWords
-one-test book none = ap (expand (columnsOf (book .row)) (bestIn book)) none ∙ expand-nil (columnsOf (book .row)) (bestIn book)
+module _ (𝓓 : Model) where
+  open Model 𝓓 using (member, workable, mostDoubt)
 
-module _ {book : Book} {T : ℕ} {c : Closed} (sentences : Closes book T c) (full : (p : ℕ) → Missing (book .row) p → ⊥) where
-  -- where a codeword is near there is an answer,
-  pub near-answered : (m : List ℕ) → IsNear book T m → IsAnswer book T c
-  near-answered m near = sentences .otherwise full (λ e. sentences .none-near full .0 e m near)
+  -- ---- few wrong places
 
-  -- and the codeword is the answer's or dearer
-  pub near-dearer : (m : List ℕ) → IsNear book T m → (c .message ≡ m) ⊎ Dearer book (c .message) m
-  near-dearer m near = ⊎-elim (λ e. inl e) (λ d. inr (near-answered m near .others m near d)) (equal-or (c .message) m)
+  pub record FewWrong (k : ℕ) (columns : ℕ → List ℕ) (doubtful : List ℕ) (T : ℕ) (m : List ℕ) : Type 0 where
+    pub word : Word (width 𝓓) k m
+    pub at-doubtful : (p : ℕ) → List·Memᴰ p doubtful → Offered columns p (symbolAt (encodeOf member k m) p)
+    pub at-settled : wrongOf (places 𝓓) columns doubtful (encodeOf member k m) ≤ T
 
-  pub closes-only : (m : List ℕ) → IsNear book T m → ((n : List ℕ) → IsNear book T n → n ≡ m) → RepairedIn book m c
-  closes-only m near only =
-      let a = near-answered m near in
-      let e : c .message ≡ m = only (c .message) (a .near) in
+  abbrev pub FewWrongIn : Book → ℕ → List ℕ → Type 0
+  FewWrongIn book = FewWrong (book .rate) (columnsOf 𝓓 (book .row)) (book .doubtful)
+
+  pub few-near : (book : Book) (T : ℕ) (m : List ℕ) → FewWrongIn book T m → IsNear 𝓓 book T m
+  unfolding testsOf
+  few-near book T m few =
+      let columns = columnsOf 𝓓 (book .row) in
+      let sent = encodeOf member (book .rate) m in
+      let r = chosen-test columns (symbolAt sent) (places 𝓓) (book .doubtful) (few .at-doubtful) in
       record {
-        number = a .number;
-        message = e;
-        report = a .report ∙ ap (reportFor (book .rate) (columnsOf (book .row)) (book .doubtful)) e;
+        word = few .word;
+        test = r .0;
+        tested = r .1;
+        few = omega (
+          arith,
+          few .at-settled,
+          differing-wrong (places 𝓓) columns (book .doubtful) sent (r .0) (encode-length member (book .rate) m) (r .1) (r .2),
+        );
       }
 
-  pub closes-found : (m : List ℕ) → FewWrongIn book T m → NoDearerIn book m c
-  unfolding totalFor
-  closes-found m few =
-      let near = few-near book T m few in
-      let a = near-answered m near in
-      record {
-        number = a .number;
-        total = total (near-dearer m near);
-        tie = tie (near-dearer m near);
-        report = a .report;
-      }
-    where
-      cost : List ℕ → ℕ
-      cost n = totalOf places (columnsOf (book .row)) (encodeOf (book .rate) n)
+  -- ---- what a call makes of it
 
-      Outcome : Type 0
-      Outcome = (c .message ≡ m) ⊎ ((cost (c .message) < cost m) ⊎ ((cost (c .message) ≡ cost m) × Lex (c .message) m))
+  abbrev pub notBest : ℕ → (ℕ → List ℕ) → List ℕ → ℕ
+  notBest k columns m = differing (places 𝓓) (encodeOf member k m) (bestWord (places 𝓓) columns)
 
-      total : Outcome → cost (c .message) ≤ cost m
-      total (inl e) = omega (arith, ap cost e)
-      total (inr (inl l)) = omega arith
-      total (inr (inr r)) = omega (arith, r .0)
+  pub not-best-changed : (k : ℕ) (columns : ℕ → List ℕ) (m : List ℕ) → changedOf (places 𝓓) columns (encodeOf member k m) ≡ notBest k columns m
+  not-best-changed k columns m = changed-differing (places 𝓓) columns (encodeOf member k m) (encode-length member k m)
 
-      tie : Outcome → cost (c .message) ≡ cost m → (c .message ≡ m) ⊎ Lex (c .message) m
-      tie (inl e) q = inl e
-      tie (inr (inl l)) q = absurd (omega arith)
-      tie (inr (inr r)) q = inr (r .1)
+  pub record Repaired (k : ℕ) (columns : ℕ → List ℕ) (doubtful m : List ℕ) (c : Closed) : Type 0 where
+    pub number : c .number ≡ accepted
+    pub message : c .message ≡ m
+    pub report : c .report ≡ reportFor 𝓓 k columns doubtful m
 
-  module _ (rate : Rate (book .rate) T) (none-doubtful : book .doubtful ≡ []) where
-    -- near the only test word
-    near-best : (n : List ℕ) → IsNear book T n → Found 16 (book .rate) (nearTo (book .rate) (bestIn book)) n
-    unfolding Near.nearTo
-    near-best n near =
-        let e : near .test ≡ bestIn book = List·Memᴰ·eq-of-singleton (subst (List·Memᴰ (near .test)) (one-test book none-doubtful) (near .tested)) in
+  pub record NoDearer (k : ℕ) (columns : ℕ → List ℕ) (doubtful m : List ℕ) (c : Closed) : Type 0 where
+    pub number : c .number ≡ accepted
+    pub total : totalOf (places 𝓓) columns (encodeOf member k (c .message)) ≤ totalOf (places 𝓓) columns (encodeOf member k m)
+    pub tie : totalOf (places 𝓓) columns (encodeOf member k (c .message)) ≡ totalOf (places 𝓓) columns (encodeOf member k m) → (c .message ≡ m) ⊎ Lex (c .message) m
+    pub report : c .report ≡ reportFor 𝓓 k columns doubtful (c .message)
+
+  abbrev pub RepairedIn : Book → List ℕ → Closed → Type 0
+  RepairedIn book = Repaired (book .rate) (columnsOf 𝓓 (book .row)) (book .doubtful)
+
+  abbrev pub NoDearerIn : Book → List ℕ → Closed → Type 0
+  NoDearerIn book = NoDearer (book .rate) (columnsOf 𝓓 (book .row)) (book .doubtful)
+
+  abbrev bestIn : Book → List ℕ
+  bestIn book = bestWord (places 𝓓) (columnsOf 𝓓 (book .row))
+
+  -- where no place is doubtful, the word of best symbols is the only test word
+  one-test : (book : Book) → book .doubtful ≡ [] → testsOf 𝓓 book ≡ bestIn book ∷ []
+  unfolding testsOf testWords
+  one-test book none = ap (expand (columnsOf 𝓓 (book .row)) (bestIn book)) none ∙ expand-nil (columnsOf 𝓓 (book .row)) (bestIn book)
+
+  module _ {book : Book} {T : ℕ} {c : Closed} (sentences : Closes 𝓓 book T c) (full : (p : ℕ) → Missing 𝓓 (book .row) p → ⊥) where
+    -- where a codeword is near there is an answer,
+    pub near-answered : (m : List ℕ) → IsNear 𝓓 book T m → IsAnswer 𝓓 book T c
+    near-answered m near = sentences .otherwise full (λ e. sentences .none-near full .0 e m near)
+
+    -- and the codeword is the answer's or dearer
+    pub near-dearer : (m : List ℕ) → IsNear 𝓓 book T m → (c .message ≡ m) ⊎ Dearer 𝓓 book (c .message) m
+    near-dearer m near = ⊎-elim (λ e. inl e) (λ d. inr (near-answered m near .others m near d)) (equal-or (c .message) m)
+
+    pub closes-only : (m : List ℕ) → IsNear 𝓓 book T m → ((n : List ℕ) → IsNear 𝓓 book T n → n ≡ m) → RepairedIn book m c
+    closes-only m near only =
+        let a = near-answered m near in
+        let e : c .message ≡ m = only (c .message) (a .near) in
         record {
-          word = near .word;
-          passed =
-              le→leb (differing places (encodeOf (book .rate) n) (bestIn book)) (reachOf (book .rate))
-              (omega (arith, near .few, ap (differing places (encodeOf (book .rate) n)) e, rate-reach rate));
+          number = a .number;
+          message = e;
+          report = a .report ∙ ap (reportFor 𝓓 (book .rate) (columnsOf 𝓓 (book .row)) (book .doubtful)) e;
         }
 
-    pub closes-repaired : (m : List ℕ) → Word 16 (book .rate) m → notBest (book .rate) (columnsOf (book .row)) m ≤ T → RepairedIn book m c
-    closes-repaired m word few =
-        let near : IsNear book T m =
+    pub closes-found : (m : List ℕ) → FewWrongIn book T m → NoDearerIn book m c
+    unfolding totalFor
+    closes-found m few =
+        let near = few-near book T m few in
+        let a = near-answered m near in
         record {
-          word = word;
-          test = bestIn book;
-          tested = subst (List·Memᴰ (bestIn book)) (sym (one-test book none-doubtful)) (List·Memᴰ·head refl);
-          few = few;
-        } in
-        closes-only m near (λ n other. near-one m16 everywhere (reachOf (book .rate)) (workable rate) (bestIn book) (repairable (workable rate)) (near-best n other) (near-best m near))
+          number = a .number;
+          total = total (near-dearer m near);
+          tie = tie (near-dearer m near);
+          report = a .report;
+        }
+      where
+        cost : List ℕ → ℕ
+        cost n = totalOf (places 𝓓) (columnsOf 𝓓 (book .row)) (encodeOf member (book .rate) n)
 
--- ---- closing
+        Outcome : Type 0
+        Outcome = (c .message ≡ m) ⊎ ((cost (c .message) < cost m) ⊎ ((cost (c .message) ≡ cost m) × Lex (c .message) m))
 
-module _ (book : Book) {T : ℕ} (rate : Rate (book .rate) T) (full : (p : ℕ) → Missing (book .row) p → ⊥) (message report : List ℕ)
-    (long : length message ≡ book .rate) (eight : length report ≡ reportLength) (m : List ℕ) where
-  pub only-near : IsNear book T m → ((n : List ℕ) → IsNear book T n → n ≡ m) → RepairedIn book m (closeOf book message report)
-  only-near = closes-only (closes rate message report long eight) full m
+        total : Outcome → cost (c .message) ≤ cost m
+        total (inl e) = omega (arith, ap cost e)
+        total (inr (inl l)) = omega arith
+        total (inr (inr r)) = omega (arith, r .0)
 
-  pub always-repaired : book .doubtful ≡ [] → Word 16 (book .rate) m → notBest (book .rate) (columnsOf (book .row)) m ≤ T
-      → RepairedIn book m (closeOf book message report)
-  always-repaired none-doubtful = closes-repaired (closes rate message report long eight) full rate none-doubtful m
+        tie : Outcome → cost (c .message) ≡ cost m → (c .message ≡ m) ⊎ Lex (c .message) m
+        tie (inl e) q = inl e
+        tie (inr (inl l)) q = absurd (omega arith)
+        tie (inr (inr r)) q = inr (r .1)
 
-  pub always-found : FewWrongIn book T m → NoDearerIn book m (closeOf book message report)
-  always-found = closes-found (closes rate message report long eight) full m
+    module _ (rate : Known 𝓓 (book .rate) T) (none-doubtful : book .doubtful ≡ []) where
+      -- near the only test word
+      near-best : (n : List ℕ) → IsNear 𝓓 book T n → Found (width 𝓓) (book .rate) (nearTo member everywhere (reachOf member (book .rate)) (book .rate) (bestIn book)) n
+      unfolding nearTo
+      near-best n near =
+          let e : near .test ≡ bestIn book = List·Memᴰ·eq-of-singleton (subst (List·Memᴰ (near .test)) (one-test book none-doubtful) (near .tested)) in
+          record {
+            word = near .word;
+            passed =
+                le→leb (differing (places 𝓓) (encodeOf member (book .rate) n) (bestIn book)) (reachOf member (book .rate))
+                (omega (arith, near .few, ap (differing (places 𝓓) (encodeOf member (book .rate) n)) e, rate .reach));
+          }
 
--- ---- table decoding
+      pub closes-repaired : (m : List ℕ) → Word (width 𝓓) (book .rate) m → notBest (book .rate) (columnsOf 𝓓 (book .row)) m ≤ T → RepairedIn book m c
+      closes-repaired m word few =
+          let near : IsNear 𝓓 book T m =
+          record {
+            word = word;
+            test = bestIn book;
+            tested = subst (List·Memᴰ (bestIn book)) (sym (one-test book none-doubtful)) (List·Memᴰ·head refl);
+            few = few;
+          } in
+          let can : Workable member (book .rate) = workable (book .rate) (rate .known-rate) in
+          closes-only m near
+          (λ n other.
+          near-one member everywhere (reachOf member (book .rate)) can (bestIn book) (radius member can) (near-best n other) (near-best m near))
 
--- the table's columns delivered in the order of their places
-inOrder : List ℕ → List Entry
-inOrder table = entriesOf (tableColumns table) (listed 64 (λ p. p))
+  -- ---- closing
 
-in-order : (table : List ℕ) → Delivered table (inOrder table)
-unfolding inOrder listed distinct below among
-in-order table = order-delivered table (listed 64 (λ p. p)) refl refl refl
+  module _ (book : Book) {T : ℕ} (rate : Known 𝓓 (book .rate) T) (full : (p : ℕ) → Missing 𝓓 (book .row) p → ⊥) (message report : List ℕ)
+      (long : length message ≡ book .rate) (eight : length report ≡ reportLength 𝓓) (m : List ℕ) where
+    pub only-near : IsNear 𝓓 book T m → ((n : List ℕ) → IsNear 𝓓 book T n → n ≡ m) → RepairedIn book m (closeOf 𝓓 book message report)
+    only-near = closes-only (closes 𝓓 rate message report long eight) full m
 
-none-picked : (table : List ℕ) → pickedOf table 0 ≡ []
-unfolding pickedOf
-none-picked table = doubtful-none places (tableColumns table)
+    pub always-repaired : book .doubtful ≡ [] → Word (width 𝓓) (book .rate) m → notBest (book .rate) (columnsOf 𝓓 (book .row)) m ≤ T
+        → RepairedIn book m (closeOf 𝓓 book message report)
+    always-repaired none-doubtful = closes-repaired (closes 𝓓 rate message report long eight) full rate none-doubtful m
 
-module _ {rate T : ℕ} (known : Rate rate T) (table : List ℕ) (whole : length table ≡ tableLength) (message report : List ℕ)
-    (long : length message ≡ rate) (eight : length report ≡ reportLength) (m : List ℕ) where
-  full : (p : ℕ) → Missing (inOrder table) p → ⊥
-  full = missing-none (inOrder table) (delivered-none-missing table (inOrder table) (in-order table))
+    pub always-found : FewWrongIn book T m → NoDearerIn book m (closeOf 𝓓 book message report)
+    always-found = closes-found (closes 𝓓 rate message report long eight) full m
 
-  columns : columnsOf (inOrder table) ≡ tableColumns table
-  columns = delivered-columns table (inOrder table) (in-order table)
+  -- ---- table decoding
 
-  session : (doubt : ℕ) → doubt ≤ mostDoubt
-      → closeOf (record { rate = rate; doubtful = pickedOf table doubt; row = inOrder table }) message report ≡ tableOf rate table doubt message report
-  session doubt few = sym (table-as-session rate table doubt (rate-known known) whole few (inOrder table) (in-order table) message report)
+  -- the table's columns delivered in the order of their places
+  inOrder : List ℕ → List Entry
+  inOrder table = entriesOf (tableColumns 𝓓 table) (upTo (places 𝓓))
 
-  pub table-repaired : Word 16 rate m → notBest rate (tableColumns table) m ≤ T
-      → Repaired rate (tableColumns table) [] m (tableOf rate table 0 message report)
-  table-repaired word few =
-      subst (λ list. Repaired rate (tableColumns table) list m (tableOf rate table 0 message report)) (none-picked table)
-      (subst (λ c. Repaired rate c (pickedOf table 0) m (tableOf rate table 0 message report)) columns
-      (subst (Repaired rate (columnsOf (inOrder table)) (pickedOf table 0) m) (session 0 (omega arith))
-      (always-repaired (record { rate = rate; doubtful = pickedOf table 0; row = inOrder table }) known full message report long eight m
-      (none-picked table) word
-      (subst (λ c. notBest rate c m ≤ T) (sym columns) few))))
+  in-order : (table : List ℕ) → Delivered 𝓓 table (inOrder table)
+  unfolding inOrder upTo
+  in-order table =
+      let u = up-to (places 𝓓) (places 𝓓) (omega arith) in order-delivered 𝓓 table (upTo (places 𝓓)) (u .0) (u .1) (listed-length (places 𝓓) (λ p. p))
 
-  pub table-found : (doubt : ℕ) → doubt ≤ mostDoubt → FewWrong rate (tableColumns table) (pickedOf table doubt) T m
-      → NoDearer rate (tableColumns table) (pickedOf table doubt) m (tableOf rate table doubt message report)
-  table-found doubt most few =
-      subst (λ c. NoDearer rate c (pickedOf table doubt) m (tableOf rate table doubt message report)) columns
-      (subst (NoDearer rate (columnsOf (inOrder table)) (pickedOf table doubt) m) (session doubt most)
-      (always-found (record { rate = rate; doubtful = pickedOf table doubt; row = inOrder table }) known full message report long eight m
-      (subst (λ c. FewWrong rate c (pickedOf table doubt) T m) (sym columns) few)))
+  none-picked : (table : List ℕ) → pickedOf 𝓓 table 0 ≡ []
+  unfolding pickedOf
+  none-picked table = doubtful-none (places 𝓓) (tableColumns 𝓓 table)
+
+  module _ {rate T : ℕ} (rated : Known 𝓓 rate T) (table : List ℕ) (whole : length table ≡ tableLength 𝓓) (message report : List ℕ)
+      (long : length message ≡ rate) (eight : length report ≡ reportLength 𝓓) (m : List ℕ) where
+    full : (p : ℕ) → Missing 𝓓 (inOrder table) p → ⊥
+    full = missing-none 𝓓 (inOrder table) (delivered-none-missing 𝓓 table (inOrder table) (in-order table))
+
+    columns : columnsOf 𝓓 (inOrder table) ≡ tableColumns 𝓓 table
+    columns = delivered-columns 𝓓 table (inOrder table) (in-order table)
+
+    session : (doubt : ℕ) → doubt ≤ mostDoubt
+        → closeOf 𝓓 (record { rate = rate; doubtful = pickedOf 𝓓 table doubt; row = inOrder table }) message report ≡ tableOf 𝓓 rate table doubt message report
+    session doubt few = sym (table-as-session 𝓓 rate table doubt (rated .known-rate) whole few (inOrder table) (in-order table) message report)
+
+    pub table-repaired : Word (width 𝓓) rate m → notBest rate (tableColumns 𝓓 table) m ≤ T
+        → Repaired rate (tableColumns 𝓓 table) [] m (tableOf 𝓓 rate table 0 message report)
+    table-repaired word few =
+        subst (λ list. Repaired rate (tableColumns 𝓓 table) list m (tableOf 𝓓 rate table 0 message report)) (none-picked table)
+        (subst (λ c. Repaired rate c (pickedOf 𝓓 table 0) m (tableOf 𝓓 rate table 0 message report)) columns
+        (subst (Repaired rate (columnsOf 𝓓 (inOrder table)) (pickedOf 𝓓 table 0) m) (session 0 (omega arith))
+        (always-repaired (record { rate = rate; doubtful = pickedOf 𝓓 table 0; row = inOrder table }) rated full message report long eight m
+        (none-picked table) word
+        (subst (λ c. notBest rate c m ≤ T) (sym columns) few))))
+
+    pub table-found : (doubt : ℕ) → doubt ≤ mostDoubt → FewWrong rate (tableColumns 𝓓 table) (pickedOf 𝓓 table doubt) T m
+        → NoDearer rate (tableColumns 𝓓 table) (pickedOf 𝓓 table doubt) m (tableOf 𝓓 rate table doubt message report)
+    table-found doubt most few =
+        subst (λ c. NoDearer rate c (pickedOf 𝓓 table doubt) m (tableOf 𝓓 rate table doubt message report)) columns
+        (subst (NoDearer rate (columnsOf 𝓓 (inOrder table)) (pickedOf 𝓓 table doubt) m) (session doubt most)
+        (always-found (record { rate = rate; doubtful = pickedOf 𝓓 table doubt; row = inOrder table }) rated full message report long eight m
+        (subst (λ c. FewWrong rate c (pickedOf 𝓓 table doubt) T m) (sym columns) few)))

@@ -1,45 +1,38 @@
--- 'The report has eight bytes, high byte first: total (4), test words with a codeword within T (2), pinned places (1), changed places (1).'
+-- 'The report has eight bytes, high byte first: total (4), test words with a codeword within T (2), pinned places (1), changed places (1).' In every modem,
+-- with as many bytes for each count of places as it has.
 --
+--   numberIn n i bytes     the number in n bytes from byte i on, high byte first
 --   totalIn, testsIn, pinnedIn, changedIn   the four numbers that a report's bytes hold
---   Shows report total tests pinned changed   the report is eight bytes, and they hold these numbers: none of them is cut
+--   Shows report total tests pinned changed   the report has its length in bytes, and they hold these numbers: none of them is cut
 --   reads-back             numbers that fit their bytes are read off the report that is made of them
 --   ShowsFor k columns doubtful m report   the report shows the message's total, the test words with a codeword within T, pinned and changed places
---   report-shows           so does the report of every message, if the columns' costs are 0 to 65535 and at most 8 places are doubtful
+--   report-shows           so does the report of every message, if the columns' costs are 0 to 65535 and no more places are doubtful than the largest doubt
 --   Reported k columns doubtful c, ReportedIn book c   the same of the message and the report that a call answers
---   closing-shows          so an accepted closing shows the numbers of the message that it gives: of a book with such a row,
---   calls-show             of an opened one after every list of calls,
---   capture-shows          and of one that an accepted capture opens as
+--   closing-shows          so an accepted closing shows the numbers of the message that it gives: of a book with such a row
 --   table-shows            and so does table decoding
 use mathlib.Core.Bool.{true}
-use mathlib.Core.Path.{_≡_, refl, sym, ap, _∙_, subst}
-use mathlib.Core.List.{List, [], _∷_, _++_}
+use mathlib.Core.Path.{_≡_, sym, ap, _∙_, subst}
+use mathlib.Core.List.{List, [], _∷_, _++_, append-assoc, append-nil}
 use Prim.Native.Nat.{ℕ, zero, suc, _+_, _*_, _/_, _%_, _^_, _<_, _≤_}
 use native.Mathlib.Omega.{arith}
-use lib.ListN.{length, getD}
+use lib.ListN.{length, getD, length-append}
 use lib.Pow.{pow-mono}
+use lib.Seq.{getD-at}
 use Rattle.refusals.specs.Refusal.{accepted}
 use Rattle.lists.specs.Distinct.{below, below-nil, below-one, below-append, and-both}
-use Rattle.soft.specs.Doubt.{mostDoubt}
-use Rattle.soft.specs.TestWord.{testWords}
 use Rattle.soft.specs.Total.{everywhere, symbolAt, totalOf, pinnedOf, changedOf, bytesOf, reportOf}
-use Rattle.soft.specs.TotalLaws.{total-bound, pinned-le, changed-le}
+use Rattle.soft.specs.TotalLaws.{total-bound, pinned-le, changed-le, bytesOf-length, reportOf-length}
 use Rattle.soft.specs.Column.{ceiling}
-use Rattle.code.specs.Encoding.{encodeOf}
-use Rattle.near.specs.Here.{reachOf, testsNear}
+use Rattle.family.specs.Encoding.{encodeOf}
+use Rattle.near.specs.Near.{reachOf}
 use Rattle.near.specs.Laws.{tests-tree}
-use Rattle.book.specs.Book.{places, Book, newBook}
+use Rattle.book.specs.Model.{Model, places}
+use Rattle.book.specs.Book.{Book}
 use Rattle.book.specs.Columns.{columnsOf}
-use Rattle.book.specs.CaptureOpening.{openCaptureOf}
-use Rattle.book.specs.CaptureCases.{capture-proper}
-use Rattle.book.specs.RoundTrip.{list-short}
-use Rattle.book.specs.Closing.{reportLength, Closed, reportFor, closeOf}
+use Rattle.book.specs.Closing.{reportLength, Closed, testsFor, reportFor, closeOf}
 use Rattle.book.specs.ClosingLaws.{decode-report, close-report}
-use Rattle.book.specs.OpeningLaws.{DoubtfulList}
-use Rattle.book.specs.Calls.{Call, afterAll}
-use Rattle.book.specs.Sentences.{list-held}
 use Rattle.book.specs.Table.{tableColumns, pickedOf, picked-length, tableOf, table-accepted}
-use Rattle.book.specs.Costs.{AreColumns, column-cost, RowColumns, row-columns, table-costs, capture-costs, AllFit, new-costs, after-costs}
-use Rattle.family.specs.Member.{m16}
+use Rattle.book.specs.Costs.{AreColumns, column-cost, RowColumns, row-columns, table-costs}
 
 abbrev pub totalIn : List ℕ → ℕ
 totalIn report = 16777216 * getD report 0 0 + 65536 * getD report 1 0 + 256 * getD report 2 0 + getD report 3 0
@@ -47,21 +40,28 @@ totalIn report = 16777216 * getD report 0 0 + 65536 * getD report 1 0 + 256 * ge
 abbrev pub testsIn : List ℕ → ℕ
 testsIn report = 256 * getD report 4 0 + getD report 5 0
 
-abbrev pub pinnedIn : List ℕ → ℕ
-pinnedIn report = getD report 6 0
+unfoldable pub numberIn : ℕ → ℕ → List ℕ → ℕ
+numberIn zero i bytes = 0
+numberIn (suc n) i bytes = 256 * numberIn n i bytes + getD bytes (i + n) 0
 
-abbrev pub changedIn : List ℕ → ℕ
-changedIn report = getD report 7 0
+pub number-byte : (i : ℕ) (bytes : List ℕ) → numberIn 1 i bytes ≡ getD bytes i 0
+unfolding numberIn
+number-byte i bytes = let e : i + 0 ≡ i = omega arith in omega (arith, ap (λ k. getD bytes k 0) e)
 
-pub record Shows (report : List ℕ) (total tests pinned changed : ℕ) : Type 0 where
-  pub size : length report ≡ reportLength
-  pub bytes : below 256 report ≡ true
-  pub total-there : totalIn report ≡ total
-  pub tests-there : testsIn report ≡ tests
-  pub pinned-there : pinnedIn report ≡ pinned
-  pub changed-there : changedIn report ≡ changed
-
--- ---- numbers that fit their bytes
+-- a number that was put there
+number-there : (n i v : ℕ) (before after : List ℕ) → length before ≡ i → v < 256 ^ n → numberIn n i (before ++ (bytesOf n v ++ after)) ≡ v
+unfolding numberIn bytesOf
+number-there zero i v before after l h = omega arith
+number-there (suc n) i v before after l h =
+    let whole : before ++ ((bytesOf n (v / 256) ++ (v % 256 ∷ [])) ++ after) ≡ before ++ (bytesOf n (v / 256) ++ (v % 256 ∷ after)) =
+    ap (λ r. before ++ r) (append-assoc (bytesOf n (v / 256)) (v % 256 ∷ []) after) in
+    let up : numberIn n i (before ++ ((bytesOf n (v / 256) ++ (v % 256 ∷ [])) ++ after)) ≡ v / 256 =
+    ap (numberIn n i) whole ∙ number-there n i (v / 256) before (v % 256 ∷ after) l (omega (arith, h)) in
+    let last : getD (before ++ ((bytesOf n (v / 256) ++ (v % 256 ∷ [])) ++ after)) (i + n) 0 ≡ v % 256 =
+    ap (λ r. getD r (i + n) 0) (whole ∙ sym (append-assoc before (bytesOf n (v / 256)) (v % 256 ∷ after)))
+    ∙ getD-at (before ++ bytesOf n (v / 256)) (v % 256) after 0 (i + n)
+    (omega (arith, length-append before (bytesOf n (v / 256)), bytesOf-length n (v / 256))) in
+    omega (arith, up, last)
 
 both-below : (a b : List ℕ) → below 256 a ≡ true → below 256 b ≡ true → below 256 (a ++ b) ≡ true
 both-below a b e f = below-append 256 a b ∙ and-both (below 256 a) (below 256 b) e f
@@ -71,85 +71,117 @@ unfolding bytesOf
 bytes-below zero v = below-nil 256
 bytes-below (suc n) v = both-below (bytesOf n (v / 256)) (v % 256 ∷ []) (bytes-below n (v / 256)) (below-one 256 (v % 256) (omega arith))
 
-module _ (total tests pinned changed : ℕ) where
-  report-below : below 256 (reportOf total tests pinned changed) ≡ true
-  unfolding reportOf
-  report-below =
-      both-below (bytesOf 4 total) _ (bytes-below 4 total)
-      (both-below (bytesOf 2 tests) _ (bytes-below 2 tests) (both-below (bytesOf 1 pinned) _ (bytes-below 1 pinned) (bytes-below 1 changed)))
+module _ (𝓓 : Model) where
+  open Model 𝓓 using (member, mostDoubt, wide, counts-fit, totals-fit, tests-fit)
 
-  pub reads-back : total < 4294967296 → tests < 65536 → pinned < 256 → changed < 256
-      → Shows (reportOf total tests pinned changed) total tests pinned changed
-  unfolding reportOf bytesOf
-  reads-back a b c d =
-      record {
-        size = refl;
-        bytes = report-below;
-        total-there = omega arith;
-        tests-there = omega arith;
-        pinned-there = omega arith;
-        changed-there = omega arith;
-      }
+  abbrev pub pinnedIn : List ℕ → ℕ
+  pinnedIn report = numberIn wide 6 report
 
--- ---- the report of a message
+  abbrev pub changedIn : List ℕ → ℕ
+  changedIn report = numberIn wide (6 + wide) report
 
-abbrev pub ShowsFor : ℕ → (ℕ → List ℕ) → List ℕ → List ℕ → List ℕ → Type 0
-ShowsFor k columns doubtful m report =
-    Shows report (totalOf places columns (encodeOf k m)) (testsNear k (testWords places columns doubtful))
-    (pinnedOf places columns (encodeOf k m)) (changedOf places columns (encodeOf k m))
+  pub record Shows (report : List ℕ) (total tests pinned changed : ℕ) : Type 0 where
+    pub size : length report ≡ reportLength 𝓓
+    pub bytes : below 256 report ≡ true
+    pub total-there : totalIn report ≡ total
+    pub tests-there : testsIn report ≡ tests
+    pub pinned-there : pinnedIn report ≡ pinned
+    pub changed-there : changedIn report ≡ changed
 
-pub report-shows : {columns : ℕ → List ℕ} → AreColumns columns → (k : ℕ) (doubtful m : List ℕ) → length doubtful ≤ mostDoubt
-    → ShowsFor k columns doubtful m (reportFor k columns doubtful m)
-unfolding reportFor
-report-shows {columns} c k doubtful m few =
-    let word = encodeOf k m in
-    let a : totalOf places columns word ≤ places * ceiling =
-    total-bound columns word places ceiling (λ p h. column-cost (c .at p h) (symbolAt word p)) in
-    let b : 2 ^ length doubtful ≤ 256 = pow-mono few in
-    reads-back (totalOf places columns word) (testsNear k (testWords places columns doubtful)) (pinnedOf places columns word)
-    (changedOf places columns word) (omega arith) (omega (arith, tests-tree m16 everywhere (reachOf k) k places columns doubtful))
-    (omega (arith, pinned-le columns word places)) (omega (arith, changed-le columns word places))
+  -- ---- numbers that fit their bytes
 
--- ---- closing
+  module _ (total tests pinned changed : ℕ) where
+    report-below : below 256 (reportOf wide total tests pinned changed) ≡ true
+    unfolding reportOf
+    report-below =
+        both-below (bytesOf 4 total) _ (bytes-below 4 total)
+        (both-below (bytesOf 2 tests) _ (bytes-below 2 tests)
+        (both-below (bytesOf wide pinned) _ (bytes-below wide pinned) (bytes-below wide changed)))
 
-abbrev pub Reported : ℕ → (ℕ → List ℕ) → List ℕ → Closed → Type 0
-Reported k columns doubtful c = ShowsFor k columns doubtful (c .message) (c .report)
+    pinned-back : pinned < 256 ^ wide → pinnedIn (reportOf wide total tests pinned changed) ≡ pinned
+    unfolding reportOf
+    pinned-back h =
+        ap (numberIn wide 6) (sym (append-assoc (bytesOf 4 total) (bytesOf 2 tests) (bytesOf wide pinned ++ bytesOf wide changed)))
+        ∙ number-there wide 6 pinned (bytesOf 4 total ++ bytesOf 2 tests) (bytesOf wide changed)
+        (omega (arith, length-append (bytesOf 4 total) (bytesOf 2 tests), bytesOf-length 4 total, bytesOf-length 2 tests)) h
 
-abbrev pub ReportedIn : Book → Closed → Type 0
-ReportedIn book c = Reported (book .rate) (columnsOf (book .row)) (book .doubtful) c
+    changed-back : changed < 256 ^ wide → changedIn (reportOf wide total tests pinned changed) ≡ changed
+    unfolding reportOf
+    changed-back h =
+        let front = bytesOf 4 total ++ bytesOf 2 tests in
+        ap (numberIn wide (6 + wide))
+        (sym (append-assoc (bytesOf 4 total) (bytesOf 2 tests) (bytesOf wide pinned ++ bytesOf wide changed))
+        ∙ sym (append-assoc front (bytesOf wide pinned) (bytesOf wide changed))
+        ∙ ap (λ l. (front ++ bytesOf wide pinned) ++ l) (sym (append-nil (bytesOf wide changed))))
+        ∙ number-there wide (6 + wide) changed (front ++ bytesOf wide pinned) []
+        (omega (
+          arith,
+          length-append front (bytesOf wide pinned),
+          length-append (bytesOf 4 total) (bytesOf 2 tests),
+          bytesOf-length 4 total,
+          bytesOf-length 2 tests,
+          bytesOf-length wide pinned,
+        )) h
 
-pub closing-shows : (book : Book) (message report : List ℕ) → RowColumns (book .row) → length (book .doubtful) ≤ mostDoubt
-    → closeOf book message report .number ≡ accepted → ReportedIn book (closeOf book message report)
-closing-shows book message report all few n =
-    subst (ShowsFor (book .rate) (columnsOf (book .row)) (book .doubtful) (closeOf book message report .message))
-    (sym (close-report book message report n))
-    (report-shows (row-columns (book .row) all) (book .rate) (book .doubtful) (closeOf book message report .message) few)
+    pub reads-back : total < 256 ^ 4 → tests < 256 ^ 2 → pinned < 256 ^ wide → changed < 256 ^ wide
+        → Shows (reportOf wide total tests pinned changed) total tests pinned changed
+    unfolding reportOf bytesOf
+    reads-back a b c d =
+        let a′ : total < 4294967296 = a in
+        let b′ : tests < 65536 = b in
+        record {
+          size = reportOf-length wide total tests pinned changed;
+          bytes = report-below;
+          total-there = omega arith;
+          tests-there = omega arith;
+          pinned-there = pinned-back c;
+          changed-there = changed-back d;
+        }
 
-pub calls-show : (rate : ℕ) {list : List ℕ} → DoubtfulList list → {calls : List Call} → AllFit calls → (message report : List ℕ)
-    → closeOf (afterAll (newBook rate list) calls) message report .number ≡ accepted
-    → ReportedIn (afterAll (newBook rate list) calls) (closeOf (afterAll (newBook rate list) calls) message report)
-unfolding newBook
-calls-show rate {list} d {calls} fit message report n =
-    closing-shows (afterAll (newBook rate list) calls) message report (after-costs (newBook rate list) fit (new-costs rate list))
-    (omega (arith, ap length (list-held (newBook rate list) calls), d .short)) n
+  -- ---- the report of a message
 
-pub capture-shows : (bytes : List ℕ) → below 256 bytes ≡ true → openCaptureOf bytes .number ≡ accepted → (message report : List ℕ)
-    → closeOf (openCaptureOf bytes .book) message report .number ≡ accepted
-    → ReportedIn (openCaptureOf bytes .book) (closeOf (openCaptureOf bytes .book) message report)
-capture-shows bytes b o message report n =
-    closing-shows (openCaptureOf bytes .book) message report (capture-costs bytes b o)
-    (list-short (openCaptureOf bytes .book .doubtful) (capture-proper bytes o .list-fit)) n
+  abbrev pub ShowsFor : ℕ → (ℕ → List ℕ) → List ℕ → List ℕ → List ℕ → Type 0
+  ShowsFor k columns doubtful m report =
+      Shows report (totalOf (places 𝓓) columns (encodeOf member k m)) (testsFor 𝓓 k columns doubtful)
+      (pinnedOf (places 𝓓) columns (encodeOf member k m)) (changedOf (places 𝓓) columns (encodeOf member k m))
 
--- ---- table decoding
+  pub report-shows : {columns : ℕ → List ℕ} → AreColumns 𝓓 columns → (k : ℕ) (doubtful m : List ℕ) → length doubtful ≤ mostDoubt
+      → ShowsFor k columns doubtful m (reportFor 𝓓 k columns doubtful m)
+  unfolding reportFor
+  report-shows {columns} c k doubtful m few =
+      let word = encodeOf member k m in
+      let a : totalOf (places 𝓓) columns word ≤ places 𝓓 * ceiling =
+      total-bound columns word (places 𝓓) ceiling (λ p h. column-cost 𝓓 (c .at p h) (symbolAt word p)) in
+      let b : 2 ^ length doubtful ≤ 2 ^ mostDoubt = pow-mono few in
+      reads-back (totalOf (places 𝓓) columns word) (testsFor 𝓓 k columns doubtful) (pinnedOf (places 𝓓) columns word)
+      (changedOf (places 𝓓) columns word) (omega (arith, totals-fit)) (omega (arith, tests-fit, tests-tree member everywhere (reachOf member k) k (places 𝓓) columns doubtful))
+      (omega (arith, counts-fit, pinned-le columns word (places 𝓓))) (omega (arith, counts-fit, changed-le columns word (places 𝓓)))
 
-pub table-shows : (rate : ℕ) (table : List ℕ) (doubt : ℕ) (message report : List ℕ) → below 256 table ≡ true
-    → tableOf rate table doubt message report .number ≡ accepted
-    → Reported rate (tableColumns table) (pickedOf table doubt) (tableOf rate table doubt message report)
-table-shows rate table doubt message report b n =
-    let t = table-accepted rate table doubt message report n in
-    let few : length (pickedOf table doubt) ≤ mostDoubt = omega (arith, t .0, picked-length table doubt (t .0)) in
-    subst (Reported rate (tableColumns table) (pickedOf table doubt)) (sym (t .1))
-    (subst (ShowsFor rate (tableColumns table) (pickedOf table doubt) _)
-    (sym
-    (decode-report rate (tableColumns table) (pickedOf table doubt) message report (sym (ap (λ (c : Closed). c .number) (t .1)) ∙ n)))
-    (report-shows (table-costs table b) rate (pickedOf table doubt) _ few))
+  -- ---- closing
+
+  abbrev pub Reported : ℕ → (ℕ → List ℕ) → List ℕ → Closed → Type 0
+  Reported k columns doubtful c = ShowsFor k columns doubtful (c .message) (c .report)
+
+  abbrev pub ReportedIn : Book → Closed → Type 0
+  ReportedIn book c = Reported (book .rate) (columnsOf 𝓓 (book .row)) (book .doubtful) c
+
+  pub closing-shows : (book : Book) (message report : List ℕ) → RowColumns 𝓓 (book .row) → length (book .doubtful) ≤ mostDoubt
+      → closeOf 𝓓 book message report .number ≡ accepted → ReportedIn book (closeOf 𝓓 book message report)
+  closing-shows book message report all few n =
+      subst (ShowsFor (book .rate) (columnsOf 𝓓 (book .row)) (book .doubtful) (closeOf 𝓓 book message report .message))
+      (sym (close-report 𝓓 book message report n))
+      (report-shows (row-columns 𝓓 (book .row) all) (book .rate) (book .doubtful) (closeOf 𝓓 book message report .message) few)
+
+  -- ---- table decoding
+
+  pub table-shows : (rate : ℕ) (table : List ℕ) (doubt : ℕ) (message report : List ℕ) → below 256 table ≡ true
+      → tableOf 𝓓 rate table doubt message report .number ≡ accepted
+      → Reported rate (tableColumns 𝓓 table) (pickedOf 𝓓 table doubt) (tableOf 𝓓 rate table doubt message report)
+  table-shows rate table doubt message report b n =
+      let t = table-accepted 𝓓 rate table doubt message report n in
+      let few : length (pickedOf 𝓓 table doubt) ≤ mostDoubt = omega (arith, t .0, picked-length 𝓓 table doubt (t .0)) in
+      subst (Reported rate (tableColumns 𝓓 table) (pickedOf 𝓓 table doubt)) (sym (t .1))
+      (subst (ShowsFor rate (tableColumns 𝓓 table) (pickedOf 𝓓 table doubt) _)
+      (sym
+      (decode-report 𝓓 rate (tableColumns 𝓓 table) (pickedOf 𝓓 table doubt) message report (sym (ap (λ (c : Closed). c .number) (t .1)) ∙ n)))
+      (report-shows (table-costs 𝓓 table b) rate (pickedOf 𝓓 table doubt) _ few))

@@ -19,14 +19,17 @@ use lib.Seq.{take-at, drop-at, length-take-le, drop-drop}
 use borrow.Author.Tests.{eqb-true, eqb-false, eq-eqb, ne-eqb, le-leb, leb-true, not-false}
 use Rattle.refusals.specs.Refusal.{accepted, wrongSize, placeMissing}
 use Rattle.lists.specs.Distinct.{below, below-drop, below-at, distinct-bound, and-left, and-right, and-both}
-use Rattle.book.specs.Book.{places, Book, newBook, someMissing, Outcome}
-use Rattle.book.specs.Opening.{fitPlaces, fitDoubt}
+use Rattle.book.specs.Model.{modem64}
+use Rattle.book.specs.Book.{Book, newBook, Outcome}
 use Rattle.book.specs.Capture.{bodyLength, captureLength, rowBytes, recordsOf, captureOf}
 use Rattle.book.specs.Writing.{Filled, writeOf}
 use Rattle.book.specs.CaptureOpening.{rateIn, doubtIn, listIn, recordsIn, sizeFits, versionFits, lengthIn, lengthFits, openWith, openCaptureOf}
-use Rattle.book.specs.RowLaws.{placesOf, Proper, places-length, missing-count}
-use Rattle.book.specs.CaptureCases.{extended, row-delivered, open-checked, open-with, bookIn, Fit, capture-fit}
+use Rattle.book.specs.RowLaws.{placesOf, places-length, missing-count}
+use Rattle.book.specs.CaptureCases.{open-checked, open-with, bookIn, Fit, capture-fit}
 use Rattle.book.specs.CaptureLaws.{row-bytes-length, records-row, row-records, records-length}
+use Rattle.book.specs.OpeningLaws.{list-short}
+use Rattle.book.specs.Here.{places, someMissing, Proper}
+use Rattle.book.specs.RowDelivery.{extended, row-delivered}
 
 -- ---- writing, then opening
 
@@ -36,12 +39,8 @@ full-row book proper m =
     let a : length (placesOf (book .row)) ≤ places = distinct-bound places (placesOf (book .row)) (proper .apart) (proper .in-range) in
     let b : places ≤ length (book .row) =
     leb-true places (length (book .row))
-    (not-false (leb places (length (book .row))) (sym (missing-count (book .row) (proper .in-range) (proper .apart)) ∙ m)) in
+    (not-false (leb places (length (book .row))) (sym (missing-count modem64 (book .row) (proper .in-range) (proper .apart)) ∙ m)) in
     omega (arith, places-length (book .row))
-
-pub list-short : (list : List ℕ) → fitDoubt list ≡ true → length list ≤ 8
-unfolding fitDoubt
-list-short list f = leb-true (length list) 8 (and-left (leb (length list) 8) (fitPlaces list) f)
 
 pub capture-length : (book : Book) → Proper book → someMissing (book .row) ≡ false
     → length (captureOf book) ≡ captureLength (length (book .doubtful))
@@ -63,7 +62,7 @@ module _ (book : Book) (proper : Proper book) (m : someMissing (book .row) ≡ f
   unfolding sizeFits
   written-size =
       let a : length (captureOf book) ≡ captureLength (length (book .doubtful)) = capture-length book proper m in
-      let b : length (book .doubtful) ≤ 8 = list-short (book .doubtful) (proper .list-fit) in
+      let b : length (book .doubtful) ≤ 8 = list-short modem64 (book .doubtful) (proper .list-fit) in
       and-both (leb 2117 (length (captureOf book))) (leb (length (captureOf book)) 2125)
       (le-leb 2117 (length (captureOf book)) (omega arith)) (le-leb (length (captureOf book)) 2125 (omega arith))
 
@@ -104,7 +103,7 @@ module _ (book : Book) (proper : Proper book) (m : someMissing (book .row) ≡ f
       ∙ ap₂ (λ r (l : List ℕ). openWith r l (recordsIn (captureOf book))) written-rate written-list
       ∙ ap (openWith (book .rate) (book .doubtful)) written-records
       ∙ open-with (book .rate) (book .doubtful) (book .row) (proper .rate-known) (proper .list-fit)
-      ∙ row-delivered (newBook (book .rate) (book .doubtful)) (book .row) (proper .in-range) (proper .apart)
+      ∙ row-delivered modem64 (newBook (book .rate) (book .doubtful)) (book .row) (proper .in-range) (proper .apart)
 
 -- ---- the three cases of writing
 
@@ -178,7 +177,7 @@ head (v ∷ a ∷ b ∷ r ∷ e ∷ rest) h = refl
 pub none-missing : (bytes : List ℕ) → Fit bytes → someMissing (recordsIn bytes) ≡ false
 unfolding bookIn
 none-missing bytes fit =
-    missing-count (recordsIn bytes) (fit .proper .in-range) (fit .proper .apart)
+    missing-count modem64 (recordsIn bytes) (fit .proper .in-range) (fit .proper .apart)
     ∙ ap not (le-leb places (length (recordsIn bytes)) (omega (arith, records-length places (drop (5 + doubtIn bytes) bytes))))
 
 module _ (bytes : List ℕ) (b : below 256 bytes ≡ true) (fit : Fit bytes) where

@@ -1,25 +1,26 @@
 -- Table decoding: rate, then sizes, then doubt, then nearness; and why it answers as a session does.
 --
---   tableLength            2,048 bytes: 64 columns of sixteen costs, two bytes each, place 0 first
+--   tableLength            a column for each place, place 0 first, of a cost for each symbol, two bytes each: 2,048 bytes where there are 64 places
 --   closed n message report   a number returned and the two lent buffers afterwards
 --   tableColumns table     the columns by place
 --   pickedOf table doubt   the doubtful places: those of smallest gap, equal gaps to the lower place
---   tableOf rate table doubt message report   1 if the rate is unknown, 2 if a buffer has the wrong size, 4 if the doubt is above 8;
+--   tableOf rate table doubt message report   1 if the rate is unknown, 2 if a buffer has the wrong size, 4 if the doubt is too large;
 --                          else what decoding by the table's columns and the doubtful places picked answers
 --   table-rate, table-size, table-doubt, table-decoded   the four cases
---   table-accepted         an accepted call has a doubt of at most 8 and answers as decoding does
+--   table-accepted         an accepted call has no larger doubt than the largest and answers as decoding does
 --   picked-fit, picked-opens   the places picked are a doubtful list that opening accepts
---   Delivered table row    each of the 64 places is in the row with its column of the table, in whatever order, and nothing else is
+--   Delivered table row    each of the modem's places is in the row with its column of the table, in whatever order, and nothing else is
 --   delivered-columns, delivered-none-missing   so the row's columns are the table's, and none is missing
---   table-as-session       table decoding answers as closing a book does that was opened with the places picked and got all 64 columns
+--   table-as-session       table decoding answers as closing a book does that was opened with the places picked and got all columns
 --   entriesOf columns order   the columns of the places of a list, in its order
---   order-delivered, order-accepted   the 64 places in any order: every delivery is accepted, and the row is such a one
+--   order-delivered, order-accepted   the modem's places in any order: every delivery is accepted, and the row is such a one
 use mathlib.Core.Bool.{Bool, true, false, cond, not, _&&_, _||_}
 use mathlib.Core.Path.{_≡_, refl, sym, ap, ap₂, _∙_, fun-ext}
 use mathlib.Core.List.{List, [], _∷_}
 use mathlib.Core.Logic.{_≢_, _⊎_, ⊎-elim}
 use mathlib.Core.Option.{none, some}
 use Prim.Native.Nat.{ℕ, suc, _*_, _<_, _≤_}
+use native.Mathlib.Nat.{mul-le-mul-right}
 use native.Mathlib.Decide.{decLt}
 use native.Mathlib.Omega.{arith}
 use lib.Dec.{eqb, leb}
@@ -32,185 +33,22 @@ use Rattle.lists.specs.Every.{every-true}
 use Rattle.lists.specs.Member.{member-at}
 use Rattle.soft.specs.Column as Soft
 use Rattle.soft.specs.ColumnLaws.{column-length, cost-column, costs-length}
-use Rattle.soft.specs.Doubt.{mostDoubt, doubtfulOf}
+use Rattle.soft.specs.Doubt.{doubtfulOf}
 use Rattle.soft.specs.DoubtLaws.{doubtful-length, doubtful-rising, doubtful-below}
-use Rattle.code.specs.Encoding.{knownRate}
-use Rattle.book.specs.Book.{places, width, Entry, Book, newBook, columnIn, taken, present, someMissing}
+use Rattle.book.specs.Model.{Model, places, width}
+use Rattle.book.specs.Book.{Entry, Book, newBook, columnIn, taken, present, someMissing}
 use Rattle.book.specs.Opening.{fitDoubt, openOf}
 use Rattle.book.specs.OpeningLaws.{list-fits}
 use Rattle.book.specs.RowLaws.{placesOf, open-accepted}
-use Rattle.book.specs.CaptureOpening.{deliverRow}
-use Rattle.book.specs.CaptureCases.{extended, row-delivered}
+use Rattle.book.specs.Delivery.{deliverRow}
+use Rattle.book.specs.RowDelivery.{extended, row-delivered}
 use Rattle.book.specs.Columns.{columnsOf, columns-taken, columns-none}
 use Rattle.book.specs.Closing.{reportLength, Closed, refusedClosing, decodeOf, closingFits, closeOf}
 use Rattle.book.specs.ClosingLaws.{refused-number, fits-both, close-size, close-decoded}
 
-abbrev pub tableLength : ℕ
-tableLength = 2048
-
 -- what a call answered, put together
 abbrev pub closed : ℕ → List ℕ → List ℕ → Closed
 closed number message report = record { number = number; message = message; report = report }
-
--- cost number 16p + s of the table is that of the symbol s at place p
-unfoldable pub tableColumns : List ℕ → ℕ → List ℕ
-tableColumns table = Soft.columnOf Soft.symbols (Soft.costsFrom (Soft.places * Soft.symbols) table)
-
-unfoldable pub pickedOf : List ℕ → ℕ → List ℕ
-pickedOf table doubt = doubtfulOf places doubt (tableColumns table)
-
--- a table of 2,048 bytes, a message of k, where k is the rate, and a report of 8
-unfoldable pub tableFits : ℕ → List ℕ → List ℕ → List ℕ → Bool
-tableFits rate table message report = eqb (length table) tableLength && (eqb (length message) rate && eqb (length report) reportLength)
-
-unfoldable pub tableOf : ℕ → List ℕ → ℕ → List ℕ → List ℕ → Closed
-tableOf rate table doubt message report =
-    cond (knownRate rate)
-    (cond (tableFits rate table message report)
-    (cond (leb doubt mostDoubt) (decodeOf rate (tableColumns table) (pickedOf table doubt) message report)
-    (refusedClosing wrongDoubt message report))
-    (refusedClosing wrongSize message report))
-    (refusedClosing unknownRate message report)
-
--- ---- the four cases
-
-module _ (rate : ℕ) (table : List ℕ) (doubt : ℕ) (message report : List ℕ) where
-  pub table-rate : knownRate rate ≡ false → tableOf rate table doubt message report ≡ refusedClosing unknownRate message report
-  unfolding tableOf
-  table-rate e = rw e
-
-  module _ (known : knownRate rate ≡ true) where
-    unfit : tableFits rate table message report ≡ false → tableOf rate table doubt message report ≡ refusedClosing wrongSize message report
-    unfolding tableOf
-    unfit f = rw (known, f)
-
-    pub table-size : (length table ≢ tableLength) ⊎ ((length message ≢ rate) ⊎ (length report ≢ reportLength))
-        → tableOf rate table doubt message report ≡ refusedClosing wrongSize message report
-    unfolding tableFits
-    table-size w = unfit (go (tableFits rate table message report) refl)
-      where
-        go : (b : Bool) → (eqb (length table) tableLength && (eqb (length message) rate && eqb (length report) reportLength)) ≡ b
-            → (eqb (length table) tableLength && (eqb (length message) rate && eqb (length report) reportLength)) ≡ false
-        go true e =
-            let a = eqb (length table) tableLength in
-            let b = eqb (length message) rate in
-            let c = eqb (length report) reportLength in
-            absurd
-            (⊎-elim (λ n. n (eqb-true (length table) tableLength (and-left a (b && c) e)))
-            (⊎-elim (λ n. n (eqb-true (length message) rate (and-left b c (and-right a (b && c) e))))
-            (λ n. n (eqb-true (length report) reportLength (and-right b c (and-right a (b && c) e)))))
-            w)
-        go false e = e
-
-    module _ (whole : length table ≡ tableLength) (long : length message ≡ rate) (eight : length report ≡ reportLength) where
-      fits : tableFits rate table message report ≡ true
-      unfolding tableFits
-      fits =
-          and-both (eqb (length table) tableLength) (eqb (length message) rate && eqb (length report) reportLength)
-          (eq-eqb (length table) tableLength whole)
-          (and-both (eqb (length message) rate) (eqb (length report) reportLength) (eq-eqb (length message) rate long)
-          (eq-eqb (length report) reportLength eight))
-
-      pub table-doubt : mostDoubt < doubt → tableOf rate table doubt message report ≡ refusedClosing wrongDoubt message report
-      unfolding tableOf
-      table-doubt h = rw (known, fits, lt-leb doubt mostDoubt h)
-
-      pub table-decoded : doubt ≤ mostDoubt
-          → tableOf rate table doubt message report ≡ decodeOf rate (tableColumns table) (pickedOf table doubt) message report
-      unfolding tableOf
-      table-decoded h = rw (known, fits, le-leb doubt mostDoubt h)
-
-  pub table-accepted : tableOf rate table doubt message report .number ≡ accepted
-      → (doubt ≤ mostDoubt) × (tableOf rate table doubt message report ≡ decodeOf rate (tableColumns table) (pickedOf table doubt) message report)
-  unfolding tableOf
-  table-accepted n = go (knownRate rate) refl (tableFits rate table message report) refl (leb doubt mostDoubt) refl
-    where
-      not-refused : (k : ℕ) → tableOf rate table doubt message report ≡ refusedClosing k message report → k ≡ accepted
-      not-refused k e = sym (refused-number k message report) ∙ sym (ap (λ (c : Closed). c .number) e) ∙ n
-
-      go : (a : Bool) → knownRate rate ≡ a → (b : Bool) → tableFits rate table message report ≡ b → (c : Bool) → leb doubt mostDoubt ≡ c
-          → (doubt ≤ mostDoubt) × (tableOf rate table doubt message report ≡ decodeOf rate (tableColumns table) (pickedOf table doubt) message report)
-      go false e b f c g = absurd (omega (arith, not-refused unknownRate (table-rate e)))
-      go true e false f c g = absurd (omega (arith, not-refused wrongSize (unfit e f)))
-      go true e true f false g = absurd (omega (arith, not-refused wrongDoubt (rw (e, f, g))))
-      go true e true f true g = (leb-true doubt mostDoubt g, rw (e, f, g))
-
--- ---- the places picked
-
-module _ (table : List ℕ) (doubt : ℕ) (few : doubt ≤ mostDoubt) where
-  pub picked-length : length (pickedOf table doubt) ≡ doubt
-  unfolding pickedOf
-  picked-length = doubtful-length places doubt (tableColumns table) (omega arith)
-
-  pub picked-fit : fitDoubt (pickedOf table doubt) ≡ true
-  unfolding pickedOf
-  picked-fit =
-      let list = doubtfulOf places doubt (tableColumns table) in
-      list-fits
-      (record {
-        short = omega (arith, doubtful-length places doubt (tableColumns table) (omega arith));
-        in-range = λ i l. omega (arith, doubtful-below places doubt (tableColumns table) (getD list i 0) (member-at list 0 i l));
-        rises = λ i l. doubtful-rising places doubt (tableColumns table) .rises i (suc i) (omega arith) l;
-      })
-
-  pub picked-opens : (rate : ℕ) → knownRate rate ≡ true
-      → openOf rate (pickedOf table doubt) ≡ record { number = accepted; book = newBook rate (pickedOf table doubt) }
-  picked-opens rate known = open-accepted rate (pickedOf table doubt) known picked-fit
-
--- ---- as a session
-
-pub record Delivered (table : List ℕ) (row : List Entry) : Type 0 where
-  pub there : (p : ℕ) → p < places → columnIn row p ≡ some (tableColumns table p)
-  pub nothing-else : (p : ℕ) → places ≤ p → columnIn row p ≡ none
-
--- behind the table there are zeros
-pub column-beyond : (costs : List ℕ) (p : ℕ) → length costs ≡ places * width → places ≤ p
-    → Soft.columnOf Soft.symbols costs p ≡ replicate width 0
-column-beyond costs p n h =
-    sym
-    (ext-getD 0 (replicate width 0) (Soft.columnOf Soft.symbols costs p)
-    (length-replicate {A = ℕ} width 0 ∙ sym (column-length Soft.symbols costs p))
-    (λ i b.
-    let l : i < width = omega (arith, length-replicate {A = ℕ} width 0) in
-    getD-replicate width i 0 0 l ∙ sym (cost-column Soft.symbols costs p i l ∙ List·getD-eq-default costs 0 (omega arith))))
-
-module _ (table : List ℕ) (row : List Entry) (all : Delivered table row) where
-  pub delivered-columns : columnsOf row ≡ tableColumns table
-  unfolding tableColumns
-  delivered-columns = fun-ext (λ p. go p (decLt p places))
-    where
-      go : (p : ℕ) → Dec (p < places) → columnsOf row p ≡ Soft.columnOf Soft.symbols (Soft.costsFrom (Soft.places * Soft.symbols) table) p
-      go p (yes h) = columns-taken row p (all .there p h)
-      go p (no h) =
-          columns-none row p (all .nothing-else p (omega arith))
-          ∙ sym (column-beyond (Soft.costsFrom (Soft.places * Soft.symbols) table) p (costs-length (Soft.places * Soft.symbols) table) (omega arith))
-
-  pub delivered-none-missing : someMissing row ≡ false
-  unfolding someMissing
-  delivered-none-missing = ap not (every-true places (taken row) (λ p h. unfold taken in ap present (all .there p h)))
-
-module _ (rate : ℕ) (table : List ℕ) (doubt : ℕ) (known : knownRate rate ≡ true) (whole : length table ≡ tableLength)
-    (few : doubt ≤ mostDoubt) (row : List Entry) (all : Delivered table row) (message report : List ℕ) where
-  -- the book that was opened with the places picked, and to which the 64 columns were delivered
-  abbrev pub bookFor : Book
-  bookFor = record { rate = rate; doubtful = pickedOf table doubt; row = row }
-
-  unfitting : closingFits bookFor message report ≡ false → tableFits rate table message report ≡ false
-  unfolding tableFits closingFits
-  unfitting e = ap₂ (λ a b. a && b) (eq-eqb (length table) tableLength whole) e
-
-  pub table-as-session : tableOf rate table doubt message report ≡ closeOf bookFor message report
-  table-as-session = go (closingFits bookFor message report) refl
-    where
-      go : (b : Bool) → closingFits bookFor message report ≡ b → tableOf rate table doubt message report ≡ closeOf bookFor message report
-      go true e =
-          let f = fits-both bookFor message report e in
-          table-decoded rate table doubt message report known whole (f .0) (f .1) few
-          ∙ ap (λ (columns : ℕ → List ℕ). decodeOf rate columns (pickedOf table doubt) message report) (sym (delivered-columns table row all))
-          ∙ sym (close-decoded bookFor message report e (delivered-none-missing table row all))
-      go false e = unfit rate table doubt message report known (unfitting e) ∙ sym (close-size bookFor message report e)
-
--- ---- the 64 columns delivered in any order
 
 unfoldable pub entriesOf : (ℕ → List ℕ) → List ℕ → List Entry
 entriesOf columns [] = []
@@ -232,27 +70,193 @@ entries-column columns (q ∷ order) p = go (eqb q p) refl (entries-column colum
     go true e ih = ap (λ k. some (columns k)) (eqb-true q p e)
     go false e ih = ih
 
-module _ (table order : List ℕ) (apart : distinct order ≡ true) (in-range : below places order ≡ true) (every-place : length order ≡ places) where
-  pub order-delivered : Delivered table (entriesOf (tableColumns table) order)
-  order-delivered =
-      record {
-        there = λ p h.
-            entries-column (tableColumns table) order p
-            ∙ ap (λ b. cond b (some (tableColumns table p)) none) (distinct-all places order p apart in-range (omega arith) h);
-        nothing-else = λ p h.
-            entries-column (tableColumns table) order p ∙ ap (λ b. cond b (some (tableColumns table p)) none) (outside p h (among p order) refl);
-      }
-    where
-      outside : (p : ℕ) → places ≤ p → (b : Bool) → among p order ≡ b → among p order ≡ false
-      outside p h true e = absurd (omega (arith, below-among places order p in-range e))
-      outside p h false e = e
+module _ (𝓓 : Model) where
+  open Model 𝓓 using (known, mostDoubt, doubt-fits)
 
-  -- each delivery is accepted, and the book is the one that closes as the table decodes
-  pub order-accepted : (rate : ℕ) (list : List ℕ)
-      → deliverRow (newBook rate list) (entriesOf (tableColumns table) order)
-      ≡ record { number = accepted; book = record { rate = rate; doubtful = list; row = entriesOf (tableColumns table) order } }
-  unfolding newBook extended
-  order-accepted rate list =
-      row-delivered (newBook rate list) (entriesOf (tableColumns table) order)
-      (ap (below places) (entries-places (tableColumns table) order) ∙ in-range)
-      (ap distinct (entries-places (tableColumns table) order) ∙ apart)
+  abbrev pub tableLength : ℕ
+  tableLength = places 𝓓 * width 𝓓 * 2
+
+  -- the costs of a place's symbols, one after the other
+  unfoldable pub tableColumns : List ℕ → ℕ → List ℕ
+  tableColumns table = Soft.columnOf (width 𝓓) (Soft.costsFrom (places 𝓓 * width 𝓓) table)
+
+  unfoldable pub pickedOf : List ℕ → ℕ → List ℕ
+  pickedOf table doubt = doubtfulOf (places 𝓓) doubt (tableColumns table)
+
+  -- a table and a report of their lengths, and a message of k, where k is the rate
+  unfoldable pub tableFits : ℕ → List ℕ → List ℕ → List ℕ → Bool
+  tableFits rate table message report = eqb (length table) tableLength && (eqb (length message) rate && eqb (length report) (reportLength 𝓓))
+
+  unfoldable pub tableOf : ℕ → List ℕ → ℕ → List ℕ → List ℕ → Closed
+  tableOf rate table doubt message report =
+      cond (known rate)
+      (cond (tableFits rate table message report)
+      (cond (leb doubt mostDoubt) (decodeOf 𝓓 rate (tableColumns table) (pickedOf table doubt) message report)
+      (refusedClosing wrongDoubt message report))
+      (refusedClosing wrongSize message report))
+      (refusedClosing unknownRate message report)
+
+  -- ---- the four cases
+
+  module _ (rate : ℕ) (table : List ℕ) (doubt : ℕ) (message report : List ℕ) where
+    pub table-rate : known rate ≡ false → tableOf rate table doubt message report ≡ refusedClosing unknownRate message report
+    unfolding tableOf
+    table-rate e = rw e
+
+    module _ (known : known rate ≡ true) where
+      unfit : tableFits rate table message report ≡ false → tableOf rate table doubt message report ≡ refusedClosing wrongSize message report
+      unfolding tableOf
+      unfit f = rw (known, f)
+
+      pub table-size : (length table ≢ tableLength) ⊎ ((length message ≢ rate) ⊎ (length report ≢ (reportLength 𝓓)))
+          → tableOf rate table doubt message report ≡ refusedClosing wrongSize message report
+      unfolding tableFits
+      table-size w = unfit (go (tableFits rate table message report) refl)
+        where
+          go : (b : Bool) → (eqb (length table) tableLength && (eqb (length message) rate && eqb (length report) (reportLength 𝓓))) ≡ b
+              → (eqb (length table) tableLength && (eqb (length message) rate && eqb (length report) (reportLength 𝓓))) ≡ false
+          go true e =
+              let a = eqb (length table) tableLength in
+              let b = eqb (length message) rate in
+              let c = eqb (length report) (reportLength 𝓓) in
+              absurd
+              (⊎-elim (λ n. n (eqb-true (length table) tableLength (and-left a (b && c) e)))
+              (⊎-elim (λ n. n (eqb-true (length message) rate (and-left b c (and-right a (b && c) e))))
+              (λ n. n (eqb-true (length report) (reportLength 𝓓) (and-right b c (and-right a (b && c) e)))))
+              w)
+          go false e = e
+
+      module _ (whole : length table ≡ tableLength) (long : length message ≡ rate) (eight : length report ≡ reportLength 𝓓) where
+        fits : tableFits rate table message report ≡ true
+        unfolding tableFits
+        fits =
+            and-both (eqb (length table) tableLength) (eqb (length message) rate && eqb (length report) (reportLength 𝓓))
+            (eq-eqb (length table) tableLength whole)
+            (and-both (eqb (length message) rate) (eqb (length report) (reportLength 𝓓)) (eq-eqb (length message) rate long)
+            (eq-eqb (length report) (reportLength 𝓓) eight))
+
+        pub table-doubt : mostDoubt < doubt → tableOf rate table doubt message report ≡ refusedClosing wrongDoubt message report
+        unfolding tableOf
+        table-doubt h = rw (known, fits, lt-leb doubt mostDoubt h)
+
+        pub table-decoded : doubt ≤ mostDoubt
+            → tableOf rate table doubt message report ≡ decodeOf 𝓓 rate (tableColumns table) (pickedOf table doubt) message report
+        unfolding tableOf
+        table-decoded h = rw (known, fits, le-leb doubt mostDoubt h)
+
+    pub table-accepted : tableOf rate table doubt message report .number ≡ accepted
+        → (doubt ≤ mostDoubt) × (tableOf rate table doubt message report ≡ decodeOf 𝓓 rate (tableColumns table) (pickedOf table doubt) message report)
+    unfolding tableOf
+    table-accepted n = go (known rate) refl (tableFits rate table message report) refl (leb doubt mostDoubt) refl
+      where
+        not-refused : (k : ℕ) → tableOf rate table doubt message report ≡ refusedClosing k message report → k ≡ accepted
+        not-refused k e = sym (refused-number k message report) ∙ sym (ap (λ (c : Closed). c .number) e) ∙ n
+
+        go : (a : Bool) → known rate ≡ a → (b : Bool) → tableFits rate table message report ≡ b → (c : Bool) → leb doubt mostDoubt ≡ c
+            → (doubt ≤ mostDoubt) × (tableOf rate table doubt message report ≡ decodeOf 𝓓 rate (tableColumns table) (pickedOf table doubt) message report)
+        go false e b f c g = absurd (omega (arith, not-refused unknownRate (table-rate e)))
+        go true e false f c g = absurd (omega (arith, not-refused wrongSize (unfit e f)))
+        go true e true f false g = absurd (omega (arith, not-refused wrongDoubt (rw (e, f, g))))
+        go true e true f true g = (leb-true doubt mostDoubt g, rw (e, f, g))
+
+  -- ---- the places picked
+
+  module _ (table : List ℕ) (doubt : ℕ) (few : doubt ≤ mostDoubt) where
+    pub picked-length : length (pickedOf table doubt) ≡ doubt
+    unfolding pickedOf
+    picked-length = doubtful-length (places 𝓓) doubt (tableColumns table) (omega arith)
+
+    pub picked-fit : fitDoubt 𝓓 (pickedOf table doubt) ≡ true
+    unfolding pickedOf
+    picked-fit =
+        let list = doubtfulOf (places 𝓓) doubt (tableColumns table) in
+        (list-fits 𝓓)
+        (record {
+          short = omega (arith, doubtful-length (places 𝓓) doubt (tableColumns table) (omega arith));
+          in-range = λ i l. omega (arith, doubtful-below (places 𝓓) doubt (tableColumns table) (getD list i 0) (member-at list 0 i l));
+          rises = λ i l. doubtful-rising (places 𝓓) doubt (tableColumns table) .rises i (suc i) (omega arith) l;
+        })
+
+    pub picked-opens : (rate : ℕ) → known rate ≡ true
+        → openOf 𝓓 rate (pickedOf table doubt) ≡ record { number = accepted; book = newBook rate (pickedOf table doubt) }
+    picked-opens rate known = open-accepted 𝓓 rate (pickedOf table doubt) known picked-fit
+
+  -- ---- as a session
+
+  pub record Delivered (table : List ℕ) (row : List Entry) : Type 0 where
+    pub there : (p : ℕ) → p < places 𝓓 → columnIn row p ≡ some (tableColumns table p)
+    pub nothing-else : (p : ℕ) → places 𝓓 ≤ p → columnIn row p ≡ none
+
+  -- behind the table there are zeros
+  pub column-beyond : (costs : List ℕ) (p : ℕ) → length costs ≡ places 𝓓 * width 𝓓 → places 𝓓 ≤ p
+      → Soft.columnOf (width 𝓓) costs p ≡ replicate (width 𝓓) 0
+  column-beyond costs p n h =
+      sym
+      (ext-getD 0 (replicate (width 𝓓) 0) (Soft.columnOf (width 𝓓) costs p)
+      (length-replicate {A = ℕ} (width 𝓓) 0 ∙ sym (column-length (width 𝓓) costs p))
+      (λ i b.
+      let l : i < width 𝓓 = omega (arith, length-replicate {A = ℕ} (width 𝓓) 0) in
+      getD-replicate (width 𝓓) i 0 0 l ∙ sym (cost-column (width 𝓓) costs p i l ∙ List·getD-eq-default costs 0 (omega (arith, n, mul-le-mul-right (width 𝓓) h)))))
+
+  module _ (table : List ℕ) (row : List Entry) (all : Delivered table row) where
+    pub delivered-columns : columnsOf 𝓓 row ≡ tableColumns table
+    unfolding tableColumns
+    delivered-columns = fun-ext (λ p. go p (decLt p (places 𝓓)))
+      where
+        go : (p : ℕ) → Dec (p < places 𝓓) → columnsOf 𝓓 row p ≡ Soft.columnOf (width 𝓓) (Soft.costsFrom (places 𝓓 * width 𝓓) table) p
+        go p (yes h) = columns-taken 𝓓 row p (all .there p h)
+        go p (no h) =
+            columns-none 𝓓 row p (all .nothing-else p (omega arith))
+            ∙ sym (column-beyond (Soft.costsFrom (places 𝓓 * width 𝓓) table) p (costs-length (places 𝓓 * width 𝓓) table) (omega arith))
+
+    pub delivered-none-missing : someMissing 𝓓 row ≡ false
+    unfolding someMissing
+    delivered-none-missing = ap not (every-true (places 𝓓) (taken row) (λ p h. unfold taken in ap present (all .there p h)))
+
+  module _ (rate : ℕ) (table : List ℕ) (doubt : ℕ) (known : known rate ≡ true) (whole : length table ≡ tableLength)
+      (few : doubt ≤ mostDoubt) (row : List Entry) (all : Delivered table row) (message report : List ℕ) where
+    -- the book that was opened with the places picked, and to which all columns were delivered
+    abbrev pub bookFor : Book
+    bookFor = record { rate = rate; doubtful = pickedOf table doubt; row = row }
+
+    unfitting : closingFits 𝓓 bookFor message report ≡ false → tableFits rate table message report ≡ false
+    unfolding tableFits closingFits
+    unfitting e = ap₂ (λ a b. a && b) (eq-eqb (length table) tableLength whole) e
+
+    pub table-as-session : tableOf rate table doubt message report ≡ closeOf 𝓓 bookFor message report
+    table-as-session = go (closingFits 𝓓 bookFor message report) refl
+      where
+        go : (b : Bool) → closingFits 𝓓 bookFor message report ≡ b → tableOf rate table doubt message report ≡ closeOf 𝓓 bookFor message report
+        go true e =
+            let f = fits-both 𝓓 bookFor message report e in
+            table-decoded rate table doubt message report known whole (f .0) (f .1) few
+            ∙ ap (λ (columns : ℕ → List ℕ). decodeOf 𝓓 rate columns (pickedOf table doubt) message report) (sym (delivered-columns table row all))
+            ∙ sym (close-decoded 𝓓 bookFor message report e (delivered-none-missing table row all))
+        go false e = unfit rate table doubt message report known (unfitting e) ∙ sym (close-size 𝓓 bookFor message report e)
+
+  -- ---- the columns delivered in any order
+
+  module _ (table order : List ℕ) (apart : distinct order ≡ true) (in-range : below (places 𝓓) order ≡ true) (every-place : length order ≡ places 𝓓) where
+    pub order-delivered : Delivered table (entriesOf (tableColumns table) order)
+    order-delivered =
+        record {
+          there = λ p h.
+              entries-column (tableColumns table) order p
+              ∙ ap (λ b. cond b (some (tableColumns table p)) none) (distinct-all (places 𝓓) order p apart in-range (omega arith) h);
+          nothing-else = λ p h.
+              entries-column (tableColumns table) order p ∙ ap (λ b. cond b (some (tableColumns table p)) none) (outside p h (among p order) refl);
+        }
+      where
+        outside : (p : ℕ) → places 𝓓 ≤ p → (b : Bool) → among p order ≡ b → among p order ≡ false
+        outside p h true e = absurd (omega (arith, below-among (places 𝓓) order p in-range e))
+        outside p h false e = e
+
+    -- each delivery is accepted, and the book is the one that closes as the table decodes
+    pub order-accepted : (rate : ℕ) (list : List ℕ)
+        → deliverRow 𝓓 (newBook rate list) (entriesOf (tableColumns table) order)
+        ≡ record { number = accepted; book = record { rate = rate; doubtful = list; row = entriesOf (tableColumns table) order } }
+    unfolding newBook extended
+    order-accepted rate list =
+        row-delivered 𝓓 (newBook rate list) (entriesOf (tableColumns table) order)
+        (ap (below (places 𝓓)) (entries-places (tableColumns table) order) ∙ in-range)
+        (ap distinct (entries-places (tableColumns table) order) ∙ apart)

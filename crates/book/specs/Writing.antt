@@ -8,8 +8,9 @@ use Prim.Native.Nat.{ℕ}
 use lib.Dec.{eqb}
 use lib.ListN.{length}
 use Rattle.refusals.specs.Refusal.{accepted, wrongSize, placeMissing}
-use Rattle.book.specs.Book.{Book, someMissing}
+use Rattle.book.specs.Book.{Book}
 use Rattle.book.specs.Capture.{captureLength, captureOf}
+use Rattle.book.specs.Here.{someMissing}
 
 pub record Filled : Type 0 where
   pub number : ℕ

@@ -6,7 +6,7 @@ use Prim.Native.Nat.{ℕ}
 use native.Mathlib.Omega.{arith}
 use Rattle.refusals.specs.Refusal.{accepted}
 use Rattle.code.specs.Encoding.{knownRate}
-use Rattle.book.specs.Opening.{fitDoubt}
+use Rattle.book.specs.Here.{fitDoubt}
 use Rattle.session.specs.declared.Opened.{Opened}
 use Rattle.session.specs.Calls.{refusedWith, openedOf}
 use Rattle.session.specs.Laws.{opened-rate, opened-list, opened-new}

@@ -21,9 +21,12 @@ use Rattle.code.specs.Encoding.{encodeOf}
 use Rattle.code.specs.Rates.{mostRate}
 use Rattle.near.specs.Here.{reachOf}
 use Rattle.near.specs.Laws.{tests-tree}
-use Rattle.book.specs.Closing.{refusedClosing, reportFor, decodeOf}
+use Rattle.book.specs.Model.{modem64}
+use Rattle.book.specs.Closing.{refusedClosing}
 use Rattle.book.specs.ClosingLaws.{decode-none, decode-some}
 use Rattle.book.specs.Table.{closed}
+use Rattle.book.specs.Here.{decodeOf}
+use Rattle.book.specs.Closing as BookClosing
 use Rattle.answers.specs.declared.Answer.the-variants.{NoneNear, Near}
 use Rattle.answers.specs.declared.Found.{Found}
 use Rattle.answers.specs.Nearest.{Nearest, nearest-nobody, nearest-somebody}
@@ -43,29 +46,29 @@ module _ (rate : ℕ) (columns : ℕ → List ℕ) (doubtful : List ℕ) (f : Fo
   module _ (message report : List ℕ) where
     pub answered-none : f .answer ≡ NoneNear → closed noneNear message report ≡ decodeOf rate columns doubtful message report
     unfolding refusedClosing
-    answered-none e = sym (decode-none rate columns doubtful message report (nearest-nobody near e))
+    answered-none e = sym (decode-none modem64 rate columns doubtful message report (nearest-nobody near e))
 
     pub answered-near : (t : ℕ) → f .answer ≡ Near t
         → closed accepted (take rate (f .message))
-        (reportOf t (f .tests) (pinnedOf places columns (encodeOf rate (take rate (f .message))))
+        (reportOf 1 t (f .tests) (pinnedOf places columns (encodeOf rate (take rate (f .message))))
         (changedOf places columns (encodeOf rate (take rate (f .message)))))
         ≡ decodeOf rate columns doubtful message report
-    unfolding reportFor Near.messageCost
+    unfolding BookClosing.reportFor Near.messageCost
     answered-near t e =
         let m = take rate (f .message) in
         ap₂
-        (λ total tests. closed accepted m (reportOf total tests (pinnedOf places columns (encodeOf rate m)) (changedOf places columns (encodeOf rate m))))
+        (λ total tests. closed accepted m (reportOf 1 total tests (pinnedOf places columns (encodeOf rate m)) (changedOf places columns (encodeOf rate m))))
         (nearest-somebody near t e .1) (near .count)
-        ∙ sym (decode-some rate columns doubtful message report (nearest-somebody near t e .0))
+        ∙ sym (decode-some modem64 rate columns doubtful message report (nearest-somebody near t e .0))
 
     -- the same, step by step as the code goes
     pub decoded-near : {t pinned changed : ℕ} {message′ word bytes report′ : List ℕ} → f .answer ≡ Near t → length message ≡ rate
         → length (f .message) ≡ mostRate → rate ≤ mostRate → message′ ≡ over (f .message) message → word ≡ encodeOf rate (take rate (f .message))
-        → pinned ≡ pinnedOf places columns word → changed ≡ changedOf places columns word → bytes ≡ reportOf t (f .tests) pinned changed
+        → pinned ≡ pinnedOf places columns word → changed ≡ changedOf places columns word → bytes ≡ reportOf 1 t (f .tests) pinned changed
         → length report ≡ length bytes → report′ ≡ over bytes report
         → closed accepted message′ report′ ≡ decodeOf rate columns doubtful message report
     decoded-near {t} {pinned} {changed} {message′} {word} {bytes} {report′} e long size small m w p q b whole r =
         let a : message′ ≡ take rate (f .message) = m ∙ over-short (f .message) message (omega arith) ∙ ap (λ n. take n (f .message)) long in
         ap₂ (λ (x y : List ℕ). closed accepted x y) a
-        (r ∙ over-same bytes report whole ∙ b ∙ ap₂ (λ (x y : ℕ). reportOf t (f .tests) x y) (p ∙ ap (pinnedOf places columns) w) (q ∙ ap (changedOf places columns) w))
+        (r ∙ over-same bytes report whole ∙ b ∙ ap₂ (λ (x y : ℕ). reportOf 1 t (f .tests) x y) (p ∙ ap (pinnedOf places columns) w) (q ∙ ap (changedOf places columns) w))
         ∙ answered-near t e

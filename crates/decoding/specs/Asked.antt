@@ -18,7 +18,9 @@ use Rattle.soft.specs.Doubt.{mostDoubt}
 use Rattle.near.specs.Here.{Places}
 use Rattle.near.specs.Tree as Family
 use Rattle.near.specs.Tree.{places-nil, places-cons}
-use Rattle.book.specs.Opening.{risingFrom, rising, fitPlaces, fitDoubt}
+use Rattle.book.specs.Opening.{risingFrom, rising}
+use Rattle.book.specs.Here.{fitDoubt}
+use Rattle.book.specs.Opening as BookOpening
 use Rattle.chase.specs.Call.{Asked}
 
 rising-above : (n : ℕ) (list : List ℕ) → risingFrom n list ≡ true → (q : ℕ) → List·Memᴰ q list → n ≤ q
@@ -40,7 +42,7 @@ rising-places least n (p ∷ list) e b =
     places-cons (h .0) (λ (m : List·Memᴰ p list). omega (arith, rising-above (suc p) list r p m)) (rising-places (suc p) n list r (h .1))
 
 pub fit-places : (list : List ℕ) → fitDoubt list ≡ true → Places list
-unfolding fitDoubt fitPlaces rising
+unfolding BookOpening.fitDoubt BookOpening.fitPlaces rising
 fit-places list e =
     let a = leb (length list) mostDoubt in
     let b = below places list in

@@ -5,7 +5,7 @@ use mathlib.Core.Path.{_≡_}
 use mathlib.Core.List.{List}
 use Prim.Native.Nat.{ℕ}
 use lib.ListN.{length}
-use Rattle.book.specs.Closing.{reportLength}
+use Rattle.book.specs.Here.{reportLength}
 use Rattle.chase.specs.Call.{Asked}
 
 pub record Decodable (rate : ℕ) (costs doubtful : List ℕ) (doubt : ℕ) (message report : List ℕ) : Type 0 where

@@ -7,8 +7,8 @@ use refusals::NONE_NEAR;
 ghost use mathlib.Core.Path.{_≡_};
 ghost use lib.ListN.{take};
 ghost use Rattle.soft.specs.Column.{symbols, columnOf};
-ghost use Rattle.book.specs.Closing.{decodeOf};
 ghost use Rattle.book.specs.Table.{closed};
+ghost use Rattle.book.specs.Here.{decodeOf};
 ghost use Rattle.decoding.specs.Decoding.{Decodable};
 
 // 'None near', the buffers as they were; or the answer's message and its report.

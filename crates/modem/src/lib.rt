@@ -2,7 +2,8 @@
 ghost use mathlib.Core.Path.{_≡_};
 ghost use Rattle.family.specs.Calls.{outcome};
 ghost use Rattle.code.specs.Calls.{encodeCall, readBackCall};
-ghost use Rattle.book.specs.Table.{closed, tableOf};
+ghost use Rattle.book.specs.Table.{closed};
+ghost use Rattle.book.specs.Here.{tableOf};
 
 #[no_mangle]
 pub extern "C" fn hermitian_encode(

@@ -9,10 +9,11 @@ use lib.ListN.{length, getD, take, drop}
 use borrow.Author.Tests.{le-leb, lt-leb, eq-eqb, ne-eqb}
 use Rattle.refusals.specs.Refusal.{accepted, wrongVersion, wrongLength}
 use Rattle.lists.specs.Distinct.{and-both}
-use Rattle.book.specs.Book.{places, Book, Outcome}
+use Rattle.book.specs.Book.{Book, Outcome}
 use Rattle.book.specs.Capture.{bodyLength, recordsOf}
-use Rattle.book.specs.CaptureOpening.{deliverRow, rateIn, doubtIn, recordsIn, sizeFits, versionFits, lengthIn, lengthFits, openWith, openCaptureOf}
+use Rattle.book.specs.CaptureOpening.{rateIn, doubtIn, recordsIn, sizeFits, versionFits, lengthIn, lengthFits, openWith, openCaptureOf}
 use Rattle.book.specs.CaptureCases.{open-size, open-version, open-length, open-checked, with-on, with-refused}
+use Rattle.book.specs.Here.{places, deliverRow}
 use Rattle.session.specs.declared.Opened.{Opened}
 use Rattle.session.specs.View.{bookOf}
 use Rattle.session.specs.Calls.{refusedWith, openedOf, Opening}

@@ -6,11 +6,12 @@ use native.Mathlib.Omega.{arith}
 use lib.ListN.{getD, take, drop}
 use lib.Seq.{drop-drop}
 use Rattle.refusals.specs.Refusal.{accepted}
-use Rattle.book.specs.Book.{places, width, Entry, Outcome}
+use Rattle.book.specs.Model.{modem64}
+use Rattle.book.specs.Book.{Entry, Outcome}
 use Rattle.book.specs.Capture.{recordLength, recordsOf}
+use Rattle.book.specs.Here.{places, width, deliverRow}
+use Rattle.book.specs.RowDelivery.{row-none, row-on, row-refused}
 use Rattle.soft.specs.Column.{costsFrom}
-use Rattle.book.specs.CaptureOpening.{deliverRow}
-use Rattle.book.specs.CaptureCases.{row-none, row-on, row-refused}
 use Rattle.session.specs.declared.Session.{Session}
 use Rattle.session.specs.declared.Delivered.{Delivered}
 use Rattle.session.specs.View.{bookOf, Good}
@@ -68,17 +69,17 @@ module _ (start current : Session) (records column : List ℕ) (i : ℕ) (r : De
   pub turn : r .refusal ≡ accepted → whole start records ≡ left (r .session) records (i + 1)
   unfolding entry rest
   turn n =
-      next ∙ row-on (bookOf current) entry rest (sym (d .number good) ∙ n)
+      next ∙ row-on modem64 (bookOf current) entry rest (sym (d .number good) ∙ n)
       ∙ ap (λ b. deliverRow b rest) (sym (d .book good))
 
   pub stop : (r .refusal ≡ accepted → ⊥) → Opening (whole start records) (refusedWith (r .refusal))
   unfolding entry rest
   stop n =
-      rw (next, row-refused (bookOf current) entry rest (λ e. n (d .number good ∙ e)), ← d .number good) (refused-opens (r .refusal))
+      rw (next, row-refused modem64 (bookOf current) entry rest (λ e. n (d .number good ∙ e)), ← d .number good) (refused-opens (r .refusal))
 
 pub finish : (start current : Session) (records : List ℕ) (i : ℕ) → places ≤ i → Good current → whole start records ≡ left current records i
     → Opening (whole start records) (record { refusal = accepted; session = current })
 finish start current records i h good same =
     let n : places - i ≡ 0 = omega arith in
-    rw (same, n, no-records-left (drop (recordLength * i) records), row-none (bookOf current))
+    rw (same, n, no-records-left (drop (recordLength * i) records), row-none modem64 (bookOf current))
     (record { number = refl; book = refl; good = good })

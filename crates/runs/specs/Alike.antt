@@ -15,13 +15,17 @@ use native.Mathlib.Omega.{arith}
 use lib.ListN.{take}
 use Rattle.lists.specs.Distinct.{among}
 use Rattle.lists.specs.Block.{block}
-use Rattle.book.specs.Book.{places, width, Book, columnIn}
+use Rattle.book.specs.Model.{modem64}
+use Rattle.book.specs.Book.{Book, columnIn}
 use Rattle.book.specs.Columns.{column-free}
 use Rattle.book.specs.RowLaws.{none-above}
 use Rattle.book.specs.Writing.{Filled}
 use Rattle.book.specs.Closing.{Closed}
-use Rattle.book.specs.Calls.{Call, reading, closing, Answer, answer}
-use Rattle.book.specs.Sentences.{Agree, reading-alike, closing-alike}
+use Rattle.book.specs.AnyCalls.{Answer}
+use Rattle.book.specs.Calls.{Call, reading, closing, answer}
+use Rattle.book.specs.Sentences.{Agree, closing-alike}
+use Rattle.book.specs.Here.{places, width}
+use Rattle.book.specs.ReadingSentences.{reading-alike}
 use Rattle.session.specs.declared.Session.{Session}
 use Rattle.session.specs.View.{bookOf, Good}
 use Rattle.session.specs.Laws.{book-taken, column-there, good-proper}
@@ -59,7 +63,7 @@ held-agree {s} {t} a b same =
         column-there s a p e ∙ ap some (same .same-columns p h e) ∙ sym (column-there t b p (sym (same .same-taken p h) ∙ e))
     go p (yes h) false e = free s a p e ∙ sym (free t b p (sym (same .same-taken p h) ∙ e))
     go p (no h) x e =
-        none-above (bookOf s) (good-proper s a) p (omega arith) ∙ sym (none-above (bookOf t) (good-proper t b) p (omega arith))
+        none-above modem64 (bookOf s) (good-proper s a) p (omega arith) ∙ sym (none-above modem64 (bookOf t) (good-proper t b) p (omega arith))
 
 pub record Alike (s t : Session) : Type 0 where
   pub read-alike : {out : List ℕ} {a b : Answer} {u v : Session} → Step s (reading out) a u → Step t (reading out) b v → a ≡ b
@@ -73,7 +77,7 @@ good-alike {s} {t} a b same =
       read-alike = λ {out} x y.
           x .answered a ∙ ap (λ (f : Filled). answerWith (f .number) (f .bytes) []) (reading-alike same out) ∙ sym (y .answered b);
       close-alike = λ {message} {report} x y.
-          x .answered a ∙ ap (λ (c : Closed). answerWith (c .number) (c .message) (c .report)) (closing-alike same message report)
+          x .answered a ∙ ap (λ (c : Closed). answerWith (c .number) (c .message) (c .report)) (closing-alike modem64 same message report)
           ∙ sym (y .answered b);
     }
 

@@ -14,16 +14,14 @@ use Prim.Native.Nat.{ℕ}
 use lib.ListN.{length}
 use Rattle.refusals.specs.Refusal.{accepted, placeMissing, noneNear}
 use Rattle.book.specs.Book.{Book}
-use Rattle.book.specs.Opening.{openOf}
 use Rattle.book.specs.Delivery.{withEntry}
 use Rattle.book.specs.CaptureOpening.{openCaptureOf}
-use Rattle.book.specs.Closing.{reportLength}
-use Rattle.book.specs.Entries.{Missing}
-use Rattle.book.specs.OpeningLaws.{Rate, DoubtfulList}
-use Rattle.book.specs.Calls.{Call, deliver, closing, Answer, firstLent, secondLent, answer, after, answers, afterAll}
-use Rattle.book.specs.Sentences as sentences
-use Rattle.book.specs.Sentences.{IsNear, IsAnswer, Closes}
-use Rattle.book.specs.Costs.{AllFit}
+use Rattle.book.specs.OpeningLaws.{Rate}
+use Rattle.book.specs.AnyCalls.{Answer}
+use Rattle.book.specs.Calls.{Call, deliver, closing, firstLent, secondLent, answer, after, answers, afterAll}
+use Rattle.book.specs.Here.{openOf, reportLength, Missing, DoubtfulList, IsNear, IsAnswer, Closes}
+use Rattle.book.specs.CallLaws as laws
+use Rattle.book.specs.CallLaws.{AllFit}
 use Rattle.session.specs.declared.Session.{Session}
 use Rattle.session.specs.declared.Opened.{Opened}
 use Rattle.session.specs.View.{bookOf, Good}
@@ -90,7 +88,7 @@ whole =
       none-near = λ c full. closes-after c .none-near full;
       otherwise = λ c full n. closes-after c .otherwise full n;
       captures = λ opened n. capture-starts opened n;
-      only-delivery = sentences.only-delivery;
-      refused-kept = sentences.refused-lent;
+      only-delivery = laws.only-delivery;
+      refused-kept = laws.refused-lent;
       alike = λ x y same. agreeing.alike x y same;
     }

@@ -18,14 +18,17 @@ use mathlib.Core.List.{List, List·Memᴰ}
 use Prim.Native.Nat.{ℕ}
 use lib.ListN.{length}
 use Rattle.refusals.specs.Refusal.{accepted}
+use Rattle.book.specs.Model.{modem64}
 use Rattle.book.specs.Book.{Book, newBook, Outcome}
-use Rattle.book.specs.Opening.{openOf}
 use Rattle.book.specs.CaptureOpening.{rateIn, listIn, recordsIn, openCaptureOf}
-use Rattle.book.specs.Closing.{reportLength, Closed}
-use Rattle.book.specs.OpeningLaws.{Rate, DoubtfulList}
-use Rattle.book.specs.Calls.{Call, closing, Answer, answer, answers, afterAll}
-use Rattle.book.specs.Sentences.{opening-accepts, opening-only, Closes, closes, rate-held, deliveries, capture-opens}
-use Rattle.book.specs.Costs.{AllFit}
+use Rattle.book.specs.Closing.{Closed}
+use Rattle.book.specs.OpeningLaws.{Rate, rate-is, known-rate}
+use Rattle.book.specs.AnyCalls.{Answer}
+use Rattle.book.specs.Calls.{Call, closing, answer, answers, afterAll}
+use Rattle.book.specs.Sentences.{opening-accepts, opening-only, closes}
+use Rattle.book.specs.Here.{openOf, reportLength, DoubtfulList, Closes}
+use Rattle.book.specs.CallLaws.{rate-held, AllFit}
+use Rattle.book.specs.Captured.{deliveries, capture-opens}
 use Rattle.session.specs.declared.Session.{Session}
 use Rattle.session.specs.declared.Opened.{Opened}
 use Rattle.session.specs.View.{bookOf, Good}
@@ -55,7 +58,7 @@ module _ {T : ℕ} (s : Session) (good : Good s) (rate : Rate (bookOf s .rate) T
       let r : bookOf t .rate ≡ bookOf s .rate = ap (λ (b : Book). b .rate) e ∙ rate-held (bookOf s) calls in
       subst (λ (b : Book). Closes b T (closedBy a)) e
       (subst (λ (x : Answer). Closes (bookOf t) T (closedBy x)) (sym (step .answered (run-good run good)))
-      (closes (subst (λ k. Rate k T) (sym r) rate) message report (long ∙ sym r) eight))
+      (closes modem64 (rate-is (subst (λ k. Rate k T) (sym r) rate)) message report (long ∙ sym r) eight))
 
   pub good-follows : Follows T s (bookOf s)
   good-follows =
@@ -71,7 +74,7 @@ module _ {T : ℕ} (s : Session) (good : Good s) (rate : Rate (bookOf s .rate) T
 
 pub opening-accepted : {rate T : ℕ} {list : List ℕ} {r : Opened} → Rate rate T → DoubtfulList list → Opening (openOf rate list) r
     → r .refusal ≡ accepted
-opening-accepted known fit opened = opened .number ∙ ap (λ (x : Outcome). x .number) (opening-accepts known fit)
+opening-accepted known fit opened = opened .number ∙ ap (λ (x : Outcome). x .number) (opening-accepts modem64 (rate-is known) fit)
 
 abbrev pub captureBook : List ℕ → Book
 captureBook bytes = afterAll (newBook (rateIn bytes) (listIn bytes)) (deliveries (recordsIn bytes))
@@ -91,7 +94,7 @@ start-good (by-opening known fit opened) = opened .good
 start-good (by-capture bytes known opened n) = opened .good
 
 start-book : {T : ℕ} {book : Book} {s : Session} → Start T book s → bookOf s ≡ book
-start-book (by-opening known fit opened) = opened .book ∙ ap (λ (x : Outcome). x .book) (opening-accepts known fit)
+start-book (by-opening known fit opened) = opened .book ∙ ap (λ (x : Outcome). x .book) (opening-accepts modem64 (rate-is known) fit)
 start-book (by-capture bytes known opened n) = opened .book ∙ capture-opens bytes (sym (opened .number) ∙ n) .delivered
 
 start-rate : {T : ℕ} {book : Book} {s : Session} → Start T book s → Rate (book .rate) T
@@ -113,13 +116,14 @@ pub record CaptureStarts (bytes : List ℕ) (r : Opened) : Type 0 where
   pub start : Start reach (captureBook bytes) (r .session)
 
 pub capture-starts : {bytes : List ℕ} {r : Opened} → Opening (openCaptureOf bytes) r → r .refusal ≡ accepted → CaptureStarts bytes r
-capture-starts {bytes} {r} opened n =
+capture-starts {bytes} opened n =
     let c = capture-opens bytes (sym (opened .number) ∙ n) in
-    let k = opening-only (rateIn bytes) (listIn bytes) (c .opened) in
+    let k = opening-only modem64 (rateIn bytes) (listIn bytes) (c .opened) in
+    let r = known-rate (rateIn bytes) (k .0) in
     record {
-      reach = k .0 .0;
-      rate = k .0 .1;
+      reach = r .0;
+      rate = r .1;
       list = k .1;
       records = c .all-accepted;
-      start = by-capture bytes (k .0 .1) opened n;
+      start = by-capture bytes (r .1) opened n;
     }

@@ -13,15 +13,14 @@ use Prim.Native.Nat.{ℕ, _≤_}
 use native.Mathlib.Omega.{arith}
 use lib.ListN.{length}
 use Rattle.lists.specs.Words.{Word}
+use Rattle.book.specs.Model.{modem64}
 use Rattle.book.specs.Book.{Book, newBook}
-use Rattle.book.specs.Opening.{openOf}
-use Rattle.book.specs.Columns.{columnsOf}
-use Rattle.book.specs.Entries.{Missing}
-use Rattle.book.specs.Closing.{reportLength}
-use Rattle.book.specs.OpeningLaws.{Rate, DoubtfulList}
-use Rattle.book.specs.Calls.{Call, closing, Answer, afterAll}
-use Rattle.book.specs.Sentences.{rate-held, list-held}
-use Rattle.book.specs.Repairs.{FewWrong, notBest, Repaired, NoDearer, closes-repaired, closes-found}
+use Rattle.book.specs.OpeningLaws.{Rate, rate-is}
+use Rattle.book.specs.AnyCalls.{Answer}
+use Rattle.book.specs.Calls.{Call, closing, afterAll}
+use Rattle.book.specs.Repairs.{closes-repaired, closes-found}
+use Rattle.book.specs.Here.{openOf, columnsOf, Missing, reportLength, DoubtfulList, FewWrong, notBest, Repaired, NoDearer}
+use Rattle.book.specs.CallLaws.{rate-held, list-held}
 use Rattle.session.specs.declared.Session.{Session}
 use Rattle.session.specs.declared.Opened.{Opened}
 use Rattle.session.specs.Calls.{Opening}
@@ -40,7 +39,7 @@ module _ {T : ℕ} {s : Session} {book : Book} (follows : Follows T s book) {cal
       let k = sym (rate-held book calls) in
       subst₂ (λ r l. Repaired r (columnsOf (afterAll book calls .row)) l m (closedBy a))
       (rate-held book calls) (list-held book calls)
-      (closes-repaired (follows .closed run step long eight) full (subst (λ r. Rate r T) k rate) (list-held book calls ∙ none-doubtful) m
+      (closes-repaired modem64 (follows .closed run step long eight) full (rate-is (subst (λ r. Rate r T) k rate)) (list-held book calls ∙ none-doubtful) m
       (subst (λ r. Word 16 r m) k word)
       (subst (λ r. notBest r (columnsOf (afterAll book calls .row)) m ≤ T) k few))
 
@@ -49,7 +48,7 @@ module _ {T : ℕ} {s : Session} {book : Book} (follows : Follows T s book) {cal
   follows-found few =
       subst₂ (λ r l. NoDearer r (columnsOf (afterAll book calls .row)) l m (closedBy a))
       (rate-held book calls) (list-held book calls)
-      (closes-found (follows .closed run step long eight) full m
+      (closes-found modem64 (follows .closed run step long eight) full m
       (subst₂ (λ r l. FewWrong r (columnsOf (afterAll book calls .row)) l T m) (sym (rate-held book calls)) (sym (list-held book calls)) few))
 
 -- ---- an opened session

@@ -18,16 +18,17 @@ use native.Mathlib.Omega.{arith}
 use lib.ListN.{length, take}
 use Rattle.lists.specs.Distinct.{among}
 use Rattle.book.specs.Machine as machine
-use Rattle.book.specs.Book.{places, width, Book, someMissing}
+use Rattle.book.specs.Model.{modem64}
+use Rattle.book.specs.Book.{Book}
 use Rattle.book.specs.ReadingLaws.{read-sized}
 use Rattle.book.specs.Writing.{Filled, writeOf}
 use Rattle.book.specs.Capture.{captureLength}
-use Rattle.book.specs.RowLaws.{Proper}
 use Rattle.book.specs.RoundTrip.{capture-length, write-size, write-missing, write-accepted}
 use Rattle.book.specs.ClosingLaws.{close-sized}
-use Rattle.book.specs.Calls.{Call, deliver, reading, writing, closing, Answer, firstLent, secondLent, answer, after, answers, afterAll}
-use Rattle.book.specs.Sentences.{refused-lent}
-use Rattle.book.specs.Costs.{Fits, AllFit}
+use Rattle.book.specs.AnyCalls.{Answer}
+use Rattle.book.specs.Calls.{Call, deliver, reading, writing, closing, firstLent, secondLent, answer, after, answers, afterAll}
+use Rattle.book.specs.Here.{places, width, someMissing, Proper}
+use Rattle.book.specs.CallLaws.{refused-lent, Fits, AllFit}
 use Rattle.session.specs.declared.Session.{Session}
 use Rattle.session.specs.declared.Delivered.{Delivered}
 use Rattle.session.specs.View.{bookOf, Good}
@@ -82,7 +83,7 @@ unfolding answer firstLent secondLent
 lent-sized book (deliver p column) proper = (refl, refl)
 lent-sized book (reading out) proper = (read-sized book out, refl)
 lent-sized book (writing out) proper = (write-sized book out proper, refl)
-lent-sized book (closing message report) proper = let l = close-sized book message report in (l .message-sized, l .report-sized)
+lent-sized book (closing message report) proper = let l = close-sized modem64 book message report in (l .message-sized, l .report-sized)
 
 -- a call that leaves the book as it was
 some-kept : (s : Session) (call : Call) → Good s → after (bookOf s) call ≡ bookOf s → Step s call (answer (bookOf s) call) s
@@ -91,7 +92,7 @@ some-kept s call good same =
 
 pub some-step : (s : Session) (call : Call) → Good s → Fits call → (a : Answer) × (t : Session) × Step s call a t
 unfolding after
-some-step s (deliver p column) good fits = let d = some-delivery s p column good (fits .sixteen) in (_, d .0 .session, delivery-step (d .1))
+some-step s (deliver p column) good fits = let d = some-delivery s p column good (fits .whole) in (_, d .0 .session, delivery-step (d .1))
 some-step s (reading out) good u = (_, s, some-kept s (reading out) good refl)
 some-step s (writing out) good u = (_, s, some-kept s (writing out) good refl)
 some-step s (closing message report) good u = (_, s, some-kept s (closing message report) good refl)

@@ -12,16 +12,19 @@ use Prim.Native.Nat.{ℕ}
 use lib.ListN.{length}
 use Rattle.lists.specs.Distinct.{below}
 use Rattle.refusals.specs.Refusal.{accepted}
+use Rattle.book.specs.Model.{modem64}
 use Rattle.book.specs.Book.{Book, newBook}
-use Rattle.book.specs.Opening.{openOf}
 use Rattle.book.specs.CaptureOpening.{rateIn, openCaptureOf}
 use Rattle.book.specs.Reading.{readingLength}
-use Rattle.book.specs.RoundTrip.{list-short}
-use Rattle.book.specs.OpeningLaws.{Rate, DoubtfulList, known-rate}
-use Rattle.book.specs.Calls.{Call, reading, closing, Answer, answer, afterAll}
-use Rattle.book.specs.Sentences.{Reads, reading-least, capture-opens}
-use Rattle.book.specs.Costs.{RowColumns, capture-costs, AllFit, new-costs, after-costs}
-use Rattle.book.specs.Report.{ReportedIn, closing-shows}
+use Rattle.book.specs.OpeningLaws.{list-short, Rate, known-rate}
+use Rattle.book.specs.AnyCalls.{Answer}
+use Rattle.book.specs.Calls.{Call, reading, closing, answer, afterAll}
+use Rattle.book.specs.Costs.{new-costs}
+use Rattle.book.specs.Report.{closing-shows}
+use Rattle.book.specs.Here.{openOf, DoubtfulList, RowColumns, ReportedIn}
+use Rattle.book.specs.ReadingSentences.{Reads, reading-least}
+use Rattle.book.specs.Captured.{capture-opens, capture-costs}
+use Rattle.book.specs.CallLaws.{AllFit, after-costs}
 use Rattle.session.specs.declared.Session.{Session}
 use Rattle.session.specs.declared.Opened.{Opened}
 use Rattle.session.specs.View.{bookOf, Good}
@@ -45,7 +48,7 @@ module _ {t : Session} (good : Good t) where
   step-shows {message} {report} {a} all step n =
       let e = step .answered good in
       subst (λ (x : Answer). ReportedIn (bookOf t) (closedBy x)) (sym e)
-      (closing-shows (bookOf t) message report all (list-short (bookOf t .doubtful) (good-proper t good .list-fit))
+      (closing-shows modem64 (bookOf t) message report all (list-short modem64 (bookOf t .doubtful) (good-proper t good .list-fit))
       (sym (ap (λ (x : Answer). x .number) e) ∙ n))
 
 module _ {T : ℕ} {book : Book} {s : Session} (start : Start T book s) {calls : List Call} {given : List Answer} {t : Session}
@@ -71,7 +74,7 @@ pub opened-shows : {rate T : ℕ} {list : List ℕ} {r : Opened} → Rate rate T
     → {message report : List ℕ} {a : Answer} {u : Session} → Step t (closing message report) a u → a .number ≡ accepted
     → ReportedIn (afterAll (newBook rate list) calls) (closedBy a)
 opened-shows {rate} {T} {list} known doubtful opened run fit step n =
-    run-shows (by-opening known doubtful opened) run (new-costs rate list) fit step n
+    run-shows (by-opening known doubtful opened) run (new-costs modem64 rate list) fit step n
 
 pub capture-shows : {T : ℕ} {r : Opened} (bytes : List ℕ) → below 256 bytes ≡ true → Rate (rateIn bytes) T → Opening (openCaptureOf bytes) r
     → r .refusal ≡ accepted → {calls : List Call} {given : List Answer} {t : Session} → Run (r .session) calls given t → AllFit calls

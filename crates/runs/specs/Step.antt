@@ -14,7 +14,8 @@ use mathlib.Core.Logic.{_≢_}
 use Prim.Native.Nat.{ℕ}
 use lib.ListN.{length}
 use Rattle.refusals.specs.Refusal.{accepted}
-use Rattle.book.specs.Calls.{Call, deliver, reading, writing, closing, Answer, firstLent, secondLent, answer, after}
+use Rattle.book.specs.AnyCalls.{Answer}
+use Rattle.book.specs.Calls.{Call, deliver, reading, writing, closing, firstLent, secondLent, answer, after}
 use Rattle.session.specs.declared.Session.{Session}
 use Rattle.session.specs.declared.Delivered.{Delivered}
 use Rattle.session.specs.View.{bookOf, Good}

@@ -19,16 +19,17 @@ use borrow.Author.Tests.{eqb-true, eq-eqb}
 use Rattle.refusals.specs.Refusal.{accepted}
 use Rattle.soft.specs.Doubt.{mostDoubt}
 use Rattle.book.specs.Machine.{carried}
-use Rattle.book.specs.Book.{places, Entry, Book, newBook, columnIn, present, taken, Outcome}
-use Rattle.book.specs.Opening.{openOf}
+use Rattle.book.specs.Model.{modem64}
+use Rattle.book.specs.Book.{Entry, Book, newBook, columnIn, present, taken, Outcome}
 use Rattle.book.specs.Delivery.{withEntry}
 use Rattle.book.specs.Columns.{none-free}
-use Rattle.book.specs.RowLaws.{Proper, none-above, column-append, deliver-accepted}
+use Rattle.book.specs.RowLaws.{none-above, column-append, deliver-accepted}
 use Rattle.book.specs.OpeningLaws.{Rate, rate-known, fits-list}
-use Rattle.book.specs.Closing.{closeOf}
-use Rattle.book.specs.Calls.{Call, deliver, closing, Answer, answer, after, afterAll}
-use Rattle.book.specs.Sentences.{only-delivery, rate-held, list-held}
-use Rattle.book.specs.Table.{tableLength, tableColumns, pickedOf, tableOf, picked-fit, Delivered, table-as-session}
+use Rattle.book.specs.AnyCalls.{Answer}
+use Rattle.book.specs.Calls.{Call, deliver, closing, answer, after, afterAll}
+use Rattle.book.specs.CallLaws.{only-delivery, rate-held, list-held}
+use Rattle.book.specs.Table.{picked-fit, table-as-session}
+use Rattle.book.specs.Here.{places, openOf, Proper, closeOf, tableLength, tableColumns, pickedOf, tableOf, Delivered}
 use Rattle.session.specs.declared.Session.{Session}
 use Rattle.session.specs.declared.Opened.{Opened}
 use Rattle.session.specs.View.{bookOf, Good}
@@ -83,7 +84,7 @@ column-got : (p : ℕ) → p < places → (book : Book) (column : List ℕ) → 
     → columnIn (after book (deliver p column) .row) p ≡ some column
 unfolding after
 column-got p h book column e =
-    ap (λ (o : Outcome). columnIn (o .book .row) p) (deliver-accepted book p column h (none-free (book .row) p e))
+    ap (λ (o : Outcome). columnIn (o .book .row) p) (deliver-accepted modem64 book p column h (none-free (book .row) p e))
     ∙ entry-column book p column p
     ∙ ap₂ (λ x y. cond x (columnIn (book .row) p) (cond y (some column) none)) (none-free (book .row) p e) (eq-eqb p p refl)
 
@@ -137,7 +138,7 @@ brings-holds {table} {calls} brings rate list p h =
 module _ {rate T : ℕ} (known : Rate rate T) (table : List ℕ) (whole : length table ≡ tableLength) (doubt : ℕ) (few : doubt ≤ mostDoubt) {r : Opened}
     (opened : Opening (openOf rate (pickedOf table doubt)) r) where
   pub picked-accepted : r .refusal ≡ accepted
-  picked-accepted = opening-accepted known (fits-list (pickedOf table doubt) (picked-fit table doubt few)) opened
+  picked-accepted = opening-accepted known (fits-list modem64 (pickedOf table doubt) (picked-fit modem64 table doubt few)) opened
 
   pub table-as-run : {calls : List Call} {given : List Answer} {t : Session} → Run (r .session) calls given t
       → HoldsTable table (afterAll (newBook rate (pickedOf table doubt)) calls .row)
@@ -146,7 +147,7 @@ module _ {rate T : ℕ} (known : Rate rate T) (table : List ℕ) (whole : length
   unfolding answer
   table-as-run {calls} {given} {t} run holds {message} {report} step =
       let list : List ℕ = pickedOf table doubt in
-      let fit = fits-list list (picked-fit table doubt few) in
+      let fit = fits-list modem64 list (picked-fit modem64 table doubt few) in
       let follows : Follows T (r .session) (newBook rate list) = start-follows (by-opening known fit opened) in
       let good : Good t = follows .left run .0 in
       let e : bookOf t ≡ afterAll (newBook rate list) calls = follows .left run .1 in
@@ -154,9 +155,9 @@ module _ {rate T : ℕ} (known : Rate rate T) (table : List ℕ) (whole : length
       let same : book ≡ record { rate = rate; doubtful = list; row = book .row } =
       book-path (rate-held (newBook rate list) calls ∙ new-rate rate list) (list-held (newBook rate list) calls ∙ new-list rate list) in
       let all : Delivered table (book .row) =
-      record { there = holds; nothing-else = none-above book (subst Proper e (good-proper t good)) } in
+      record { there = holds; nothing-else = none-above modem64 book (subst Proper e (good-proper t good)) } in
       ap closedBy (step .answered good) ∙ ap (λ (b : Book). closeOf b message report) (e ∙ same)
-      ∙ sym (table-as-session rate table doubt (rate-known known) whole few (book .row) all message report)
+      ∙ sym (table-as-session modem64 rate table doubt (rate-known known) whole few (book .row) all message report)
 
   pub table-as-calls : {calls : List Call} {given : List Answer} {t : Session} → Run (r .session) calls given t → BringsTable table calls
       → {message report : List ℕ} {a : Answer} {u : Session} → Step t (closing message report) a u

@@ -12,7 +12,7 @@ use Prim.Native.Nat.{ℕ}
 use lib.ListN.{length}
 use Rattle.refusals.specs.Refusal.{accepted}
 use Rattle.book.specs.Reading.{readOf}
-use Rattle.book.specs.Closing.{closeOf}
+use Rattle.book.specs.Here.{closeOf}
 use Rattle.session.specs.declared.Session.{Session}
 use Rattle.session.specs.View.{bookOf, Good}
 

@@ -3,28 +3,28 @@
 --   reading-wrong-size, reading-read     the two cases of reading
 --   closing-wrong-size, closing-early, closing-decoded   the three cases of closing: it decodes the table's columns by the doubtful list
 --   reading-by-hand, closing-by-hand     of a session record that was built by hand nothing is asked but that a refusal leaves the buffers as they were
-use mathlib.Core.Bool.{not}
 use mathlib.Core.Path.{_≡_, refl, sym, ap, _∙_, subst}
 use mathlib.Core.List.{List}
 use mathlib.Core.Logic.{_≢_, _⊎_}
 use Prim.Native.Nat.{ℕ, _<_, _≤_}
 use lib.ListN.{length, take}
-use borrow.Author.Tests.{le-leb, lt-leb}
 use Rattle.refusals.specs.Refusal.{accepted, wrongSize, placeMissing}
 use Rattle.soft.specs.Column.{symbols, columnOf}
 use Rattle.near.specs.Here.{mOf}
 use Rattle.interpolant.specs.LeastQ.{readingOf}
-use Rattle.book.specs.Book.{places}
+use Rattle.book.specs.Model.{modem64}
 use Rattle.book.specs.Writing.{Filled}
 use Rattle.book.specs.Reading.{readingLength, settledOf}
 use Rattle.book.specs.ReadingLaws.{read-size, read-accepted}
-use Rattle.book.specs.Closing.{reportLength, Closed, refusedClosing, decodeOf, closeOf}
-use Rattle.book.specs.ClosingLaws.{fits-of, close-missing, close-decoded, decode-kept, decode-sized}
+use Rattle.book.specs.Closing.{Closed, refusedClosing}
+use Rattle.book.specs.ClosingLaws.{decode-kept, decode-sized}
 use Rattle.book.specs.Sentences.{closing-sizes}
+use Rattle.book.specs.Here.{places, reportLength, decodeOf, closeOf}
 use Rattle.session.specs.declared.Session.{Session}
-use Rattle.session.specs.View.{bookOf, Good}
+use Rattle.session.specs.View.{held, bookOf, Good}
 use Rattle.session.specs.Answering.{Reading, Closing}
-use Rattle.session.specs.Table.{columns-table, missing-taken}
+use Rattle.session.specs.Held as Fields
+use Rattle.session.specs.HeldLaws as laws
 
 module _ (s : Session) (out : List ℕ) where
   pub reading-by-hand : (r : ℕ) → (Good s → ⊥) → Reading s out r out
@@ -74,28 +74,21 @@ module _ (s : Session) (message report : List ℕ) where
 
   pub closing-wrong-size : (length message ≢ s .rate) ⊎ (length report ≢ reportLength) → Closing s message report wrongSize message report
   unfolding bookOf
-  closing-wrong-size w = refused wrongSize (λ good. closing-sizes (bookOf s) message report w)
+  closing-wrong-size w = refused wrongSize (λ good. closing-sizes modem64 (bookOf s) message report w)
 
   module _ (long : length message ≡ s .rate) (eight : length report ≡ reportLength) where
     pub closing-early : s .taken < places → Closing s message report placeMissing message report
-    unfolding bookOf refusedClosing
-    closing-early h =
-        refused placeMissing
-        (λ good.
-        close-missing (bookOf s) message report (fits-of (bookOf s) message report long eight)
-        (missing-taken s good ∙ ap not (lt-leb places (s .taken) h)))
+    unfolding bookOf refusedClosing Fields.bookOf
+    closing-early h = refused placeMissing (λ good. laws.close-early modem64 (held s) good message report long eight h)
 
     full-close : places ≤ s .taken → Good s → closeOf (bookOf s) message report ≡ decoded
-    unfolding bookOf
-    full-close h good =
-        close-decoded (bookOf s) message report (fits-of (bookOf s) message report long eight)
-        (missing-taken s good ∙ ap not (le-leb places (s .taken) h))
-        ∙ ap (λ (f : ℕ → List ℕ). decodeOf (s .rate) f (take (s .doubt) (s .doubtful)) message report) (columns-table s good)
+    unfolding bookOf Fields.bookOf
+    full-close h good = laws.close-full modem64 (held s) good message report long eight h
 
     here : places ≤ s .taken → Closing s message report (decoded .number) (decoded .message) (decoded .report)
     here h =
-        let k = decode-kept (s .rate) (columnOf symbols (s .costs)) (take (s .doubt) (s .doubtful)) message report in
-        let l = decode-sized (s .rate) (columnOf symbols (s .costs)) (take (s .doubt) (s .doubtful)) message report long eight in
+        let k = decode-kept modem64 (s .rate) (columnOf symbols (s .costs)) (take (s .doubt) (s .doubtful)) message report in
+        let l = decode-sized modem64 (s .rate) (columnOf symbols (s .costs)) (take (s .doubt) (s .doubtful)) message report long eight in
         record {
           number = λ good. sym (ap (λ (c : Closed). c .number) (full-close h good));
           message-bytes = λ good. sym (ap (λ (c : Closed). c .message) (full-close h good));

@@ -13,8 +13,7 @@ use Prim.Native.Nat.{ℕ}
 use Rattle.refusals.specs.Refusal.{accepted, unknownRate, wrongDoubt}
 use Rattle.code.specs.Encoding.{knownRate}
 use Rattle.book.specs.Book.{Outcome}
-use Rattle.book.specs.Opening.{fitDoubt}
-use Rattle.book.specs.Delivery.{deliverOf}
+use Rattle.book.specs.Here.{fitDoubt, deliverOf}
 use Rattle.session.specs.declared.Session.{Session}
 use Rattle.session.specs.declared.Opened.{Opened}
 use Rattle.session.specs.declared.Delivered.{Delivered}

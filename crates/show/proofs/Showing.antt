@@ -19,7 +19,8 @@ use Rattle.refusals.specs.Refusal.{accepted}
 use Rattle.code.specs.Encoding.{knownRate}
 use Rattle.code.specs.Rates.{known-bounds}
 use Rattle.book.specs.Book.{Book, Outcome}
-use Rattle.book.specs.Closing.{Closed, reportLength, closeOf}
+use Rattle.book.specs.Closing.{Closed}
+use Rattle.book.specs.Here.{reportLength, closeOf}
 use Rattle.session.specs.declared.Session.{Session}
 use Rattle.session.specs.View.{bookOf, Good}
 use Rattle.session.specs.Answering.{Closing}

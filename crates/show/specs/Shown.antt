@@ -15,8 +15,9 @@ use Rattle.lists.specs.Distinct.{below}
 use Rattle.refusals.specs.Refusal.{accepted}
 use Rattle.book.specs.Book.{Book, Outcome}
 use Rattle.book.specs.CaptureOpening.{openCaptureOf}
-use Rattle.book.specs.Closing.{reportLength, Closed, closeOf}
-use Rattle.book.specs.Report.{ReportedIn, capture-shows}
+use Rattle.book.specs.Closing.{Closed}
+use Rattle.book.specs.Here.{reportLength, closeOf, ReportedIn}
+use Rattle.book.specs.Captured.{capture-shows}
 use Rattle.text.specs.Text.{headingOf, messageLine, refusedLine}
 
 unfoldable pub answerLines : Book → Closed → List ℕ

@@ -9,7 +9,8 @@
 --   differingIn counts n u v   in how many of n places, of those that count, two words differ; a missing entry differs
 --   differing n u v            the same where every place counts
 --   bytesOf n v                v in n bytes, high byte first
---   reportOf total tests pinned changed   the report's eight bytes
+--   reportOf wide total tests pinned changed   the report's bytes: four of the total, two of the test words, and so many as `wide` says of each count of
+--                              places
 use mathlib.Core.Bool.{Bool, true, not, _&&_}
 use mathlib.Core.List.{List, [], _∷_, _++_}
 use Prim.Native.Nat.{ℕ, zero, suc, _/_, _%_}
@@ -59,5 +60,5 @@ unfoldable pub bytesOf : ℕ → ℕ → List ℕ
 bytesOf zero v = []
 bytesOf (suc n) v = bytesOf n (v / 256) ++ (v % 256 ∷ [])
 
-unfoldable pub reportOf : ℕ → ℕ → ℕ → ℕ → List ℕ
-reportOf total tests pinned changed = bytesOf 4 total ++ (bytesOf 2 tests ++ (bytesOf 1 pinned ++ bytesOf 1 changed))
+unfoldable pub reportOf : ℕ → ℕ → ℕ → ℕ → ℕ → List ℕ
+reportOf wide total tests pinned changed = bytesOf 4 total ++ (bytesOf 2 tests ++ (bytesOf wide pinned ++ bytesOf wide changed))

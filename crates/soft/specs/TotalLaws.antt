@@ -7,10 +7,10 @@
 --   totalOf-ext, pinnedOf-ext, changedOf-ext   only the columns of the places matter
 --   differing-le, differing-self, differing-comm, differing-triangle, differing-none   differing is a distance of words of n places
 --   changed-differing      the changed places are those in which a word differs from the word of best symbols
---   bytesOf-length, reportOf-length   a report has eight bytes
+--   bytesOf-length, reportOf-length   how many bytes a report has: 8 where each count of places is one byte
 use mathlib.Core.Bool.{Bool, true, false, not, _&&_}
 use mathlib.Core.Path.{_≡_, refl, sym, ap, _∙_, subst}
-use mathlib.Core.List.{List, [], _∷_}
+use mathlib.Core.List.{List, [], _∷_, _++_}
 use mathlib.Core.Logic.{_≢_, _⊎_, inl, inr, ⊎-elim}
 use Prim.Native.Nat.{ℕ, zero, suc, _+_, _*_, _/_, _%_, _<_, _≤_}
 use native.Mathlib.Numerals.{add-one}
@@ -209,6 +209,16 @@ bytesOf-length zero v = refl
 bytesOf-length (suc n) v =
     length-append (bytesOf n (v / 256)) (v % 256 ∷ []) ∙ ap (λ k. k + 1) (bytesOf-length n (v / 256)) ∙ add-one n
 
-pub reportOf-length : (total tests pinned changed : ℕ) → length (reportOf total tests pinned changed) ≡ 8
-unfolding reportOf bytesOf
-reportOf-length total tests pinned changed = refl
+pub reportOf-length : (wide total tests pinned changed : ℕ) → length (reportOf wide total tests pinned changed) ≡ 6 + wide + wide
+unfolding reportOf
+reportOf-length wide total tests pinned changed =
+    omega (
+      arith,
+      length-append (bytesOf 4 total) (bytesOf 2 tests ++ (bytesOf wide pinned ++ bytesOf wide changed)),
+      length-append (bytesOf 2 tests) (bytesOf wide pinned ++ bytesOf wide changed),
+      length-append (bytesOf wide pinned) (bytesOf wide changed),
+      bytesOf-length 4 total,
+      bytesOf-length 2 tests,
+      bytesOf-length wide pinned,
+      bytesOf-length wide changed,
+    )

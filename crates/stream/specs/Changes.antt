@@ -18,9 +18,8 @@ use lib.Dec.{eqb, ltb}
 use lib.ListN.{length, getD, drop}
 use Rattle.soft.specs.Column.{symbols, costsFrom}
 use Rattle.book.specs.Book.{Book}
-use Rattle.book.specs.Opening.{openOf}
-use Rattle.book.specs.Delivery.{deliverOf}
 use Rattle.book.specs.CaptureOpening.{openCaptureOf}
+use Rattle.book.specs.Here.{openOf, deliverOf}
 use Rattle.session.specs.declared.Session.{Session}
 use Rattle.session.specs.View.{bookOf, Good}
 use Rattle.runs.specs.declared.Kind.{Kind}

@@ -5,7 +5,7 @@
 --   one-left                 so a good session and a call determine the session that is left
 use mathlib.Core.Path.{_≡_, sym, ap, _∙_, subst}
 use Rattle.book.specs.Book.{Book}
-use Rattle.book.specs.Delivery.{deliverOf}
+use Rattle.book.specs.Here.{deliverOf}
 use Rattle.session.specs.declared.Session.{Session}
 use Rattle.session.specs.View.{bookOf, Good}
 use Rattle.session.specs.Laws.{one-session}

@@ -9,8 +9,8 @@ ghost use mathlib.Core.Path.{_≡_};
 ghost use Prim.Native.Nat.{_≤_};
 ghost use lib.ListN.{length};
 ghost use Rattle.soft.specs.Column.{symbols, costsFrom};
-ghost use Rattle.book.specs.Opening.{openOf};
 ghost use Rattle.book.specs.CaptureOpening.{openCaptureOf};
+ghost use Rattle.book.specs.Here.{openOf};
 ghost use Rattle.stream.specs.Changes.{delivered, changeBy, numberedChange, changeOf, StandsFor, Leaves};
 
 // What lent buffers hold before a call.

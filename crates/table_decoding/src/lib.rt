@@ -7,7 +7,8 @@ use refusals::WRONG_DOUBT;
 use refusals::WRONG_SIZE;
 use totals::report::REPORT_BYTES;
 ghost use mathlib.Core.Path.{_≡_};
-ghost use Rattle.book.specs.Table.{closed, tableOf};
+ghost use Rattle.book.specs.Table.{closed};
+ghost use Rattle.book.specs.Here.{tableOf};
 
 // The two bytes of a cost for each symbol of each place.
 const TABLE_BYTES: usize = 2048;

@@ -9,12 +9,13 @@
 --   messageLine m        the message from symbol 0 on, a digit each
 --   refusedLine n        the line `refused N`
 use mathlib.Core.Bool.{cond}
-use mathlib.Core.Path.{_≡_}
+use mathlib.Core.Path.{_≡_, sym, _∙_}
 use mathlib.Core.List.{List, [], _∷_, _++_, map}
 use Prim.Native.Nat.{ℕ, zero, suc, _/_, _%_}
 use lib.Dec.{ltb}
 use Rattle.io.specs.Digits.{glyph}
-use Rattle.book.specs.Report.{totalIn, testsIn, pinnedIn, changedIn, Shows}
+use Rattle.book.specs.Report.{totalIn, testsIn}
+use Rattle.book.specs.Here.{pinnedIn, changedIn, pinned-byte, changed-byte, Shows}
 
 abbrev pub space : ℕ
 space = 32
@@ -46,7 +47,8 @@ pub heading-shows : (rate d : ℕ) {report : List ℕ} {total tests pinned chang
     ≡ numberLine rate space ++ numberLine d space ++ numberLine total space ++ numberLine tests space ++ numberLine pinned space
     ++ numberLine changed newline
 unfolding headingOf
-heading-shows rate d s = cc (s .total-there, s .tests-there, s .pinned-there, s .changed-there)
+heading-shows rate d {report} s =
+    cc (s .total-there, s .tests-there, sym (pinned-byte report) ∙ s .pinned-there, sym (changed-byte report) ∙ s .changed-there)
 
 unfoldable pub messageLine : List ℕ → List ℕ
 messageLine m = map hexOf m ++ (newline ∷ [])

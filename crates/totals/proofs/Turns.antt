@@ -15,7 +15,7 @@ cost-in costs word p s r e f = f ∙ ap (λ x. costOf (columnOf symbols costs p)
 
 -- the eight bytes of a report, each as the code divides it out of numbers that fit
 pub report-bytes : (total tests pinned changed : ℕ) → total < 4294967296 → tests < 65536 → pinned < 256 → changed < 256
-    → total / 16777216 ∷ total / 65536 % 256 ∷ total / 256 % 256 ∷ total % 256 ∷ tests / 256 ∷ tests % 256 ∷ pinned ∷ changed ∷ [] ≡ reportOf total tests pinned changed
+    → total / 16777216 ∷ total / 65536 % 256 ∷ total / 256 % 256 ∷ total % 256 ∷ tests / 256 ∷ tests % 256 ∷ pinned ∷ changed ∷ [] ≡ reportOf 1 total tests pinned changed
 unfolding reportOf bytesOf
 report-bytes total tests pinned changed ht hs hp hc =
     let e0 : total / 16777216 ≡ total / 256 / 256 / 256 % 256 = omega arith in

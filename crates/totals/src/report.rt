@@ -5,7 +5,7 @@ ghost use Rattle.soft.specs.Total.{reportOf};
 pub const REPORT_BYTES: usize = 8;
 
 pub fn report(total: u32, tests: u16, pinned: u8, changed: u8) -> [u8; REPORT_BYTES]
-    ensures { λ r. ⌜ r ≡ reportOf total tests pinned changed ⌝ }
+    ensures { λ r. ⌜ r ≡ reportOf 1 total tests pinned changed ⌝ }
 {
     [
         (total / 16777216) as u8,

@@ -10,11 +10,13 @@ use borrow.Rule.Slice.PartMut.{putMid}
 use Rattle.lists.specs.Listed.{listed, listed-nil, listed-suc, listed-length}
 use Rattle.lists.specs.Block.{block}
 use Rattle.lists.specs.Stored.{stored-one, stored-part}
-use Rattle.book.specs.Book.{places, width, Entry}
+use Rattle.book.specs.Book.{Entry}
 use Rattle.book.specs.Capture.{recordLength, costBytes, rowBytes}
 use Rattle.book.specs.CaptureLaws.{cost-bytes-append, cost-bytes-length, row-bytes-append, row-bytes-length}
+use Rattle.book.specs.Here.{places, width}
 use Rattle.session.specs.View.{entryAt}
 use Rattle.session.specs.Laws.{row-wide}
+use Rattle.session.specs.Held as Fields
 use Rattle.capture.specs.Calls.{recordBytes, wrapped, rowOf}
 
 -- ---- cost bytes
@@ -126,7 +128,7 @@ module _ (arrival costs : List ℕ) where
 
   next-record : (i p : ℕ) → p ≡ getD arrival i 0 % places
       → recordBytes p (take (width * p + width - width * p) (drop (width * p) costs)) ≡ rowBytes (entryAt (wrapped arrival) costs i ∷ [])
-  unfolding entryAt block
+  unfolding Fields.entryAt block
   next-record i p e =
       let q : width * p + width - width * p ≡ width = omega arith in
       ap (λ k. recordBytes p (take k (drop (width * p) costs))) q

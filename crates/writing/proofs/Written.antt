@@ -11,14 +11,17 @@ use borrow.Author.Tests.{le-leb, lt-leb}
 use Rattle.refusals.specs.Refusal.{accepted, wrongSize, placeMissing}
 use Rattle.lists.specs.Listed.{listed, listed-ext}
 use Rattle.lists.specs.Block.{block}
-use Rattle.book.specs.Book.{places, width, Entry, someMissing}
+use Rattle.book.specs.Model.{modem64}
+use Rattle.book.specs.Book.{Entry}
 use Rattle.book.specs.Capture.{rowBytes, captureLength, captureOf}
 use Rattle.book.specs.Writing.{Filled}
 use Rattle.book.specs.RowLaws.{missing-count}
 use Rattle.book.specs.RoundTrip.{write-size, write-missing, write-accepted}
+use Rattle.book.specs.Here.{places, width, someMissing}
 use Rattle.session.specs.declared.Session.{Session}
 use Rattle.session.specs.View.{entryAt, bookOf, Good}
 use Rattle.session.specs.Laws.{good-proper, book-length, list-length, arrived-below}
+use Rattle.session.specs.Held as Fields
 use Rattle.capture.specs.Calls.{headBytes, wrapped, rowOf, Writing}
 use Rattle.writing.proofs.Parts.{wrapped-at}
 
@@ -58,7 +61,7 @@ module _ (s : Session) (before : List ℕ) where
 
     counted : Good s → someMissing (bookOf s .row) ≡ not (leb places (s .taken))
     counted good =
-        missing-count (bookOf s .row) (good-proper s good .in-range) (good-proper s good .apart)
+        missing-count modem64 (bookOf s .row) (good-proper s good .in-range) (good-proper s good .apart)
         ∙ ap (λ n. not (leb places n)) (book-length s good)
 
     pub writing-missing : s .taken < places → Writing s before placeMissing before
@@ -76,7 +79,7 @@ module _ (s : Session) (before : List ℕ) where
 
     -- the row that was written is the session's
     same-row : Good s → places ≤ s .taken → rowOf (s .arrival) (s .costs) places ≡ bookOf s .row
-    unfolding rowOf bookOf entryAt
+    unfolding rowOf bookOf Fields.entryAt
     same-row good h =
         let n : places ≡ s .taken = omega (arith, good .taken-fits) in
         ap (λ k. listed k (entryAt (wrapped (s .arrival)) (s .costs))) n

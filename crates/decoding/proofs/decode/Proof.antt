@@ -3,7 +3,7 @@ use mathlib.Core.Path.{_≡_, sym, _∙_}
 use native.Mathlib.Omega.{arith}
 use lib.ListN.{length}
 use Rattle.code.specs.Rates.{known-bounds}
-use Rattle.book.specs.Closing.{reportLength}
+use Rattle.book.specs.Here.{reportLength}
 use Rattle.chase.specs.Laws.{nearest-call}
 use Rattle.decoding.proofs.Answered.{list-few, tests-few, answered-none, decoded-near}
 use borrow.Author.Needs.{needs}

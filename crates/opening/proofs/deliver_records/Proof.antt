@@ -4,9 +4,8 @@ use mathlib.Core.Path.{_≡_, refl}
 use Prim.Native.Nat.{_-_, _*_, _≤_}
 use native.Mathlib.Omega.{arith}
 use lib.ListN.{drop}
-use Rattle.book.specs.Book.{places}
 use Rattle.book.specs.Capture.{recordsOf}
-use Rattle.book.specs.CaptureOpening.{deliverRow}
+use Rattle.book.specs.Here.{places, deliverRow}
 use Rattle.session.specs.View.{bookOf, Good}
 use Rattle.opening.proofs.Delivering.{turn, stop, finish}
 use Rattle.opening.proofs.deliver_records.Statement.{statement}

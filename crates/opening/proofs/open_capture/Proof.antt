@@ -5,9 +5,9 @@ use mathlib.Core.List.{List}
 use Prim.Native.Nat.{ℕ, _+_, _-_}
 use native.Mathlib.Omega.{arith}
 use lib.ListN.{length, take, drop}
-use Rattle.book.specs.Book.{places}
 use Rattle.book.specs.Capture.{bodyLength, recordsOf}
-use Rattle.book.specs.CaptureOpening.{deliverRow, rateIn, doubtIn, lengthIn, openCaptureOf}
+use Rattle.book.specs.CaptureOpening.{rateIn, doubtIn, lengthIn, openCaptureOf}
+use Rattle.book.specs.Here.{places, deliverRow}
 use Rattle.session.specs.declared.Opened.{Opened}
 use Rattle.session.specs.View.{bookOf, Good}
 use Rattle.session.specs.Calls.{openedOf, Opening}

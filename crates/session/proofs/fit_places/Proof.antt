@@ -4,19 +4,20 @@ use mathlib.Core.Path.{_≡_}
 use Prim.Native.Nat.{_-_, _≤_}
 use native.Mathlib.Omega.{arith}
 use lib.ListN.{length, drop}
-use Rattle.book.specs.Opening.{fitPlaces}
-use Rattle.session.proofs.Scan.{fitsFrom, fits-start, fits-next, fits-above, fits-fallen, fits-end}
+use Rattle.book.specs.Here.{fitPlaces}
+use Rattle.book.specs.Model.{modem64}
+use Rattle.session.specs.Scan.{fitsFrom, fits-start, fits-next, fits-above, fits-fallen, fits-end}
 use Rattle.session.proofs.fit_places.Statement.{statement}
 use Rattle.session.proofs.fit_places.Tie as tie
 
 abbrev Inv-loop : tie.InvT-loop
-Inv-loop list least₀ i₀ least i = (i ≤ length list) × (fitPlaces list ≡ fitsFrom least (drop i list))
+Inv-loop list least₀ i₀ least i = (i ≤ length list) × (fitPlaces list ≡ fitsFrom modem64 least (drop i list))
 
 abbrev μ-loop : tie.MeasureT-loop
 μ-loop list least₀ i₀ least i = length list - i
 
 loop-holds : tie.Need-loop-holds Inv-loop μ-loop
-loop-holds c = (omega arith, fits-start _)
+loop-holds c = (omega arith, fits-start modem64 _)
 
 shared-slice-read-place : tie.Need-shared-slice-read-place Inv-loop μ-loop
 shared-slice-read-place c = search needs
@@ -25,11 +26,11 @@ cast-place : tie.Need-cast-place Inv-loop μ-loop
 cast-place c = omega (arith, c .shared-slice-known .given (c .before .before .loop .i))
 
 returns : tie.Need-returns Inv-loop μ-loop
-returns c = fits-above _ _ _ (c .before .before .loop-test .taken) (c .before .before .before .loop .inv .1) (c .if1 .taken)
+returns c = fits-above modem64 _ _ _ (c .before .before .loop-test .taken) (c .before .before .before .loop .inv .1) (c .if1 .taken)
 
 returns-2 : tie.Need-returns-2 Inv-loop μ-loop
 returns-2 c =
-    fits-fallen _ _ _ (c .before .before .before .loop-test .taken) (c .before .before .before .before .loop .inv .1) (c .if2 .taken)
+    fits-fallen modem64 _ _ _ (c .before .before .before .loop-test .taken) (c .before .before .before .before .loop .inv .1) (c .if2 .taken)
 
 add-least : tie.Need-add-least Inv-loop μ-loop
 add-least c = search needs
@@ -43,12 +44,12 @@ loop-less c = search needs
 loop-again : tie.Need-loop-again Inv-loop μ-loop
 loop-again c = (
   omega arith,
-  fits-next _ _ _ (c .before .before .before .loop-test .taken) (c .before .before .before .before .loop .inv .1) (c .before .if1 .left)
+  fits-next modem64 _ _ _ (c .before .before .before .loop-test .taken) (c .before .before .before .before .loop .inv .1) (c .before .if1 .left)
       (c .if2 .left),
 )
 
 returns-3 : tie.Need-returns-3 Inv-loop μ-loop
-returns-3 c = fits-end _ _ _ (c .loop-test .left) (c .before .loop .inv .1)
+returns-3 c = fits-end modem64 _ _ _ (c .loop-test .left) (c .before .loop .inv .1)
 
 pub fit-places-spec : {M : Type 1} → statement M
 fit-places-spec =

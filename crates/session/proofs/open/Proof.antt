@@ -5,7 +5,8 @@ use native.Mathlib.Omega.{arith}
 use borrow.Author.Tests.{not-true, not-false}
 use Rattle.code.specs.Rates.{known-bounds}
 use Rattle.session.specs.declared.Session.{Session}
-use Rattle.session.proofs.Scan.{long-unfit, short-fit}
+use Rattle.book.specs.Model.{modem64}
+use Rattle.session.specs.Scan.{long-unfit, short-fit}
 use Rattle.session.specs.Laws.{opened-rate, opened-list, opened-new}
 use Rattle.session.proofs.open.Statement.{statement}
 use Rattle.session.proofs.open.Tie as tie
@@ -30,7 +31,7 @@ returns-2 c =
     ∙ sym
     (opened-list _ _
     (sym (c .before .before .before .known-rate .ensures) ∙ not-false _ (c .before .before .if1 .left))
-    (long-unfit _ (c .before .if2 .taken)))
+    (long-unfit modem64 _ (c .before .if2 .taken)))
 
 fit-places-requires : tie.Need-fit-places-requires
 fit-places-requires c κs = search needs
@@ -44,7 +45,7 @@ returns-3 c =
     ∙ sym
     (opened-list _ _
     (sym (c .before .before .before .before .before .known-rate .ensures) ∙ not-false _ (c .before .before .before .before .if1 .left))
-    (short-fit _ (c .before .before .before .if2 .left) ∙ sym (c .before .before .fit-places .ensures) ∙ not-true _ (c .before .if3 .taken)))
+    (short-fit modem64 _ (c .before .before .before .if2 .left) ∙ sym (c .before .before .fit-places .ensures) ∙ not-true _ (c .before .if3 .taken)))
 
 cast-new-session : tie.Need-cast-new-session
 cast-new-session c =
@@ -63,7 +64,7 @@ returns-4 c =
     ∙ sym
     (opened-new _ _
     (sym (c .before .before .before .before .before .known-rate .ensures) ∙ not-false _ (c .before .before .before .before .if1 .left))
-    (short-fit _ (c .before .before .before .if2 .left) ∙ sym (c .before .before .fit-places .ensures) ∙ not-false _ (c .before .if3 .left)))
+    (short-fit modem64 _ (c .before .before .before .if2 .left) ∙ sym (c .before .before .fit-places .ensures) ∙ not-false _ (c .before .if3 .left)))
 
 pub open-spec : {M : Type 1} → statement M
 open-spec =

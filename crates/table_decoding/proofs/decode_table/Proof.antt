@@ -4,6 +4,7 @@ use mathlib.Core.Path.{_≡_, sym, _∙_}
 use mathlib.Core.Logic.{inl, inr}
 use borrow.Author.Tests.{not-true, not-false}
 use Rattle.code.specs.Encoding.{knownRate}
+use Rattle.book.specs.Model.{modem64}
 use Rattle.book.specs.Closing.{refusedClosing}
 use Rattle.book.specs.Table.{table-rate, table-size, table-doubt}
 use Rattle.table_decoding.proofs.Tabled.{table-asked, table-answers}
@@ -20,25 +21,25 @@ known c = sym (c .before .known-rate .ensures) ∙ not-false _ (c .if1 .left)
 
 returns : tie.Need-returns
 unfolding refusedClosing
-returns c = sym (table-rate _ _ _ _ _ (sym (c .before .known-rate .ensures) ∙ not-true _ (c .if1 .taken)))
+returns c = sym (table-rate modem64 _ _ _ _ _ (sym (c .before .known-rate .ensures) ∙ not-true _ (c .if1 .taken)))
 
 returns-2 : tie.Need-returns-2
 unfolding refusedClosing
-returns-2 c = sym (table-size _ _ _ _ _ (known (c .before)) (inl (c .if2 .taken)))
+returns-2 c = sym (table-size modem64 _ _ _ _ _ (known (c .before)) (inl (c .if2 .taken)))
 
 returns-3 : tie.Need-returns-3
 unfolding refusedClosing
-returns-3 c = sym (table-size _ _ _ _ _ (known (c .before .before)) (inr (inl (c .if3 .taken))))
+returns-3 c = sym (table-size modem64 _ _ _ _ _ (known (c .before .before)) (inr (inl (c .if3 .taken))))
 
 returns-4 : tie.Need-returns-4
 unfolding refusedClosing
-returns-4 c = sym (table-size _ _ _ _ _ (known (c .before .before .before)) (inr (inr (c .if4 .taken))))
+returns-4 c = sym (table-size modem64 _ _ _ _ _ (known (c .before .before .before)) (inr (inr (c .if4 .taken))))
 
 returns-5 : tie.Need-returns-5
 unfolding refusedClosing
 returns-5 c =
     sym
-    (table-doubt _ _ _ _ _ (known (c .before .before .before .before)) (c .before .before .before .if2 .left) (c .before .before .if3 .left)
+    (table-doubt modem64 _ _ _ _ _ (known (c .before .before .before .before)) (c .before .before .before .if2 .left) (c .before .before .if3 .left)
     (c .before .if4 .left) (c .if5 .taken))
 
 table-from-requires : tie.Need-table-from-requires

@@ -1,0 +1,129 @@
+-- What document 01 says of every call and every list of calls, each a theorem of the book of the modem of 64 places.
+--
+--   write-kept, refused-lent, refused-after   a refused call leaves its buffers, and the book, as they were
+--   only-delivery        only an accepted delivery changes the book
+--   rate-held, list-held a list of calls leaves the rate and the doubtful list as they were given at opening
+--   Fits call, AllFit calls   what the types say of the arguments of a call, and of a list of calls: a delivery's column is a column
+--   after-costs          the row that such a list of calls leaves has such columns
+--   calls-show           so an accepted closing of an opened session after every list of calls shows the numbers of the message that it gives
+use mathlib.Core.Bool.{Bool, true, false}
+use mathlib.Core.Path.{_≡_, refl, ap}
+use mathlib.Core.List.{List, [], _∷_}
+use mathlib.Core.Logic.{_≢_, _⊎_, inl, inr}
+use Prim.Native.Nat.{ℕ, _<_}
+use native.Mathlib.Decide.{decLt}
+use native.Mathlib.Omega.{arith}
+use lib.Dec.{eqb}
+use lib.ListN.{length}
+use borrow.Author.Tests.{eqb-true, eqb-false}
+use Rattle.refusals.specs.Refusal.{accepted}
+use Rattle.book.specs.Model.{modem64}
+use Rattle.book.specs.Book.{Book, newBook, taken, Outcome}
+use Rattle.book.specs.Delivery.{withEntry}
+use Rattle.book.specs.Capture.{captureLength}
+use Rattle.book.specs.Writing.{Filled, writeOf}
+use Rattle.book.specs.ReadingLaws.{read-kept}
+use Rattle.book.specs.ClosingLaws.{close-kept}
+use Rattle.book.specs.RowLaws.{deliver-above, deliver-taken, deliver-accepted}
+use Rattle.book.specs.RoundTrip.{write-size, write-missing, write-accepted}
+use Rattle.book.specs.Machine.{afterBy, part-held, Each, fit-nil, fit-cons}
+use Rattle.book.specs.Calls.{Call, deliver, reading, writing, closing, firstLent, secondLent, answer, after, afterAll}
+use Rattle.book.specs.Sentences.{deliver-kept, deliver-held}
+use Rattle.book.specs.Costs.{new-costs, deliver-costs}
+use Rattle.book.specs.Report.{closing-shows}
+use Rattle.book.specs.Here.{places, someMissing, deliverOf, closeOf, DoubtfulList, RowColumns, IsColumn, ReportedIn}
+
+-- ---- 'Only an accepted delivery changes the book. A refused call leaves its buffers as they were.'
+
+module _ (book : Book) where
+  pub write-kept : (out : List ℕ) → writeOf book out .number ≢ accepted → writeOf book out .bytes ≡ out
+  write-kept out n = go (eqb (length out) (captureLength (length (book .doubtful)))) refl (someMissing (book .row)) refl
+    where
+      size : ℕ
+      size = captureLength (length (book .doubtful))
+
+      go : (x : Bool) → eqb (length out) size ≡ x → (y : Bool) → someMissing (book .row) ≡ y → writeOf book out .bytes ≡ out
+      go false e y m = ap (λ (f : Filled). f .bytes) (write-size book out (eqb-false (length out) size e))
+      go true e true m = ap (λ (f : Filled). f .bytes) (write-missing book out (eqb-true (length out) size e) m)
+      go true e false m = absurd (n (ap (λ (f : Filled). f .number) (write-accepted book out (eqb-true (length out) size e) m)))
+
+  pub refused-lent : (call : Call) → answer book call .number ≢ accepted
+      → (answer book call .first ≡ firstLent call) × (answer book call .second ≡ secondLent call)
+  unfolding answer firstLent secondLent
+  refused-lent (deliver p column) n = (refl, refl)
+  refused-lent (reading out) n = (read-kept book out n, refl)
+  refused-lent (writing out) n = (write-kept out n, refl)
+  refused-lent (closing message report) n =
+      let k = close-kept modem64 book message report n in
+      (k .message-kept, k .report-kept)
+
+  pub refused-after : (call : Call) → answer book call .number ≢ accepted → after book call ≡ book
+  unfolding answer after
+  refused-after (deliver p column) n = deliver-kept modem64 book p column n
+  refused-after (reading out) n = refl
+  refused-after (writing out) n = refl
+  refused-after (closing message report) n = refl
+
+  pub only-delivery : (call : Call)
+      → (after book call ≡ book)
+      ⊎ ((p : ℕ) × (column : List ℕ) × (call ≡ deliver p column) × (answer book call .number ≡ accepted) × (after book call ≡ withEntry book p column))
+  unfolding answer after
+  only-delivery (deliver p column) = go (decLt p places) (taken (book .row) p) refl
+    where
+      go : Dec (p < places) → (b : Bool) → taken (book .row) p ≡ b
+          → (deliverOf book p column .book ≡ book)
+          ⊎ ((q : ℕ) × (c : List ℕ) × (deliver p column ≡ deliver q c) × (deliverOf book p column .number ≡ accepted)
+          × (deliverOf book p column .book ≡ withEntry book q c))
+      go (yes h) true e = inl (ap (λ (o : Outcome). o .book) (deliver-taken modem64 book p column h e))
+      go (yes h) false e =
+          let d = deliver-accepted modem64 book p column h e in
+          inr (p, column, refl, ap (λ (o : Outcome). o .number) d, ap (λ (o : Outcome). o .book) d)
+      go (no h) b e = inl (ap (λ (o : Outcome). o .book) (deliver-above modem64 book p column (omega arith)))
+  only-delivery (reading out) = inl refl
+  only-delivery (writing out) = inl refl
+  only-delivery (closing message report) = inl refl
+
+-- ---- 'It holds the rate and doubtful list given at opening'
+
+held : (book : Book) (call : Call) → (after book call .rate ≡ book .rate) × (after book call .doubtful ≡ book .doubtful)
+unfolding after
+held book (deliver p column) = deliver-held modem64 book p column
+held book (reading out) = (refl, refl)
+held book (writing out) = (refl, refl)
+held book (closing message report) = (refl, refl)
+
+pub rate-held : (book : Book) (calls : List Call) → afterAll book calls .rate ≡ book .rate
+rate-held = part-held after (λ (book : Book). book .rate) (λ book call. held book call .0)
+
+pub list-held : (book : Book) (calls : List Call) → afterAll book calls .doubtful ≡ book .doubtful
+list-held = part-held after (λ (book : Book). book .doubtful) (λ book call. held book call .1)
+
+-- ---- the columns of the row
+
+abbrev pub Fits : Call → Type 0
+Fits (deliver p column) = IsColumn column
+Fits (reading out) = Unit
+Fits (writing out) = Unit
+Fits (closing message report) = Unit
+
+abbrev pub AllFit : List Call → Type 0
+AllFit calls = Each Fits calls
+
+pub after-costs : (book : Book) {calls : List Call} → AllFit calls → RowColumns (book .row) → RowColumns (afterAll book calls .row)
+unfolding afterBy after
+after-costs book fit-nil all = all
+after-costs book (fit-cons {call = deliver p column} c fit) all =
+    after-costs (deliverOf book p column .book) fit (deliver-costs modem64 book p column all c)
+after-costs book (fit-cons {call = reading out} u fit) all = after-costs book fit all
+after-costs book (fit-cons {call = writing out} u fit) all = after-costs book fit all
+after-costs book (fit-cons {call = closing message report} u fit) all = after-costs book fit all
+
+-- ---- the report
+
+pub calls-show : (rate : ℕ) {list : List ℕ} → DoubtfulList list → {calls : List Call} → AllFit calls → (message report : List ℕ)
+    → closeOf (afterAll (newBook rate list) calls) message report .number ≡ accepted
+    → ReportedIn (afterAll (newBook rate list) calls) (closeOf (afterAll (newBook rate list) calls) message report)
+unfolding newBook
+calls-show rate {list} d {calls} fit message report n =
+    closing-shows modem64 (afterAll (newBook rate list) calls) message report (after-costs (newBook rate list) fit (new-costs modem64 rate list))
+    (omega (arith, ap length (list-held (newBook rate list) calls), d .short)) n

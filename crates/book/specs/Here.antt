@@ -1,0 +1,162 @@
+-- The book of the modem of 64 places, under the names that the crates above use: every modem's, at modem64.
+--
+--   places, width        its 64 places and the sixteen costs in a column, of `soft` Column
+--   reportLength, tableLength   the report's 8 bytes and the table's 2,048
+--   pinnedIn, changedIn  the report's last two bytes: pinned-byte, changed-byte
+--
+-- All others mean what they mean in Book, Opening, Delivery, Columns, Entries, RowLaws, OpeningLaws, Closing, Table, Sentences, Costs, Report and Repairs.
+use mathlib.Core.Bool.{Bool}
+use mathlib.Core.Path.{_≡_}
+use mathlib.Core.List.{List}
+use Prim.Native.Nat.{ℕ}
+use lib.ListN.{getD}
+use Rattle.soft.specs.Column as Column
+use Rattle.book.specs.Model.{modem64}
+use Rattle.book.specs.Book as Books
+use Rattle.book.specs.Book.{Entry, Book, Outcome}
+use Rattle.book.specs.Opening as Opening
+use Rattle.book.specs.Delivery as Delivery
+use Rattle.book.specs.Columns as Columns
+use Rattle.book.specs.Entries as Entries
+use Rattle.book.specs.RowLaws as RowLaws
+use Rattle.book.specs.OpeningLaws as OpeningLaws
+use Rattle.book.specs.Closing as Closing
+use Rattle.book.specs.Closing.{Closed}
+use Rattle.book.specs.Table as Table
+use Rattle.book.specs.Sentences as Sentences
+use Rattle.book.specs.Costs as Costs
+use Rattle.book.specs.Report as Report
+use Rattle.book.specs.Repairs as Repairs
+
+abbrev pub places : ℕ
+places = Column.places
+
+abbrev pub width : ℕ
+width = Column.symbols
+
+abbrev pub missing : List Entry → ℕ → Bool
+missing row p = Books.missing modem64 row p
+
+abbrev pub someMissing : List Entry → Bool
+someMissing row = Books.someMissing modem64 row
+
+abbrev pub Missing : List Entry → ℕ → Type 0
+Missing row p = Entries.Missing modem64 row p
+
+-- ---- opening and delivery
+
+abbrev pub fitPlaces : List ℕ → Bool
+fitPlaces list = Opening.fitPlaces modem64 list
+
+abbrev pub fitDoubt : List ℕ → Bool
+fitDoubt list = Opening.fitDoubt modem64 list
+
+abbrev pub DoubtfulList : List ℕ → Type 0
+DoubtfulList list = OpeningLaws.DoubtfulList modem64 list
+
+abbrev pub refusedOpening : ℕ → Outcome
+refusedOpening n = Opening.refusedOpening modem64 n
+
+abbrev pub openOf : ℕ → List ℕ → Outcome
+openOf rate list = Opening.openOf modem64 rate list
+
+abbrev pub deliverOf : Book → ℕ → List ℕ → Outcome
+deliverOf book p column = Delivery.deliverOf modem64 book p column
+
+abbrev pub onAccepted : Outcome → (Book → Outcome) → Outcome
+onAccepted o next = Delivery.onAccepted modem64 o next
+
+abbrev pub deliverRow : Book → List Entry → Outcome
+deliverRow book entries = Delivery.deliverRow modem64 book entries
+
+-- ---- rows
+
+abbrev pub columnsOf : List Entry → ℕ → List ℕ
+columnsOf row p = Columns.columnsOf modem64 row p
+
+abbrev pub wide : List Entry → Bool
+wide row = RowLaws.wide modem64 row
+
+abbrev pub Proper : Book → Type 0
+Proper book = RowLaws.Proper modem64 book
+
+abbrev pub IsColumn : List ℕ → Type 0
+IsColumn column = Costs.IsColumn modem64 column
+
+abbrev pub AreColumns : (ℕ → List ℕ) → Type 0
+AreColumns columns = Costs.AreColumns modem64 columns
+
+abbrev pub RowColumns : List Entry → Type 0
+RowColumns row = Costs.RowColumns modem64 row
+
+-- ---- closing
+
+abbrev pub reportLength : ℕ
+reportLength = 8
+
+abbrev pub reportFor : ℕ → (ℕ → List ℕ) → List ℕ → List ℕ → List ℕ
+reportFor k columns doubtful m = Closing.reportFor modem64 k columns doubtful m
+
+abbrev pub decodeOf : ℕ → (ℕ → List ℕ) → List ℕ → List ℕ → List ℕ → Closed
+decodeOf k columns doubtful message report = Closing.decodeOf modem64 k columns doubtful message report
+
+abbrev pub closeOf : Book → List ℕ → List ℕ → Closed
+closeOf book message report = Closing.closeOf modem64 book message report
+
+abbrev pub IsNear : Book → ℕ → List ℕ → Type 0
+IsNear book T m = Sentences.IsNear modem64 book T m
+
+abbrev pub IsAnswer : Book → ℕ → Closed → Type 0
+IsAnswer book T c = Sentences.IsAnswer modem64 book T c
+
+abbrev pub Closes : Book → ℕ → Closed → Type 0
+Closes book T c = Sentences.Closes modem64 book T c
+
+abbrev pub FewWrong : ℕ → (ℕ → List ℕ) → List ℕ → ℕ → List ℕ → Type 0
+FewWrong k columns doubtful T m = Repairs.FewWrong modem64 k columns doubtful T m
+
+abbrev pub notBest : ℕ → (ℕ → List ℕ) → List ℕ → ℕ
+notBest k columns m = Repairs.notBest modem64 k columns m
+
+abbrev pub Repaired : ℕ → (ℕ → List ℕ) → List ℕ → List ℕ → Closed → Type 0
+Repaired k columns doubtful m c = Repairs.Repaired modem64 k columns doubtful m c
+
+abbrev pub NoDearer : ℕ → (ℕ → List ℕ) → List ℕ → List ℕ → Closed → Type 0
+NoDearer k columns doubtful m c = Repairs.NoDearer modem64 k columns doubtful m c
+
+-- ---- the report
+
+abbrev pub pinnedIn : List ℕ → ℕ
+pinnedIn report = getD report 6 0
+
+abbrev pub changedIn : List ℕ → ℕ
+changedIn report = getD report 7 0
+
+pub pinned-byte : (report : List ℕ) → Report.pinnedIn modem64 report ≡ pinnedIn report
+pinned-byte report = Report.number-byte 6 report
+
+pub changed-byte : (report : List ℕ) → Report.changedIn modem64 report ≡ changedIn report
+changed-byte report = Report.number-byte 7 report
+
+abbrev pub Shows : List ℕ → ℕ → ℕ → ℕ → ℕ → Type 0
+Shows report total tests pinned changed = Report.Shows modem64 report total tests pinned changed
+
+abbrev pub ReportedIn : Book → Closed → Type 0
+ReportedIn book c = Report.ReportedIn modem64 book c
+
+-- ---- table decoding
+
+abbrev pub tableLength : ℕ
+tableLength = 2048
+
+abbrev pub tableColumns : List ℕ → ℕ → List ℕ
+tableColumns table p = Table.tableColumns modem64 table p
+
+abbrev pub pickedOf : List ℕ → ℕ → List ℕ
+pickedOf table doubt = Table.pickedOf modem64 table doubt
+
+abbrev pub tableOf : ℕ → List ℕ → ℕ → List ℕ → List ℕ → Closed
+tableOf rate table doubt message report = Table.tableOf modem64 rate table doubt message report
+
+abbrev pub Delivered : List ℕ → List Entry → Type 0
+Delivered table row = Table.Delivered modem64 table row

@@ -1,0 +1,66 @@
+-- A modem of the family: what document 01 fixes for one. The book, what it answers and the laws of that are stated for every modem.
+--
+--   Model              its member of the family; the known rates, each of which can be worked with; the largest doubt, which is also the length of the
+--                      longest doubtful list; the rate that a refused opening hands back, a known one; how many bytes the report has for each count of
+--                      places; and that no count, total or number of test words is too large for its bytes
+--   places 𝓓, width 𝓓  how many places there are, and how many costs a column has: one for each symbol
+--   modem64            document 01's: GF(16) with w = 4, so 64 places and sixteen costs; rates 39 and 49, a doubt of at most 8, rate 39 after a refusal,
+--                      and a byte for each count
+use mathlib.Core.Bool.{Bool, true}
+use mathlib.Core.Path.{_≡_, refl}
+use Prim.Native.Nat.{ℕ, _*_, _^_, _<_, _≤_}
+use native.Mathlib.Omega.{arith}
+use lib.Dec.{lit<, lit≤}
+use Rattle.soft.specs.Column.{ceiling}
+use Rattle.soft.specs.Doubt as Doubt
+use Rattle.family.specs.Member.{Member, m16}
+use Rattle.family.specs.Member as Family
+use Rattle.code.specs.Encoding.{knownRate}
+use Rattle.code.specs.Rates.{known-bounds}
+use Rattle.near.specs.Reach.{Workable}
+use Rattle.near.specs.Here as Near
+
+pub record Model : Type 0 where
+  pub member : Member
+  pub known : ℕ → Bool
+  pub workable : (k : ℕ) → known k ≡ true → Workable member k
+  pub mostDoubt : ℕ
+  pub doubt-fits : mostDoubt ≤ Family.places member
+  pub first : ℕ
+  pub first-known : known first ≡ true
+  pub wide : ℕ
+  pub counts-fit : Family.places member < 256 ^ wide
+  pub totals-fit : Family.places member * ceiling < 256 ^ 4
+  pub tests-fit : 2 ^ mostDoubt < 256 ^ 2
+
+module _ (𝓓 : Model) where
+  abbrev pub places : ℕ
+  places = Family.places (𝓓 .member)
+
+  abbrev pub width : ℕ
+  width = Family.symbols (𝓓 .member)
+
+-- ---- the modem of 64 places
+
+pub known-workable : (k : ℕ) → knownRate k ≡ true → Workable m16 k
+known-workable k known = let b = known-bounds k known in Near.workable (omega (arith, b)) (omega (arith, b))
+
+pub known-39 : knownRate 39 ≡ true
+unfolding knownRate
+known-39 = refl
+
+abbrev pub modem64 : Model
+modem64 =
+    record {
+      member = m16;
+      known = knownRate;
+      workable = known-workable;
+      mostDoubt = Doubt.mostDoubt;
+      doubt-fits = lit≤ tt;
+      first = 39;
+      first-known = known-39;
+      wide = 1;
+      counts-fit = lit< tt;
+      totals-fit = lit< tt;
+      tests-fit = lit< tt;
+    }
