@@ -19,7 +19,7 @@ use Rattle.code.specs.Rates.{mostRate}
 use Rattle.soft.specs.Column.{places, symbols}
 use Rattle.soft.specs.Total.{everywhere, differing}
 use Rattle.near.specs.Here.{mOf, reachOf, nearTo, codewordNear}
-use Rattle.near.specs.Laws.{only-near, only-far}
+use Rattle.near.specs.Laws.{single-near, single-far}
 use Rattle.near.specs.Held as Family
 use Rattle.interpolation.specs.Polynomial.{polynomial}
 use Rattle.family.specs.Member.{m16}
@@ -40,8 +40,8 @@ pub record CandidateOf (k : ℕ) (row : List ℕ) (r : Candidate) : Type 0 where
 module _ {k : ℕ} {row : List ℕ} {r : Candidate} (C : CandidateOf k row r) (word : List ℕ) (h : Held k word row) where
   pub candidate-near : differing places (r .codeword) word ≤ reachOf k → codewordNear k word ≡ some (take k (r .message))
   candidate-near close =
-      only-near m16 everywhere (reachOf k) k word (C .word) (C .only word h) (subst (λ c. differing places c word ≤ reachOf k) (C .encoded) close)
+      single-near m16 everywhere (reachOf k) k word (C .word) (C .only word h) (subst (λ c. differing places c word ≤ reachOf k) (C .encoded) close)
 
   pub candidate-far : reachOf k < differing places (r .codeword) word → codewordNear k word ≡ none
   candidate-far far =
-      only-far m16 everywhere (reachOf k) k word (C .word) (C .only word h) (subst (λ c. reachOf k < differing places c word) (C .encoded) far)
+      single-far m16 everywhere (reachOf k) k word (C .word) (C .only word h) (subst (λ c. reachOf k < differing places c word) (C .encoded) far)

@@ -4,15 +4,20 @@
 --   different-append     two such lists with no entry in common, one after the other
 --   different-at         equal entries stand at one index
 --   rising-different     a rising list is such a list
+--   different-distinct   such a list of numbers is distinct
+--   count-among          numbers that pass a test only if they are among others are no more than those
+use mathlib.Core.Bool.{Bool, true, not}
 use mathlib.Core.Path.{_≡_, refl, sym, ap, subst}
 use mathlib.Core.List.{List, [], _∷_, _++_, List·Memᴰ, List·Memᴰ·head, List·Memᴰ·tail, List·Memᴰ·append-cases}
 use mathlib.Core.Logic.{⊎-elim}
-use Prim.Native.Nat.{ℕ, zero, suc, _<_}
+use Prim.Native.Nat.{ℕ, zero, suc, _<_, _≤_}
 use native.Mathlib.Nat.{le-of-suc-le-suc}
 use native.Mathlib.Omega.{arith}
+use lib.Dec.{T}
 use lib.ListN.{length, getD}
 use Rattle.lists.specs.Member.{member-at, at-member}
-use Rattle.lists.specs.Count.{Rising}
+use Rattle.lists.specs.Count.{Rising, count, kept, kept-length, kept-passes, kept-rising}
+use Rattle.lists.specs.Distinct.{among, distinct, and-both, not-among, member-among, distinct-le}
 
 module _ {A : Type 0} where
   pub data Different : List A → Type 0 where
@@ -40,3 +45,18 @@ rising-different (x ∷ l) r =
     different-cons {a = x} {l = l}
     (λ m. let s = at-member 0 m in omega (arith, r .rises 0 (suc (s .0)) (omega arith) (omega (arith, s .1)), s .2))
     (rising-different l (record { rises = λ i j a b. r .rises (suc i) (suc j) (omega arith) (omega arith) }))
+
+pub different-distinct : {l : List ℕ} → Different l → distinct l ≡ true
+unfolding distinct
+different-distinct different-nil = refl
+different-distinct (different-cons {a = a} {l = l} h d) =
+    and-both (not (among a l)) (distinct l) (ap not (not-among a l h)) (different-distinct d)
+
+pub count-among : (l : List ℕ) (n : ℕ) (f : ℕ → Bool) → ((k : ℕ) → k < n → T (f k) → among k l ≡ true) → count n f ≤ length l
+count-among l n f h =
+    omega (
+      arith,
+      kept-length n f,
+      distinct-le (kept n f) l (different-distinct (rising-different (kept n f) (kept-rising n f)))
+          (λ k a. let r = kept-passes n f k (member-among k (kept n f) a) in h k (r .0) (r .1)),
+    )

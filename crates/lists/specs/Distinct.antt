@@ -6,7 +6,7 @@
 --   among-append, distinct-snoc, distinct-before, below-append     of a longer list
 --   below-take, below-drop                        of a part
 --   among-at, below-at                            what stands at an index is among them, and is below n
---   among-member                                  a member is among them
+--   among-member, member-among, not-among         exactly a member is among them
 --   distinct-le      distinct numbers that are all among others are no more than those
 --   distinct-bound   distinct numbers below n are at most n
 --   distinct-all     n distinct numbers below n are all of them
@@ -156,6 +156,20 @@ pub among-member : {p : ℕ} {l : List ℕ} → List·Memᴰ p l → among p l �
 unfolding among
 among-member {p} (List·Memᴰ·head {x = x} {xs = l} e) = ap (λ b. b || among p l) (eq-eqb x p (sym e))
 among-member {p} (List·Memᴰ·tail {x = x} {xs = l} m) = or-right (eqb x p) (among p l) (among-member m)
+
+pub member-among : (p : ℕ) (l : List ℕ) → among p l ≡ true → List·Memᴰ p l
+unfolding among
+member-among p [] e = absurd (false≢true e)
+member-among p (x ∷ l) e = go (eqb x p) refl e (member-among p l)
+  where
+    go : (b : Bool) → eqb x p ≡ b → (b || among p l) ≡ true → (among p l ≡ true → List·Memᴰ p l) → List·Memᴰ p (x ∷ l)
+    go true q t later = List·Memᴰ·head (sym (eqb-true x p q))
+    go false q t later = List·Memᴰ·tail (later t)
+
+pub not-among : (p : ℕ) (l : List ℕ) → ¬ List·Memᴰ p l → among p l ≡ false
+unfolding among
+not-among p [] n = refl
+not-among p (x ∷ l) n = rw (ne-eqb x p (λ e. n (List·Memᴰ·head (sym e)))) (not-among p l (λ m. n (List·Memᴰ·tail m)))
 
 pub below-at : (n : ℕ) (l : List ℕ) (i : ℕ) → below n l ≡ true → i < length l → getD l i 0 < n
 below-at n [] i e h = absurd (omega arith)

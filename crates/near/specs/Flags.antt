@@ -17,8 +17,8 @@ use native.Mathlib.Numerals.{add-one}
 use native.Mathlib.Omega.{arith}
 use lib.ListN.{length, getD, take, drop, set, replicate, length-set, length-take, length-replicate, getD-replicate, take-append-drop}
 use lib.Seq.{take-suc, take-take, getD-set-same, getD-set-other, getD-take}
-use Rattle.lists.specs.Distinct.{among-member, below, below-append, below-one, below-at, distinct, distinct-snoc, distinct-before, and-left, and-right, and-both}
-use Rattle.near.specs.Tree.{Places, places-at, not-among}
+use Rattle.lists.specs.Distinct.{among-member, not-among, below, below-append, below-one, below-at, distinct, distinct-snoc, distinct-before, and-left, and-right, and-both}
+use Rattle.near.specs.Tree.{Places, places-at}
 use Rattle.near.specs.Left.{left-cons}
 
 module _ (n : ℕ) where

@@ -10,21 +10,21 @@
 --   governed-only             a message whose codeword is within T of a governed word is the one that governs it
 --   governed-here             whether there is one is whether the codeword that governs is within T
 --   within-tests, within-some, within-none   so the test words that it governs are only counted: how many are near, and the answer
-use mathlib.Core.Bool.{Bool, true, false, not, _&&_, _||_}
+use mathlib.Core.Bool.{Bool, true, false, not, _&&_, _||_, false≢true}
 use mathlib.Core.Path.{_≡_, refl, sym, ap, _∙_, subst}
 use mathlib.Core.List.{List, [], _∷_, List·Memᴰ, List·Memᴰ·head, List·Memᴰ·tail, List·Memᴰ·cases-cons, List·Memᴰ·not-nil}
-use mathlib.Core.Logic.{_⊎_, inl, inr, ⊎-elim}
+use mathlib.Core.Logic.{inl, ⊎-elim}
 use mathlib.Core.Option.{some, none}
-use Prim.Native.Nat.{ℕ, zero, suc, _+_, _%_, _<_, _≤_}
+use Prim.Native.Nat.{ℕ, _+_, _%_, _<_, _≤_}
 use native.Mathlib.Nat.{mod-eq-of-lt}
-use native.Mathlib.Decide.{ℕ-discrete}
 use native.Mathlib.Omega.{arith}
-use lib.Dec.{T, eqb, leb, leb→le}
+use lib.Dec.{T, leb, leb→le}
 use lib.ListN.{length, getD, take, drop, set, length-set}
 use lib.Seq.{getD-set-other}
-use borrow.Author.Tests.{eq-eqb, ne-eqb, le-leb}
-use Rattle.lists.specs.Count.{bit, sumOf-mono, sumOf-plus, count, count-nil, count-suc, count-none}
-use Rattle.lists.specs.Every.{both}
+use borrow.Author.Tests.{le-leb}
+use Rattle.lists.specs.Count.{bit, count}
+use Rattle.lists.specs.Distinct.{among, among-member}
+use Rattle.lists.specs.Different.{count-among}
 use Rattle.lists.specs.Words.{Word, Lex, lex-asym, lex-or}
 use Rattle.lists.specs.Answers.{Found, best, answers-unique}
 use Rattle.soft.specs.Total.{differingIn, differAt}
@@ -43,68 +43,6 @@ use Rattle.near.specs.Within.{testsWithin, within-nil, within-cons}
 
 -- ---- words that have the same symbols but at some places differ in no more than these
 
-count-one : (n q : ℕ) → count n (λ p. eqb p q) ≤ 1
-count-one zero q = omega (arith, count-nil (λ p. eqb p q))
-count-one (suc n) q = go (ℕ-discrete n q) (count-one n q)
-  where
-    go : Dec (n ≡ q) → count n (λ p. eqb p q) ≤ 1 → count (suc n) (λ p. eqb p q) ≤ 1
-    go (yes e) ih =
-        omega (
-          arith,
-          count-suc n (λ p. eqb p q),
-          ap bit (eq-eqb n q e),
-          count-none n (λ p. eqb p q) (λ p l. ne-eqb p q (λ (d : p ≡ q). omega arith)),
-        )
-    go (no d) ih = omega (arith, count-suc n (λ p. eqb p q), ap bit (ne-eqb n q d))
-
-part : (a b : Bool) → bit a ≤ bit (both a (not b)) + bit b
-part true true = omega arith
-part true false = omega arith
-part false b = omega arith
-
-count-split : (n q : ℕ) (f : ℕ → Bool) → count n f ≤ count n (λ p. both (f p) (not (eqb p q))) + count n (λ p. eqb p q)
-unfolding count
-count-split n q f =
-    omega (
-      arith,
-      sumOf-mono n (λ p. bit (f p)) (λ p. bit (both (f p) (not (eqb p q))) + bit (eqb p q)) (λ p l. part (f p) (eqb p q)),
-      sumOf-plus n (λ p. bit (both (f p) (not (eqb p q)))) (λ p. bit (eqb p q)),
-    )
-
-count-members : (ps : List ℕ) (n : ℕ) (f : ℕ → Bool) → ((p : ℕ) → p < n → T (f p) → List·Memᴰ p ps) → count n f ≤ length ps
-count-members [] n f h = omega (arith, count-none n f (λ p l. fails (f p) (λ t. List·Memᴰ·not-nil (h p l t))))
-  where
-    fails : (b : Bool) → (T b → ⊥) → b ≡ false
-    fails true t = absurd (t tt)
-    fails false t = refl
-count-members (q ∷ ps) n f h =
-    omega (
-      arith,
-      count-members ps n (λ p. both (f p) (not (eqb p q))) (λ p l t. rest p l t),
-      count-split n q f,
-      count-one n q,
-    )
-  where
-    first : (a b : Bool) → T (both a (not b)) → T a × (b ≡ false)
-    first true false t = (tt, refl)
-    first true true t = absurd t
-    first false b t = absurd t
-
-    rest : (p : ℕ) → p < n → T (both (f p) (not (eqb p q))) → List·Memᴰ p ps
-    rest p l t =
-        let r = first (f p) (eqb p q) t in
-        ⊎-elim (λ (e : p ≡ q). let z : true ≡ false = sym (eq-eqb p q e) ∙ r .1 in absurd (subst T z tt)) (λ m. m)
-        (List·Memᴰ·cases-cons (h p l (r .0)))
-
-among : (p : ℕ) (ps : List ℕ) → (List·Memᴰ p ps) ⊎ (¬ List·Memᴰ p ps)
-among p [] = inr List·Memᴰ·not-nil
-among p (q ∷ ps) = go (ℕ-discrete p q) (among p ps)
-  where
-    go : Dec (p ≡ q) → (List·Memᴰ p ps) ⊎ (¬ List·Memᴰ p ps) → (List·Memᴰ p (q ∷ ps)) ⊎ (¬ List·Memᴰ p (q ∷ ps))
-    go (yes e) a = inl (List·Memᴰ·head e)
-    go (no d) (inl m) = inl (List·Memᴰ·tail m)
-    go (no d) (inr n) = inr (λ m. ⊎-elim d n (List·Memᴰ·cases-cons m))
-
 second : (a b : Bool) → T (a && b) → T b
 second true b t = t
 second false b t = absurd t
@@ -117,12 +55,13 @@ module _ (n : ℕ) where
   pub outside-differing : (counts : ℕ → Bool) {ps word u v : List ℕ} → Outside ps word u → Outside ps word v → differingIn counts n u v ≤ length ps
   unfolding differingIn
   outside-differing counts {ps} {word} {u} {v} a b =
-      count-members ps n (λ p. counts p && differAt u v p)
-      (λ p l t. ⊎-elim (λ m. m) (λ o. absurd (apart p l (second (counts p) (differAt u v p) t) o)) (among p ps))
+      count-among ps n (λ p. counts p && differAt u v p) (λ p l t. go p l (second (counts p) (differAt u v p) t) (among p ps) refl)
     where
-      apart : (p : ℕ) → p < n → T (differAt u v p) → ¬ List·Memᴰ p ps → ⊥
-      apart p l t o =
-          subst (λ c. T (not c)) (agree-true u v p (omega (arith, a .size)) (omega (arith, b .size)) (a .same p o ∙ sym (b .same p o))) t
+      go : (p : ℕ) → p < n → T (differAt u v p) → (b : Bool) → among p ps ≡ b → b ≡ true
+      go p l t true e = refl
+      go p l t false e =
+          let out : ¬ List·Memᴰ p ps = λ m. false≢true (sym e ∙ among-member m) in
+          absurd (subst (λ c. T (not c)) (agree-true u v p (omega (arith, a .size)) (omega (arith, b .size)) (a .same p out ∙ sym (b .same p out))) t)
 
   pub expand-outside : (columns : ℕ → List ℕ) (word ps : List ℕ) → length word ≡ n → (t : List ℕ) → List·Memᴰ t (expand columns word ps) → Outside ps word t
   expand-outside columns word ps l t i =

@@ -9,7 +9,7 @@
 --   answer-one          the answer of one test word is the message within T of it, whatever the costs, where so many wrong places can be repaired
 --   answer-none, codeword-none   where no codeword is near
 --   answer-word         an answer is a message
---   only-near, only-far   where only one message can have its codeword within T of a word: it is that one if its codeword is, and none if not
+--   single-near, single-far   where only one message can have its codeword within T of a word: it is that one if its codeword is, and none if not
 use mathlib.Core.Bool.{Bool, true, false, _||_}
 use mathlib.Core.Path.{_≡_, refl, sym, ap, _∙_, subst}
 use mathlib.Core.List.{List, [], _∷_, _++_, List·Memᴰ, List·Memᴰ·head, List·Memᴰ·tail, List·Memᴰ·cases-cons, List·Memᴰ·not-nil}
@@ -137,13 +137,13 @@ module _ (𝓜 : Member) (counts : ℕ → Bool) (reach : ℕ) where
 
   module _ (k : ℕ) (word : List ℕ) {m : List ℕ} (u : Word (symbols 𝓜) k m)
       (only : (n : List ℕ) → Found (symbols 𝓜) k (nearTo 𝓜 counts reach k word) n → n ≡ m) where
-    pub only-near : differingIn counts (places 𝓜) (encodeOf 𝓜 k m) word ≤ reach → codewordNear 𝓜 counts reach k word ≡ some m
+    pub single-near : differingIn counts (places 𝓜) (encodeOf 𝓜 k m) word ≤ reach → codewordNear 𝓜 counts reach k word ≡ some m
     unfolding codewordNear nearTo
-    only-near close = firstThat-only (symbols 𝓜) k (nearTo 𝓜 counts reach k word) m (record { word = u; passed = le→leb _ _ close }) only
+    single-near close = firstThat-only (symbols 𝓜) k (nearTo 𝓜 counts reach k word) m (record { word = u; passed = le→leb _ _ close }) only
 
-    pub only-far : reach < differingIn counts (places 𝓜) (encodeOf 𝓜 k m) word → codewordNear 𝓜 counts reach k word ≡ none
+    pub single-far : reach < differingIn counts (places 𝓜) (encodeOf 𝓜 k m) word → codewordNear 𝓜 counts reach k word ≡ none
     unfolding nearTo
-    only-far far =
+    single-far far =
         codeword-none k word
         (λ n f.
         omega (

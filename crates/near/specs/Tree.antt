@@ -1,7 +1,6 @@
 -- The tree of test words and the nodes decided so far, for every member, any T and any places that count.
 --
 --   Places n ps        ps are different places, all below n; places-of, places-test: a list that passes the tests is so, and the other way round
---   not-among          what is no member is not among the list
 --   places-at          each place of them is below n
 --   Decided word ps ns   the nodes ns are those of the word at all places that count but the doubtful ones that are left, ps
 --   decided-step       one doubtful place less: its node is decided, with the symbol that the word gets there
@@ -19,10 +18,10 @@ use native.Mathlib.Omega.{arith}
 use lib.Dec.{T, ltb}
 use lib.ListN.{length, getD, set}
 use lib.Seq.{getD-set-same, getD-set-other}
-use borrow.Author.Tests.{ne-eqb, lt-ltb, not-true}
+use borrow.Author.Tests.{lt-ltb, not-true}
 use Rattle.lists.specs.Count.{count, kept-length, kept-member}
 use Rattle.lists.specs.Member.{member-at, at-member}
-use Rattle.lists.specs.Distinct.{among, among-member, distinct, below, below-cons, and-left, and-right, and-both}
+use Rattle.lists.specs.Distinct.{among, among-member, not-among, distinct, below, below-cons, and-left, and-right, and-both}
 use Rattle.lists.specs.Listed.{listed, listed-length, listed-at}
 use Rattle.algebra.specs.Subspace.{_⊆_, common-fewer}
 use Rattle.algebra.specs.Koetter.{Basis}
@@ -48,11 +47,6 @@ places-of n (p ∷ ps) b d =
     let h = below-cons n p ps b in
     places-cons (h .0) (λ m. true≢false (sym (among-member m) ∙ not-true (among p ps) (and-left (not (among p ps)) (distinct ps) d)))
     (places-of n ps (h .1) (and-right (not (among p ps)) (distinct ps) d))
-
-pub not-among : (p : ℕ) (ps : List ℕ) → ¬ List·Memᴰ p ps → among p ps ≡ false
-unfolding among
-not-among p [] n = refl
-not-among p (q ∷ ps) n = rw (ne-eqb q p (λ e. n (List·Memᴰ·head (sym e)))) (not-among p ps (λ m. n (List·Memᴰ·tail m)))
 
 pub places-test : {n : ℕ} {ps : List ℕ} → Places n ps → (below n ps ≡ true) × (distinct ps ≡ true)
 unfolding below distinct
