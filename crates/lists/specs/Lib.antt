@@ -6,6 +6,7 @@ pub mod Residue
 pub mod Chosen
 pub mod Words
 pub mod Answers
+pub mod Margin
 pub mod Passed
 pub mod Distinct
 pub mod Stored

@@ -1,7 +1,7 @@
 -- Nearness in document 01's modem: GF(16) with w = 4, T by the rate, and every place counts.
 --
 --   mOf k, reachOf k          M = k + 5 (m-is), and T, the largest with 2T < 64 − M − 6 (reach-is)
---   nearTo, codewordNear, near, testsNear, messageCost, answerOf, limitOf, nodesOf   as the family has them
+--   nearTo, codewordNear, near, testsNear, messageCost, answerOf, marginOf, limitOf, nodesOf   as the family has them
 --   Workable k                k from 6 to 52 (workable)
 --   reaches                   T = 6 at rate 39 and T = 1 at rate 49, with M = 44 and M = 54
 --   repairable                T wrong places can be repaired
@@ -18,6 +18,7 @@ use Rattle.family.specs.Member.{m16}
 use Rattle.family.specs.Nodes.{Node}
 use Rattle.near.specs.Near as Near
 use Rattle.near.specs.Reach as Reach
+use Rattle.near.specs.Runner as Runner
 use Rattle.near.specs.Interpolated as Interpolated
 use Rattle.near.specs.Tree as Tree
 
@@ -44,6 +45,9 @@ messageCost k columns m = Near.messageCost m16 k columns m
 
 abbrev pub answerOf : ℕ → (ℕ → List ℕ) → List (List ℕ) → Option (List ℕ)
 answerOf k columns tests = Near.answerOf m16 everywhere (reachOf k) k columns tests
+
+abbrev pub marginOf : ℕ → (ℕ → List ℕ) → List (List ℕ) → List ℕ → Option ℕ
+marginOf k columns tests m = Runner.marginOf m16 everywhere (reachOf k) k columns tests m
 
 abbrev pub limitOf : ℕ → ℕ
 limitOf k = Interpolated.limitOf m16 (reachOf k) k

@@ -5,6 +5,7 @@
 --   tests-nil, tests-cons, tests-one, tests-append, tests-none   the count of a list of test words
 --   tests-answerless    where there is no answer, it is 0
 --   tests-le            it is at most their number; tests-tree: d doubtful places have at most 2 ^ d
+--   found-append        near two lists is near one of them
 --   answer-append       the answer of two lists is the better of their answers
 --   answer-one          the answer of one test word is the message within T of it, whatever the costs, where so many wrong places can be repaired
 --   answer-none, codeword-none   where no codeword is near
@@ -95,7 +96,7 @@ module _ (𝓜 : Member) (counts : ℕ → Bool) (reach : ℕ) where
   unfolding codewordNear
   word-answers k word = firstThat-words (symbols 𝓜) k (nearTo 𝓜 counts reach k word)
 
-  found-append : (k : ℕ) (ts us : List (List ℕ)) (m : List ℕ) → (Found (symbols 𝓜) k (near 𝓜 counts reach k ts) m ⊎ Found (symbols 𝓜) k (near 𝓜 counts reach k us) m) ↔ Found (symbols 𝓜) k (near 𝓜 counts reach k (ts ++ us)) m
+  pub found-append : (k : ℕ) (ts us : List (List ℕ)) (m : List ℕ) → (Found (symbols 𝓜) k (near 𝓜 counts reach k ts) m ⊎ Found (symbols 𝓜) k (near 𝓜 counts reach k us) m) ↔ Found (symbols 𝓜) k (near 𝓜 counts reach k (ts ++ us)) m
   found-append k ts us m = (into, from)
     where
       into : Found (symbols 𝓜) k (near 𝓜 counts reach k ts) m ⊎ Found (symbols 𝓜) k (near 𝓜 counts reach k us) m → Found (symbols 𝓜) k (near 𝓜 counts reach k (ts ++ us)) m

@@ -2,6 +2,7 @@ pub mod Near
 pub mod Reach
 pub mod Codeword
 pub mod Laws
+pub mod Runner
 pub mod Interpolated
 pub mod Distance
 pub mod Tree
