@@ -18,7 +18,7 @@ fn main() -> io::Result<()> {
         galois::MULTIPLICATIONS.store(0, Ordering::Relaxed);
         let rate = usize::from(*rate);
         let mut first = vec![0; if *call == b'E' { 64 } else { rate }];
-        let mut report = vec![0; if *call == b'T' { 8 } else { 0 }];
+        let mut report = vec![0; if *call == b'T' { totals::report::REPORT_BYTES } else { 0 }];
         let number = match call {
             b'E' => encoding::encode(rate, bytes, &mut first, 0),
             b'B' => reading_back::read_back(rate, bytes, &mut first),

@@ -13,8 +13,10 @@
  *   frame     any length; the codeword takes 64 bytes of it from start on
  *   table     exactly 2048 bytes: 64 columns of sixteen costs, place 0 and symbol 0 first,
  *             two bytes each, high byte first
- *   report    exactly 8 bytes, high byte first: the total (4), the test words with a
- *             codeword within T (2), the pinned places (1), the changed places (1)
+ *   report    exactly 13 bytes, high byte first: the total (4), the test words with a
+ *             codeword within T (2), the pinned places (1), the changed places (1); 1 if
+ *             another codeword is near too, else 0 (1), and the margin: the least total of
+ *             such another one minus the answer's, 0 where there is none (4)
  *
  * Stack: table decoding with eight doubtful places touches some 44 KiB of it (bench/stack).
  *
@@ -37,7 +39,7 @@ extern "C" {
 
 #define HERMITIAN_PLACES 64
 #define HERMITIAN_TABLE_BYTES 2048
-#define HERMITIAN_REPORT_BYTES 8
+#define HERMITIAN_REPORT_BYTES 13
 #define HERMITIAN_MOST_DOUBT 8
 
 enum hermitian_refusal {
@@ -69,7 +71,7 @@ uint8_t hermitian_read_back(size_t rate,
 
 /* Decodes a table of costs with doubt 0 to 8: writes the message of the near codeword of
  * least total cost, and its report. The doubtful places are those of smallest gap.
- * Checks, in this order: rate; table of 2048, message buffer of k and report of 8 bytes;
+ * Checks, in this order: rate; table of 2048, message buffer of k and report of 13 bytes;
  * doubt; nearness. Refusals: 1, 2, 4, 9. */
 uint8_t hermitian_decode_table(size_t rate,
                                const uint8_t *table, size_t table_length,

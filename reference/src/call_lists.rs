@@ -5,13 +5,15 @@
 use crate::calls::Call;
 use crate::curve::PLACES;
 use crate::damage::{any_bytes, capture_of, damaged};
+use crate::decode::REPORT_BYTES;
 use crate::frames::Frame;
 use crate::random::Random;
 use crate::soft::Column;
 
 /// The sizes of an interpolant reading and of a report, and sizes beside them.
 const READING_SIZES: [u16; 4] = [82, 0, 81, 83];
-const REPORT_SIZES: [u16; 4] = [8, 0, 7, 9];
+const REPORT_SIZES: [u16; 5] = [REPORT_SIZE, 0, 8, REPORT_SIZE - 1, REPORT_SIZE + 1];
+const REPORT_SIZE: u16 = REPORT_BYTES as u16;
 
 /// The calls made with one frame of a seed: openings, refused ones among them; deliveries in
 /// random order, and between them refused deliveries, readings, and closings and writings that
@@ -56,7 +58,7 @@ fn whole(frame: &Frame) -> [Call; 3] {
         Call::ReadInterpolant { size: 82 },
         Call::Close {
             message: frame.rate as u16,
-            report: 8,
+            report: REPORT_SIZE,
         },
         Call::WriteCapture {
             size: capture_size(frame),
@@ -99,7 +101,7 @@ fn refused_opening(random: &mut Random) -> Vec<Call> {
         Call::ReadInterpolant { size: 82 },
         Call::Close {
             message: random.one_of(&[39, 49]),
-            report: 8,
+            report: REPORT_SIZE,
         },
         Call::WriteCapture {
             size: random.one_of(&[2117, 2118]),

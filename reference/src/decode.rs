@@ -1,6 +1,6 @@
 //! The tree of test words, tried one by one, and table decoding.
 //!
-//! - [`Answer`]: the message, and the four numbers of the report.
+//! - [`Answer`]: the message, and the five numbers of the report; [`margin_of`] reads the last.
 //! - [`test_words`]: all test words of columns and a doubtful list.
 //! - [`decode`]: the near codeword of least total cost.
 //! - [`decode_table`]: document 01's call, with its checks.
@@ -15,8 +15,8 @@ use crate::soft::{self, Columns, COLUMN_BYTES, DOUBT_LIMIT};
 /// "Table of 2,048 bytes, place 0 first."
 pub const TABLE_BYTES: usize = PLACES * COLUMN_BYTES;
 
-/// "The report has eight bytes."
-pub const REPORT_BYTES: usize = 8;
+/// "The report grows to 13 bytes."
+pub const REPORT_BYTES: usize = 13;
 
 /// The answer to a frame.
 #[derive(Clone, Debug, PartialEq, Eq)]
@@ -27,11 +27,15 @@ pub struct Answer {
     pub tests: u16,
     pub pinned: u8,
     pub changed: u8,
+    /// "The least total among near codewords other than the answer, minus the answer's total";
+    /// none if no other codeword is near.
+    pub margin: Option<u32>,
 }
 
 impl Answer {
-    /// "Eight bytes, high byte first: total (4), test words with a codeword within T (2), pinned
-    /// places (1), changed places (1)."
+    /// "High byte first: total (4), test words with a codeword within T (2), pinned places (1),
+    /// changed places (1)." "Byte 8 is 1 or 0 for present, bytes 9 to 12 the margin, zero where
+    /// absent."
     pub fn report(&self) -> [u8; REPORT_BYTES] {
         let total = self.total.to_be_bytes();
         let tests = self.tests.to_be_bytes();
@@ -40,8 +44,19 @@ impl Answer {
         report[4..6].copy_from_slice(&tests);
         report[6] = self.pinned;
         report[7] = self.changed;
+        if let Some(margin) = self.margin {
+            report[8] = 1;
+            report[9..13].copy_from_slice(&margin.to_be_bytes());
+        }
         report
     }
+}
+
+/// The margin that a report holds.
+pub fn margin_of(report: &[u8]) -> Option<u32> {
+    assert_eq!(report.len(), REPORT_BYTES);
+    let margin = u32::from_be_bytes([report[9], report[10], report[11], report[12]]);
+    (report[8] == 1).then_some(margin)
 }
 
 /// "Each doubtful place, lowest first, doubles them, once with its best and once with its second
@@ -62,31 +77,40 @@ pub fn test_words(columns: &Columns, doubtful: &[u8]) -> Vec<Row> {
 }
 
 /// "A codeword is near when it differs from some test word in at most T places. The answer is the
-/// near codeword of least total cost. Equal totals go to the smaller message, compared from
-/// symbol 0 on."
+/// near codeword of least total cost." The runner-up is the next of all near codewords.
 pub fn decode(finder: &Finder, columns: &Columns, doubtful: &[u8]) -> Option<Answer> {
     let words = test_words(columns, doubtful);
-    let near: Vec<Near> = words
+    let found: Vec<Near> = words
         .iter()
         .filter_map(|word| finder.nearest(word))
         .collect();
-    let tests = near.len() as u16;
-    let cost = |near: &Near| soft::total(columns, &near.codeword.elements());
-    let cheapest = near
-        .into_iter()
-        .min_by_key(|near| (cost(near), near.message.clone()))?;
+    let tests = found.len() as u16;
+    let ranking = ranking(columns, found);
+    let (total, cheapest) = ranking.first()?;
     let codeword = cheapest.codeword.elements();
     Some(Answer {
-        message: cheapest.message,
-        total: soft::total(columns, &codeword),
+        message: cheapest.message.clone(),
+        total: *total,
         tests,
         pinned: soft::pinned(columns, &codeword),
         changed: soft::changed(columns, &codeword),
+        margin: ranking.get(1).map(|(runner_up, _)| runner_up - total),
     })
 }
 
-/// "Table decoding: rate; table of 2,048 bytes, place 0 first, message buffer of k, report of 8;
-/// doubt; nearness."
+/// The codewords found, each once, with their totals, cheapest first. "Equal totals go to the
+/// smaller message, compared from symbol 0 on."
+fn ranking(columns: &Columns, found: Vec<Near>) -> Vec<(u32, Near)> {
+    let total = |near: &Near| soft::total(columns, &near.codeword.elements());
+    let mut ranking: Vec<(u32, Near)> =
+        found.into_iter().map(|near| (total(&near), near)).collect();
+    ranking.sort_by(|(a, first), (b, second)| (a, &first.message).cmp(&(b, &second.message)));
+    ranking.dedup();
+    ranking
+}
+
+/// Table decoding, with its checks in their order: rate; table of 2,048 bytes, place 0 first,
+/// message buffer of k bytes and report; doubt; nearness.
 pub fn decode_table(
     rate: u64,
     table: &[u8],
@@ -117,4 +141,35 @@ fn columns_of_table(table: &[u8]) -> Columns {
 /// The 2,048 bytes of the columns, place 0 first.
 pub fn table_of_columns(columns: &Columns) -> Vec<u8> {
     columns.iter().flat_map(soft::column_bytes).collect()
+}
+
+#[cfg(test)]
+mod tests {
+    use super::*;
+
+    /// Zero is a margin, and not the same as none.
+    #[test]
+    fn reports_hold_the_margin_high_byte_first() {
+        let report = |margin| {
+            let answer = Answer {
+                message: Vec::new(),
+                total: 0x00a1_a2a3,
+                tests: 0x0102,
+                pinned: 3,
+                changed: 4,
+                margin,
+            };
+            assert_eq!(margin_of(&answer.report()), margin);
+            answer.report()
+        };
+        let before = [0, 0xa1, 0xa2, 0xa3, 1, 2, 3, 4];
+        for (margin, bytes) in [
+            (None, [0, 0, 0, 0, 0]),
+            (Some(0), [1, 0, 0, 0, 0]),
+            (Some(0x000b_0c0d), [1, 0, 0x0b, 0x0c, 0x0d]),
+        ] {
+            assert_eq!(report(margin)[..8], before);
+            assert_eq!(report(margin)[8..], bytes);
+        }
+    }
 }

@@ -8,7 +8,7 @@
 
 use crate::code::Code;
 use crate::curve::PLACES;
-use crate::pairs::pair;
+use crate::pairs::{pair, trio, Gaps};
 use crate::random::Random;
 use crate::row::Row;
 use crate::soft::{second, Column, Columns, CEILING, DOUBT_LIMIT};
@@ -36,12 +36,19 @@ pub enum Kind {
     /// T + 1 to T + 4 settled places are wrong.
     Beyond,
     /// Two codewords at least distance with eight doubtful places where they differ; of the others
-    /// T lean to each, so that both are near.
+    /// T lean to each, so that both are near and there is a margin.
     Pair,
-    /// A pair with equal totals.
+    /// A pair with equal totals: the margin is zero.
     EqualPair,
+    /// A pair whose totals differ by one of [`APART`].
+    ApartPair,
+    /// A pair with costs up to the ceiling: the margin may need three bytes.
+    WidePair,
     /// A pair whose settled places lean T + 1 and T − 1 ways: one of the two is not near.
     UnevenPair,
+    /// A pair with a third codeword at least distance from both, which is not near; it may cost less
+    /// than they do.
+    Trio,
     /// As `Wrong`, with costs at the ceiling.
     Ceiling,
     /// As `Valid`, with some columns, or all, of sixteen equal costs.
@@ -52,18 +59,24 @@ pub enum Kind {
     Random,
 }
 
-pub const KINDS: [Kind; 10] = [
+pub const KINDS: [Kind; 13] = [
     Kind::Valid,
     Kind::Wrong,
     Kind::Beyond,
     Kind::Pair,
     Kind::EqualPair,
+    Kind::ApartPair,
+    Kind::WidePair,
     Kind::UnevenPair,
+    Kind::Trio,
     Kind::Ceiling,
     Kind::Level,
     Kind::Tied,
     Kind::Random,
 ];
+
+/// Margins on both sides of a byte's end, and zero beside one.
+pub const APART: [u32; 8] = [0, 1, 2, 255, 256, 257, 4095, 64_000];
 
 /// The rates, which are also their numbers of message symbols.
 pub const RATES: [u64; 2] = [39, 49];
@@ -80,18 +93,27 @@ impl Frame {
     }
 }
 
-/// A frame of a kind. Pairs have eight doubtful places whatever the doubt asked for.
+/// A frame of a kind. Pairs and trios have eight doubtful places whatever the doubt asked for.
 pub fn frame(kind: Kind, rate: u64, doubt: usize, random: &mut Random) -> Frame {
     let code = Code::of_rate(rate).expect("a known rate");
-    match kind {
-        Kind::Pair => return pair(rate, code.reach, false, random),
-        Kind::EqualPair => return pair(rate, code.reach, true, random),
-        Kind::UnevenPair => return pair(rate, code.reach + 1, false, random),
-        _ => (),
+    let reach = code.reach;
+    let planted = match kind {
+        Kind::Pair => Some(pair(rate, reach, Gaps::Mixed, random)),
+        Kind::EqualPair => Some(pair(rate, reach, Gaps::Alike, random)),
+        Kind::ApartPair => {
+            let apart = random.one_of(&APART);
+            Some(pair(rate, reach, Gaps::Mixed, random).apart(apart))
+        }
+        Kind::WidePair => Some(pair(rate, reach, Gaps::Wide, random)),
+        Kind::UnevenPair => Some(pair(rate, reach + 1, Gaps::Mixed, random)),
+        Kind::Trio => Some(trio(rate, DOUBT_LIMIT, Gaps::Mixed, random)),
+        _ => None,
+    };
+    if let Some(planted) = planted {
+        return planted.frame;
     }
     let doubtful = some_places(doubt, random);
     let sent = random_codeword(code, random);
-    let reach = code.reach;
     let columns = match kind {
         Kind::Wrong => around(&sent, &doubtful, random.between(0, reach), random),
         Kind::Beyond => around(&sent, &doubtful, reach + random.between(1, 4), random),
@@ -143,12 +165,13 @@ pub fn random_codeword(code: &Code, random: &mut Random) -> Row {
 }
 
 /// A column with these two symbols first; it is the other way round where the gap is zero and the
-/// second symbol smaller.
+/// second symbol smaller. Costs above the ceiling are cut to it.
 pub(crate) fn column(best: u8, second: u8, gap: usize, random: &mut Random) -> Column {
     let low = random.below(500);
-    let mut column = [(); 16].map(|_| (low + gap + random.between(1, 300)) as u16);
+    let cut = |cost: usize| cost.min(usize::from(CEILING)) as u16;
+    let mut column = [(); 16].map(|_| cut(low + gap + random.between(1, 300)));
     column[usize::from(best)] = low as u16;
-    column[usize::from(second)] = (low + gap) as u16;
+    column[usize::from(second)] = cut(low + gap);
     column
 }
 
@@ -231,6 +254,15 @@ mod tests {
     use crate::nearest::Finder;
     use crate::soft::doubtful_places;
 
+    const PLANTED: [Kind; 6] = [
+        Kind::Pair,
+        Kind::EqualPair,
+        Kind::ApartPair,
+        Kind::WidePair,
+        Kind::UnevenPair,
+        Kind::Trio,
+    ];
+
     fn answers(kind: Kind, rate: u64, count: u64) -> Vec<Option<Answer>> {
         let finder = Finder::of_rate(rate).unwrap();
         let answer = |number| {
@@ -259,8 +291,9 @@ mod tests {
     fn kinds_answer_as_they_are_made_to() {
         for rate in RATES {
             let near = |kind| answers(kind, rate, 60).iter().flatten().count();
-            for kind in [Kind::Valid, Kind::Pair, Kind::EqualPair, Kind::UnevenPair] {
-                assert!(near(kind) >= 40, "{kind:?}");
+            assert!(near(Kind::Valid) >= 40);
+            for kind in PLANTED {
+                assert_eq!(near(kind), 60, "{kind:?}");
             }
             assert!(near(Kind::Wrong) >= 20);
             assert_eq!(near(Kind::Beyond), 0);
@@ -270,6 +303,48 @@ mod tests {
             let lifted = answers(Kind::Ceiling, rate, 60);
             let pinned = lifted.iter().flatten().filter(|a| a.pinned > 0);
             assert!(pinned.count() >= 10);
+        }
+    }
+    /// Every sort of margin comes at both rates, and only with two test words that have a codeword
+    /// within T, of eight doubtful places.
+    #[test]
+    fn frames_have_every_sort_of_margin() {
+        for rate in RATES {
+            let margins = |kind| -> Vec<Option<u32>> {
+                let answers = answers(kind, rate, 60).into_iter().flatten();
+                answers.map(|answer| answer.margin).collect()
+            };
+            let those = |margins: &[Option<u32>], sort: fn(u32) -> bool| {
+                margins.iter().flatten().filter(|m| sort(**m)).count()
+            };
+            for kind in KINDS {
+                let margins = margins(kind);
+                let expected = match kind {
+                    Kind::UnevenPair => 0,
+                    _ if PLANTED.contains(&kind) => 60,
+                    _ => 0,
+                };
+                assert_eq!(those(&margins, |_| true), expected, "{kind:?}");
+            }
+            assert_eq!(those(&margins(Kind::EqualPair), |m| m == 0), 60);
+            let apart = margins(Kind::ApartPair);
+            assert!(APART.iter().all(|m| apart.contains(&Some(*m))));
+            assert!(those(&margins(Kind::WidePair), |m| m > 65535) >= 6);
+            assert!(those(&margins(Kind::Trio), |m| (1..=255).contains(&m)) >= 6);
+        }
+        for number in 0..390 {
+            let Frame {
+                rate,
+                doubtful,
+                columns,
+            } = Frame::numbered(34, number);
+            let finder = Finder::of_rate(rate).unwrap();
+            let Some(answer) = decode(finder, &columns, &doubtful) else {
+                continue;
+            };
+            if answer.margin.is_some() {
+                assert_eq!((doubtful.len(), answer.tests), (DOUBT_LIMIT, 2));
+            }
         }
     }
 }

@@ -1,11 +1,12 @@
-//! A Hermitian Chase decoder by another hand, written from document 01 alone, to run the proved
-//! library against. It shares no table and no method with it:
+//! A Hermitian Chase decoder by another hand, written from documents 01 and 02 alone, to run the
+//! proved library against. It shares no table and no method with it:
 //!
 //! - products are polynomial arithmetic on bits ([`field`], and [`row`] for 64 at once);
 //! - the points of the curve are searched for, the monomials enumerated ([`curve`]);
 //! - encoding sums monomials, reading back solves linear equations ([`code`], [`linear`]);
 //! - the least Q is found by elimination over its terms ([`least`]);
-//! - each test word is decoded by itself, with an error locator ([`nearest`], [`decode`]);
+//! - each test word is decoded by itself, with an error locator ([`nearest`]); answer and margin are
+//!   the first two totals of all codewords found ([`decode`]);
 //! - a session keeps the row of the book and computes each answer from it ([`session`]).
 //!
 //! One frame from opening to closing, with a wrong symbol at place 7:
@@ -19,16 +20,17 @@
 //!     column[if place == 7 { 3 } else { 0 }] = 0;
 //!     session.deliver(place, column).unwrap();
 //! }
-//! let (mut message, mut report) = ([99; 39], [99; 8]);
+//! let (mut message, mut report) = ([99; 39], [99; 13]);
 //! session.close(&mut message, &mut report).unwrap();
 //! assert_eq!(message, [0; 39]);
-//! assert_eq!(report, [0, 0, 0, 40, 0, 1, 0, 1]);
+//! assert_eq!(report, [0, 0, 0, 40, 0, 1, 0, 1, 0, 0, 0, 0, 0]);
 //! ```
 //!
 //! # Comparing
 //!
-//! [`frames`] makes frames of ten kinds from a seed, [`pairs`] those between two codewords at least
-//! distance, [`damage`] captures with faults. The binary `compare` runs them in two ways.
+//! [`frames`] makes frames of thirteen kinds from a seed, [`pairs`] those between codewords at least
+//! distance, [`damage`] captures with faults. The binary `compare` runs them in two ways. It counts
+//! the frames with a margin, and fails where they are too few to try it ([`margins`]).
 //!
 //! Calls that cross as numbers and byte slices are linked: with the feature `proved`, and with
 //! `MODEM_LIB_DIR` naming the folder of `libmodem.a`, `compare code` runs the trials of
@@ -62,7 +64,9 @@ pub mod decode;
 pub mod field;
 pub mod frames;
 pub mod least;
+pub mod light;
 pub mod linear;
+pub mod margins;
 pub mod measured;
 pub mod nearest;
 pub mod pairs;

@@ -204,6 +204,7 @@ fn columns(sent: &Row, doubt: usize, wrong: usize, random: &mut Random) -> Colum
 #[cfg(test)]
 mod tests {
     use super::*;
+    use crate::decode::REPORT_BYTES;
     use crate::trials::REFERENCE_TABLE;
 
     /// Test words with at most T wrong places, by the damage: all within T, or none.
@@ -222,7 +223,7 @@ mod tests {
                 .count();
             for call in case.calls().iter().take(3) {
                 let mut message = vec![0; case.rate as usize];
-                let mut report = vec![0; 8];
+                let mut report = vec![0; REPORT_BYTES];
                 let given = &call.given;
                 let number =
                     REFERENCE_TABLE(case.rate, given, doubt as u64, &mut message, &mut report);

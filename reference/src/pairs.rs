@@ -1,154 +1,389 @@
-//! Two codewords at least distance, and frames between them.
+//! Codewords at least distance, and frames between them.
 //!
-//! - [`lightest`]: a codeword of least weight, built as a product of functions with known zeros.
-//! - [`pair`]: a frame that has two near codewords, or nearly.
+//! - [`pair`]: a frame that has two near codewords, or nearly; [`between`]: of any two codewords.
+//! - [`Gaps`]: how far their totals are apart; [`Planted::apart`]: by a number given.
+//! - [`trio`]: a frame with a third codeword, at least distance from both.
+//!
+//! Two codewords differ in 64 − M places or more, 20 at rate 39 and 10 at rate 49. If both are near,
+//! every settled place where they differ is wrong for one of them, and at most T are for each: 12
+//! places, or 2. So there are eight doubtful places, they differ in all of them, one has the best and
+//! the other the second symbol there, and they are at least distance apart. A third near codeword
+//! would have to differ from both in the doubtful places, with one of the same two symbols: there is
+//! none as long as eight places are the most that can be doubtful. With twelve there can be one.
 
 use crate::code::Code;
-use crate::curve::{points, Point, PLACES};
-use crate::field::times;
-use crate::frames::{around, column, random_codeword, Frame, DOUBTFUL_GAP, SETTLED_GAP};
+use crate::curve::PLACES;
+use crate::frames::{column, random_codeword, Frame, DOUBTFUL_GAP, SETTLED_GAP};
+use crate::light::{light_pair, lightest};
 use crate::random::Random;
 use crate::row::Row;
-use crate::soft::DOUBT_LIMIT;
+use crate::soft::{best, total, CEILING, DOUBT_LIMIT};
 
-/// Two codewords at least distance: eight of the places where they differ are doubtful; of the
-/// others `lean` have the second codeword's symbol as their best, the rest the first one's. With
-/// `lean` = T all gaps alike make the totals equal.
-pub fn pair(rate: u64, lean: usize, equal: bool, random: &mut Random) -> Frame {
+/// With wide gaps those of doubtful places are at most this, those of settled ones larger.
+const WIDE_DOUBTFUL_GAP: usize = 30_000;
+/// Above the ceiling, where costs are cut: many are pinned.
+const WIDE_SETTLED_GAP: usize = 90_000;
+
+/// Of the places where one of a trio differs from the two others, so many are doubtful.
+const TRIO_DOUBT: usize = 4;
+
+/// How the gaps are drawn where codewords differ.
+#[derive(Clone, Copy, Debug, PartialEq, Eq)]
+pub enum Gaps {
+    /// Each for itself: totals that differ by hundreds.
+    Mixed,
+    /// All alike, with half of the doubtful places leaning each way: equal totals.
+    Alike,
+    /// Each for itself and up to the ceiling: totals that may differ by more than two bytes hold.
+    Wide,
+}
+
+impl Gaps {
+    /// The gap of a doubtful place, and that of a settled one.
+    fn draw(self, random: &mut Random) -> (usize, usize) {
+        let (doubtful, settled) = match self {
+            Gaps::Wide => (WIDE_DOUBTFUL_GAP, WIDE_SETTLED_GAP),
+            _ => (DOUBTFUL_GAP, SETTLED_GAP),
+        };
+        (
+            random.between(0, doubtful),
+            random.between(doubtful + 1, settled),
+        )
+    }
+}
+
+/// A frame, and the codewords that it was made around.
+#[derive(Clone, Debug)]
+pub struct Planted {
+    pub frame: Frame,
+    pub codewords: Vec<Row>,
+}
+
+impl Planted {
+    /// What each of the codewords costs.
+    pub fn totals(&self) -> Vec<u32> {
+        let total = |codeword: &Row| total(&self.frame.columns, &codeword.elements());
+        self.codewords.iter().map(total).collect()
+    }
+
+    /// The second codeword's total becomes the first one's and `margin` more. One of the two gets
+    /// higher costs at settled places where it is wrong, so the test words stay the same.
+    pub fn apart(mut self, margin: u32) -> Planted {
+        let totals = self.totals();
+        let wanted = totals[0] + margin;
+        if totals[1] < wanted {
+            self.raise(1, wanted - totals[1]);
+        } else {
+            self.raise(0, totals[1] - wanted);
+        }
+        self
+    }
+
+    fn raise(&mut self, number: usize, mut by: u32) {
+        let Frame {
+            doubtful, columns, ..
+        } = &mut self.frame;
+        for (place, column) in columns.iter_mut().enumerate() {
+            let symbol = self.codewords[number].get(place);
+            if doubtful.contains(&(place as u8)) || best(column) == symbol {
+                continue;
+            }
+            let cost = &mut column[usize::from(symbol)];
+            let raised = by.min(u32::from(CEILING - *cost));
+            *cost += raised as u16;
+            by -= raised;
+        }
+        assert_eq!(by, 0, "room below the ceiling");
+    }
+}
+
+/// Two codewords at least distance, with as many doubtful places where they differ as there can be.
+/// With `lean` = T both are near.
+pub fn pair(rate: u64, lean: usize, gaps: Gaps, random: &mut Random) -> Planted {
     let code = Code::of_rate(rate).expect("a known rate");
     let first = random_codeword(code, random);
-    let difference = lightest(code, random);
     let mut second = first;
-    second.add(&difference);
+    second.add(&lightest(code, random));
+    between([first, second], rate, DOUBT_LIMIT, lean, gaps, random)
+}
 
-    let differing = (0..PLACES).filter(|place| difference.get(*place) != 0);
-    let differing = random.shuffled(differing);
-    let mut gaps = random_gaps(random);
-    let mut columns = around(&first, &[], 0, random);
-    for (number, place) in differing.iter().enumerate() {
-        if !equal {
-            gaps = random_gaps(random);
-        }
-        let doubtful = number < DOUBT_LIMIT;
-        let to_second = if doubtful {
-            number % 2 == 0
+/// Two codewords: `doubt` of the places where they differ are doubtful; of the others `lean` have the
+/// second codeword's symbol as their best, the rest the first one's.
+pub fn between(
+    [first, second]: [Row; 2],
+    rate: u64,
+    doubt: usize,
+    lean: usize,
+    gaps: Gaps,
+    random: &mut Random,
+) -> Planted {
+    let mut draft = Draft::around(&first, rate, gaps, random);
+    let differing = (0..PLACES).filter(|place| first.get(*place) != second.get(*place));
+    for (number, place) in random.shuffled(differing).into_iter().enumerate() {
+        let (a, b) = (first.get(place), second.get(place));
+        if number < doubt {
+            draft.doubt(place, [a, b], number, random);
+        } else if number < doubt + lean {
+            draft.settle(place, b, a, random);
         } else {
-            number < DOUBT_LIMIT + lean
+            draft.settle(place, a, b, random);
+        }
+    }
+    draft.planted(vec![first, second])
+}
+
+/// Three codewords, each two of them at least distance apart, such that two of the three agree at
+/// every place. Of the places where one of them stands alone [`TRIO_DOUBT`] are doubtful, as far as
+/// `doubt` goes round, and the T others lean to those that agree. With a `doubt` of twelve all three
+/// are near. With eight the third is [`TRIO_DOUBT`] places too far away; half of the time it costs
+/// little.
+pub fn trio(rate: u64, doubt: usize, gaps: Gaps, random: &mut Random) -> Planted {
+    let code = Code::of_rate(rate).expect("a known rate");
+    let first = random_codeword(code, random);
+    let differences = light_pair(code, random);
+    let others = differences.map(|difference| {
+        let mut other = first;
+        other.add(&difference);
+        other
+    });
+    let codewords = [first, others[0], others[1]];
+    let mut draft = Draft::around(&first, rate, gaps, random);
+    let cheap = gaps == Gaps::Mixed && random.once_in(2);
+    for alone in 0..codewords.len() {
+        let agreeing = [1, 2].map(|step| codewords[(alone + step) % codewords.len()]);
+        let part = (0..PLACES).filter(|place| {
+            let symbol = agreeing[0].get(*place);
+            symbol == agreeing[1].get(*place) && symbol != codewords[alone].get(*place)
+        });
+        for (number, place) in random.shuffled(part).into_iter().enumerate() {
+            let (a, b) = (agreeing[0].get(place), codewords[alone].get(place));
+            if number < TRIO_DOUBT && alone * TRIO_DOUBT + number < doubt {
+                draft.doubt(place, [a, b], number, random);
+            } else if alone == 2 && cheap {
+                let gap = random.between(DOUBTFUL_GAP + 1, 2 * DOUBTFUL_GAP);
+                draft.frame.columns[place] = column(a, b, gap, random);
+            } else {
+                draft.settle(place, a, b, random);
+            }
+        }
+    }
+    draft.planted(codewords.to_vec())
+}
+
+/// A frame in the making.
+struct Draft {
+    frame: Frame,
+    gaps: Gaps,
+    alike: (usize, usize),
+}
+
+impl Draft {
+    /// No doubtful place, and the codeword's symbols best everywhere.
+    fn around(codeword: &Row, rate: u64, gaps: Gaps, random: &mut Random) -> Draft {
+        let columns = codeword.elements().map(|symbol| {
+            let other = random.other_symbol(symbol);
+            column(symbol, other, gaps.draw(random).1, random)
+        });
+        let frame = Frame {
+            rate,
+            doubtful: Vec::new(),
+            columns,
         };
-        let gap = if doubtful { gaps.0 } else { gaps.1 };
-        let (a, b) = (first.get(*place), second.get(*place));
-        let (best, other) = if to_second { (b, a) } else { (a, b) };
-        columns[*place] = column(best, other, gap, random);
+        let alike = gaps.draw(random);
+        Draft { frame, gaps, alike }
     }
-    let mut doubtful: Vec<u8> = differing[..DOUBT_LIMIT].iter().map(|p| *p as u8).collect();
-    doubtful.sort_unstable();
-    Frame {
-        rate,
-        doubtful,
-        columns,
-    }
-}
 
-/// The gap of a doubtful place, and that of a settled one.
-fn random_gaps(random: &mut Random) -> (usize, usize) {
-    (
-        random.between(0, DOUBTFUL_GAP),
-        random.between(DOUBTFUL_GAP + 1, SETTLED_GAP),
-    )
-}
-
-/// A codeword of weight 64 − M: the values of a function of order M with M zeros among the places.
-///
-/// At rate 39 it is the product of eleven factors x − a, each of order 4 with four zeros. At rate
-/// 49 two parallel lines that meet the same five x in five places each, of order 5, come on top,
-/// and the factors are those of the eleven other x.
-pub fn lightest(code: &Code, random: &mut Random) -> Row {
-    let mut word = Row::from_elements([random.other_symbol(0); PLACES]);
-    let mut free = random.shuffled(0..16);
-    if code.top == 54 {
-        let lines = parallel_lines(random);
-        for line in &lines {
-            word = word.product(line);
-        }
-        let met = |x: &u8| (0..PLACES).any(|p| p / 4 == usize::from(*x) && lines[0].get(p) == 0);
-        free.retain(|x| !met(x));
-    }
-    for x in free.into_iter().take(11) {
-        word = word.product(&values(|point| point.x ^ x));
-    }
-    assert_eq!(word.weight(), PLACES - code.top);
-    word
-}
-
-/// Two lines y − mx − b and y − mx − c that are zero in five places each, above the same five x.
-fn parallel_lines(random: &mut Random) -> [Row; 2] {
-    let zeros = |line: &Row| -> Vec<usize> {
-        (0..PLACES)
-            .filter(|place| line.get(*place) == 0)
-            .map(|place| place / 4)
-            .collect()
-    };
-    loop {
-        let slope = random.symbol();
-        let start = random.symbol();
-        let other = random.other_symbol(start);
-        let lines = [start, other].map(|b| values(|p| p.y ^ times(slope, p.x) ^ b));
-        if zeros(&lines[0]).len() == 5 && zeros(&lines[0]) == zeros(&lines[1]) {
-            return lines;
+    fn gaps(&self, random: &mut Random) -> (usize, usize) {
+        match self.gaps {
+            Gaps::Alike => self.alike,
+            gaps => gaps.draw(random),
         }
     }
-}
 
-/// A function's value at each place.
-fn values(function: impl Fn(Point) -> u8) -> Row {
-    Row::from_elements(points().map(function))
+    /// The place is doubtful between two symbols; doubtful places are numbered.
+    fn doubt(&mut self, place: usize, symbols: [u8; 2], number: usize, random: &mut Random) {
+        let gap = self.gaps(random).0;
+        let best = match self.gaps {
+            Gaps::Alike => number % 2,
+            _ => random.below(2),
+        };
+        self.frame.doubtful.push(place as u8);
+        self.frame.columns[place] = column(symbols[best], symbols[1 - best], gap, random);
+    }
+
+    fn settle(&mut self, place: usize, best: u8, second: u8, random: &mut Random) {
+        let gap = self.gaps(random).1;
+        self.frame.columns[place] = column(best, second, gap, random);
+    }
+
+    fn planted(mut self, codewords: Vec<Row>) -> Planted {
+        self.frame.doubtful.sort_unstable();
+        Planted {
+            frame: self.frame,
+            codewords,
+        }
+    }
 }
 
 #[cfg(test)]
 mod tests {
     use super::*;
-    use crate::decode::{decode, test_words};
-    use crate::frames::{frame, Kind, RATES};
+    use crate::decode::{decode, test_words, Answer};
+    use crate::frames::RATES;
     use crate::nearest::Finder;
-    use crate::soft::total;
+
+    /// The planted codewords that are near, cheapest first, with their totals. Every codeword found
+    /// is one of them.
+    fn near(planted: &Planted) -> Vec<(u32, Vec<u8>)> {
+        let Frame {
+            rate,
+            doubtful,
+            columns,
+        } = &planted.frame;
+        let finder = Finder::of_rate(*rate).unwrap();
+        let words = test_words(columns, doubtful);
+        let found: Vec<_> = words.iter().filter_map(|w| finder.nearest(w)).collect();
+        assert!(found
+            .iter()
+            .all(|n| planted.codewords.contains(&n.codeword)));
+        let with_totals = planted.codewords.iter().zip(planted.totals());
+        let mut near: Vec<(u32, Vec<u8>)> = with_totals
+            .filter_map(|(codeword, total)| {
+                let near = found.iter().find(|near| near.codeword == *codeword)?;
+                Some((total, near.message.clone()))
+            })
+            .collect();
+        near.sort();
+        near
+    }
+
+    fn answer(planted: &Planted) -> Option<Answer> {
+        let frame = &planted.frame;
+        let finder = Finder::of_rate(frame.rate).unwrap();
+        decode(finder, &frame.columns, &frame.doubtful)
+    }
+
+    /// The answer is the cheapest of the near codewords, and its margin, which is returned, what the
+    /// next one costs more.
+    fn margin(planted: &Planted) -> Option<u32> {
+        let near = near(planted);
+        let answer = answer(planted).unwrap();
+        assert_eq!((answer.total, &answer.message), (near[0].0, &near[0].1));
+        assert_eq!(answer.margin, near.get(1).map(|next| next.0 - near[0].0));
+        answer.margin
+    }
+
+    fn reach(rate: u64) -> usize {
+        Code::of_rate(rate).unwrap().reach
+    }
 
     #[test]
-    fn lightest_words_are_codewords_of_least_weight() {
-        let mut random = Random::new(31, 0);
+    fn pairs_have_a_margin() {
         for rate in RATES {
-            let code = Code::of_rate(rate).unwrap();
-            for _ in 0..100 {
-                let word = lightest(code, &mut random);
-                assert_eq!(word.weight(), PLACES - code.top);
-                assert!(code.message(&word).is_some());
+            let mut margins = Vec::new();
+            for number in 0..40 {
+                let mut random = Random::new(33, number);
+                let planted = pair(rate, reach(rate), Gaps::Mixed, &mut random);
+                assert_eq!(near(&planted).len(), 2);
+                let totals = planted.totals();
+                assert_eq!(margin(&planted), Some(totals[0].abs_diff(totals[1])));
+                margins.extend(margin(&planted));
+                let planted = pair(rate, reach(rate), Gaps::Alike, &mut random);
+                assert_eq!(near(&planted).len(), 2);
+                assert_eq!(margin(&planted), Some(0));
             }
+            margins.sort_unstable();
+            margins.dedup();
+            assert!(margins.len() >= 30);
         }
     }
 
     #[test]
-    fn pairs_have_two_near_codewords() {
+    fn uneven_pairs_have_none_though_the_other_may_cost_less() {
+        let mut cheaper = 0;
         for rate in RATES {
-            let code = Code::of_rate(rate).unwrap();
-            let finder = Finder::of_rate(rate).unwrap();
             for number in 0..40 {
-                let equal = number % 2 == 0;
-                let kind = if equal { Kind::EqualPair } else { Kind::Pair };
-                let frame = frame(kind, rate, 0, &mut Random::new(33, number));
-                let words = test_words(&frame.columns, &frame.doubtful);
-                let mut near: Vec<_> = words.iter().filter_map(|w| finder.nearest(w)).collect();
-                near.sort_by(|a, b| a.message.cmp(&b.message));
-                near.dedup();
-                assert_eq!(near.len(), 2);
-                let mut difference = near[0].codeword;
-                difference.add(&near[1].codeword);
-                assert_eq!(difference.weight(), PLACES - code.top);
-                let totals = [0, 1].map(|n| total(&frame.columns, &near[n].codeword.elements()));
-                if equal {
-                    assert_eq!(totals[0], totals[1]);
-                    let answer = decode(finder, &frame.columns, &frame.doubtful).unwrap();
-                    assert_eq!(answer.message, near[0].message);
+                let mut random = Random::new(34, number);
+                let planted = pair(rate, reach(rate) + 1, Gaps::Mixed, &mut random);
+                assert_eq!(margin(&planted), None);
+                let totals = planted.totals();
+                assert_eq!(answer(&planted).unwrap().total, totals[1]);
+                cheaper += u32::from(totals[0] < totals[1]);
+            }
+        }
+        assert!(cheaper >= 1);
+    }
+
+    #[test]
+    fn pairs_are_apart_as_far_as_asked_for() {
+        for rate in RATES {
+            for (number, apart) in [0, 1, 2, 255, 256, 4095, 64_000].into_iter().enumerate() {
+                for seed in [35, 36, 37] {
+                    let mut random = Random::new(seed, number as u64);
+                    let planted = pair(rate, reach(rate), Gaps::Mixed, &mut random).apart(apart);
+                    assert_eq!(near(&planted).len(), 2);
+                    assert_eq!(margin(&planted), Some(apart));
                 }
             }
+        }
+        let planted = pair(39, 6, Gaps::Mixed, &mut Random::new(38, 0)).apart(300_000);
+        assert_eq!(margin(&planted), Some(300_000));
+    }
+
+    #[test]
+    fn wide_pairs_have_margins_of_three_bytes_and_pinned_places() {
+        for rate in RATES {
+            let (mut wide, mut pinned) = (0, 0);
+            for number in 0..40 {
+                let mut random = Random::new(39, number);
+                let planted = pair(rate, reach(rate), Gaps::Wide, &mut random);
+                assert_eq!(near(&planted).len(), 2);
+                wide += u32::from(margin(&planted) > Some(65535));
+                pinned += u32::from(answer(&planted).unwrap().pinned > 0);
+            }
+            assert!(wide >= 4 && pinned >= 4, "{wide} {pinned}");
+        }
+    }
+
+    #[test]
+    fn the_third_of_a_trio_is_not_near_and_may_cost_least() {
+        for rate in RATES {
+            let (mut cheapest, mut next) = (0, 0);
+            for number in 0..40 {
+                let mut random = Random::new(40, number);
+                let planted = trio(rate, DOUBT_LIMIT, Gaps::Mixed, &mut random);
+                let totals = planted.totals();
+                assert_eq!(near(&planted).len(), 2);
+                assert_eq!(margin(&planted), Some(totals[0].abs_diff(totals[1])));
+                let below = totals[..2].iter().filter(|total| totals[2] < **total);
+                match below.count() {
+                    2 => cheapest += 1,
+                    1 => next += 1,
+                    _ => (),
+                }
+            }
+            assert!(cheapest >= 5 && next >= 1, "{cheapest} {next}");
+        }
+    }
+
+    /// More doubtful places than a call takes.
+    #[test]
+    fn trios_with_twelve_doubtful_places_have_three_near_codewords() {
+        for rate in RATES {
+            let mut least = [0; 3];
+            for number in 0..12 {
+                let mut random = Random::new(41, number);
+                let planted = trio(rate, 3 * TRIO_DOUBT, Gaps::Mixed, &mut random);
+                assert_eq!(near(&planted).len(), 3);
+                assert!(margin(&planted).is_some());
+                let totals = planted.totals();
+                let cheapest = (0..3).min_by_key(|n| totals[*n]).unwrap();
+                least[cheapest] += 1;
+            }
+            assert!(least.iter().all(|times| *times >= 1), "{least:?}");
+            let planted = trio(rate, 3 * TRIO_DOUBT, Gaps::Alike, &mut Random::new(41, 12));
+            assert_eq!(near(&planted).len(), 3);
+            assert_eq!(margin(&planted), Some(0));
         }
     }
 }

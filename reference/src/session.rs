@@ -175,7 +175,7 @@ mod tests {
     #[test]
     fn closing_checks_sizes_then_missing_places() {
         let mut session = Session::open(39, &[]).unwrap();
-        let (mut message, mut report) = ([9; 40], [9; 9]);
+        let (mut message, mut report) = ([9; 40], [9; REPORT_BYTES + 1]);
         assert_eq!(
             session.close(&mut message, &mut report[1..]),
             Err(Refusal::Size)
@@ -192,12 +192,12 @@ mod tests {
             assert_eq!(session.check_missing(), Err(Refusal::Missing));
             session.deliver(place, [0; 16]).unwrap();
         }
-        assert_eq!((message, report), ([9; 40], [9; 9]));
+        assert_eq!((message, report), ([9; 40], [9; REPORT_BYTES + 1]));
         let before = session.clone();
         for _ in 0..2 {
             assert_eq!(session.close(&mut message[1..], &mut report[1..]), Ok(()));
             assert_eq!(message[1..], [0; 39]);
-            assert_eq!(report[1..], [0, 0, 0, 0, 0, 1, 0, 0]);
+            assert_eq!(report[1..], [0, 0, 0, 0, 0, 1, 0, 0, 0, 0, 0, 0, 0]);
         }
         assert_eq!(session, before);
     }

@@ -6,7 +6,8 @@ use crate::nearest::Finder;
 use crate::refusal::Refusal;
 
 /// "Reads a capture and prints `rate d total tests pinned changed`, then a line of k lower-case
-/// hexadecimal digits, the message from symbol 0 on; or one line `refused N`."
+/// hexadecimal digits, the message from symbol 0 on; or one line `refused N`." "`show` adds the
+/// margin, or `-`, at the end of its first line."
 pub fn show(capture: &[u8]) -> String {
     match lines(capture) {
         Ok(lines) => lines,
@@ -24,13 +25,15 @@ fn lines(capture: &[u8]) -> Result<String, Refusal> {
         .iter()
         .map(|symbol| format!("{symbol:x}"))
         .collect();
+    let margin = answer.margin.map(|margin| margin.to_string());
     Ok(format!(
-        "{} {} {} {} {} {}\n{message}\n",
+        "{} {} {} {} {} {} {}\n{message}\n",
         session.rate(),
         session.doubtful().len(),
         answer.total,
         answer.tests,
         answer.pinned,
-        answer.changed
+        answer.changed,
+        margin.as_deref().unwrap_or("-")
     ))
 }

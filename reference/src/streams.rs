@@ -2,7 +2,8 @@
 //!
 //! - [`compare_calls`]: one process for each share of the frames; it reads calls and writes
 //!   answers, as [`crate::calls`] lays them out. The [`Tally`] says what was compared.
-//! - [`compare_shows`]: a process for each capture, valid or damaged, that prints as `show` does.
+//! - [`compare_shows`]: a process for each capture, valid or damaged, that prints as `show` does;
+//!   [`Shown`] says what was compared.
 
 use std::collections::BTreeMap;
 use std::fmt;
@@ -13,19 +14,25 @@ use std::thread;
 use crate::call_lists::call_list;
 use crate::calls::Call;
 use crate::damage::{capture_of, damaged};
+use crate::decode::{margin_of, REPORT_BYTES};
 use crate::frames::Frame;
+use crate::margins::Margins;
 use crate::random::Random;
 use crate::session::Session;
 use crate::show::show;
 
-/// How often each call was answered with each number; a look-up's number is the part's length.
+/// How often each call was answered with each number, and the margins, a frame each.
 #[derive(Clone, Debug, Default, PartialEq, Eq)]
-pub struct Tally(BTreeMap<(char, u16), usize>);
+pub struct Tally {
+    /// By letter and number; a look-up's number is the part's length.
+    answers: BTreeMap<(char, u16), usize>,
+    pub margins: Margins,
+}
 
 impl Tally {
     /// How many calls were compared.
     pub fn calls(&self) -> usize {
-        self.0.values().sum()
+        self.answers.values().sum()
     }
 
     fn count(&mut self, call: &Call, answer: &[u8]) {
@@ -33,31 +40,30 @@ impl Tally {
             Call::LookUp { .. } => u16::from_be_bytes([answer[0], answer[1]]),
             _ => u16::from(answer[0]),
         };
-        *self
-            .0
-            .entry((char::from(call.letter()), number))
-            .or_default() += 1;
+        let answer = (char::from(call.letter()), number);
+        *self.answers.entry(answer).or_default() += 1;
     }
 
     fn add(&mut self, other: Tally) {
-        for (answer, times) in other.0 {
-            *self.0.entry(answer).or_default() += times;
+        for (answer, times) in other.answers {
+            *self.answers.entry(answer).or_default() += times;
         }
+        self.margins.add(other.margins);
     }
 }
 
 impl fmt::Display for Tally {
-    /// Each letter once, then its numbers and how often they came.
+    /// Each letter once, then its numbers and how often they came; the margins last.
     fn fmt(&self, out: &mut fmt::Formatter) -> fmt::Result {
         let mut last = ' ';
-        for ((letter, number), times) in &self.0 {
+        for ((letter, number), times) in &self.answers {
             if *letter != last {
                 write!(out, "{}{letter}", if last == ' ' { "" } else { "; " })?;
             }
             write!(out, " {number}: {times}")?;
             last = *letter;
         }
-        Ok(())
+        write!(out, "; {}", self.margins)
     }
 }
 
@@ -97,6 +103,7 @@ pub fn check_answers(frames: &[(u64, Vec<Call>)], answers: &[u8]) -> Result<Tall
     let mut tally = Tally::default();
     let mut session = Session::default();
     for (number, calls) in frames {
+        let mut closed = None;
         for (at, call) in calls.iter().enumerate() {
             let expected = call.answer(&mut session);
             rest = rest.strip_prefix(&expected[..]).ok_or_else(|| {
@@ -105,12 +112,27 @@ pub fn check_answers(frames: &[(u64, Vec<Call>)], answers: &[u8]) -> Result<Tall
                 format!("frame {number}, call {at} ({letter}): {difference}")
             })?;
             tally.count(call, &expected);
+            closed = margin_at_closing(call, &expected).or(closed);
+        }
+        if let Some(margin) = closed {
+            tally.margins.count(margin);
         }
     }
     if rest.is_empty() {
         Ok(tally)
     } else {
         Err(format!("{} bytes after the last answer", rest.len()))
+    }
+}
+
+/// The margin in the report of an accepted closing.
+fn margin_at_closing(call: &Call, answer: &[u8]) -> Option<Option<u32>> {
+    match call {
+        Call::Close { .. } if answer[0] == 0 => {
+            let report = &answer[answer.len() - REPORT_BYTES..];
+            Some(margin_of(report))
+        }
+        _ => None,
     }
 }
 
@@ -122,11 +144,18 @@ fn difference(expected: &[u8], got: &[u8]) -> String {
     format!("byte {same} of {length}: expected {expected}, got {got}")
 }
 
-/// Runs a program on the captures of `count` frames, every second one damaged. The number of
-/// captures compared, or a line that names the first difference.
-pub fn compare_shows(program: &[String], seed: u64, count: u64) -> Result<usize, String> {
-    let compared = in_shares(count, |numbers| {
-        let mut compared = 0;
+/// The number of captures compared, and the margins shown for them.
+#[derive(Clone, Copy, Debug, Default, PartialEq, Eq)]
+pub struct Shown {
+    pub captures: u64,
+    pub margins: Margins,
+}
+
+/// Runs a program on `count` captures of numbered frames, every second one damaged. What was
+/// compared, or a line that names the first difference.
+pub fn compare_shows(program: &[String], seed: u64, count: u64) -> Result<Shown, String> {
+    let shares = in_shares(count, |numbers| {
+        let mut shown = Shown::default();
         for number in numbers {
             let capture = numbered_capture(seed, number);
             let expected = show(&capture);
@@ -137,11 +166,26 @@ pub fn compare_shows(program: &[String], seed: u64, count: u64) -> Result<usize,
                     "capture {number}: expected {expected:?}, got {got:?}"
                 ));
             }
-            compared += 1;
+            shown.captures += 1;
+            if let Some(margin) = margin_shown(&expected) {
+                shown.margins.count(margin);
+            }
         }
-        Ok(compared)
+        Ok(shown)
     })?;
-    Ok(compared.into_iter().sum())
+    let mut sum = Shown::default();
+    for shown in shares {
+        sum.captures += shown.captures;
+        sum.margins.add(shown.margins);
+    }
+    Ok(sum)
+}
+
+/// The margin, or `-`, at the end of the first of two lines.
+fn margin_shown(lines: &str) -> Option<Option<u32>> {
+    let (heading, message) = lines.split_once('\n')?;
+    let margin = heading.rsplit(' ').next()?;
+    (!message.is_empty()).then(|| margin.parse().ok())
 }
 
 /// The capture of a numbered frame in random order; damaged where the number is odd.
@@ -232,6 +276,25 @@ mod tests {
             "byte 2 of 3: expected [ee], got [00]"
         );
         assert_eq!(difference(&[7], &[]), "byte 0 of 1: expected [07], got []");
+    }
+
+    #[test]
+    fn frames_with_a_margin_are_counted_once() {
+        let frames: Vec<_> = (0..26).map(|n| (n, chosen_calls(ALL, 73, n))).collect();
+        let calls = frames.iter().flat_map(|(_, calls)| calls);
+        let answers = answer_all(&calls.flat_map(Call::bytes).collect::<Vec<u8>>()).unwrap();
+        let tally = check_answers(&frames, &answers).unwrap();
+        assert_eq!(tally.margins.present(), 10);
+        assert!(tally.margins.zero >= 2 && tally.margins.absent <= 16);
+        assert!(tally.to_string().ends_with(&tally.margins.to_string()));
+    }
+
+    #[test]
+    fn margins_are_read_from_what_is_shown() {
+        assert_eq!(margin_shown("39 1 210 1 0 7 -\n0\n"), Some(None));
+        assert_eq!(margin_shown("39 8 210 2 0 7 0\n0\n"), Some(Some(0)));
+        assert_eq!(margin_shown("39 8 210 2 0 7 66000\n0\n"), Some(Some(66000)));
+        assert_eq!(margin_shown("refused 9\n"), None);
     }
 
     #[test]

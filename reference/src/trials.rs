@@ -4,13 +4,15 @@
 //!   or 0. [`REFERENCE`] and [`REFERENCE_TABLE`] are this package's.
 //! - [`encode_trial`], [`read_back_trial`], [`table_trial`]: one numbered call, right or damaged,
 //!   on a library; the [`Outcome`] is its number and every byte of its buffers.
-//! - [`compare`]: many trials on two libraries; the [`Tally`] of numbers, or a [`Difference`].
+//! - [`compare`]: many trials on two libraries; the [`Tally`] of numbers and margins, or a
+//!   [`Difference`].
 
 use std::thread;
 
 use crate::code::{encode, read_back, Code};
-use crate::decode::{decode_table, table_of_columns};
+use crate::decode::{decode_table, margin_of, table_of_columns, REPORT_BYTES};
 use crate::frames::{random_codeword, Frame, RATES};
+use crate::margins::Margins;
 use crate::random::Random;
 use crate::refusal::number;
 
@@ -40,7 +42,9 @@ pub const REFERENCE_TABLE: DecodeTable = |rate, table, doubt, message, report| {
 #[derive(Clone, Debug, PartialEq, Eq)]
 pub struct Outcome {
     pub number: u8,
-    pub buffers: Vec<Vec<u8>>,
+    pub buffer: Vec<u8>,
+    /// None where the call has no report.
+    pub report: Option<Vec<u8>>,
 }
 
 /// A trial whose outcomes differ.
@@ -53,8 +57,28 @@ pub struct Difference {
 /// One call of a library, the same for the same random stream.
 pub type Trial<L> = fn(&L, Random) -> Outcome;
 
-/// How often each number was returned.
-pub type Tally = [u64; 12];
+/// How often each number was returned, and the margins of the reports.
+#[derive(Clone, Debug, Default)]
+pub struct Tally {
+    pub numbers: [u64; 12],
+    pub margins: Margins,
+}
+
+impl Tally {
+    fn count(&mut self, outcome: &Outcome) {
+        self.numbers[usize::from(outcome.number)] += 1;
+        if let (0, Some(report)) = (outcome.number, &outcome.report) {
+            self.margins.count(margin_of(report));
+        }
+    }
+
+    fn add(&mut self, other: Tally) {
+        for (sum, times) in self.numbers.iter_mut().zip(other.numbers) {
+            *sum += times;
+        }
+        self.margins.add(other.margins);
+    }
+}
 
 /// Encoding into the middle of a frame.
 pub fn encode_trial(library: &Coding, mut random: Random) -> Outcome {
@@ -77,7 +101,8 @@ pub fn encode_trial(library: &Coding, mut random: Random) -> Outcome {
     let number = (library.encode)(rate, &message, &mut frame, start);
     Outcome {
         number,
-        buffers: vec![frame],
+        buffer: frame,
+        report: None,
     }
 }
 
@@ -97,7 +122,8 @@ pub fn read_back_trial(library: &Coding, mut random: Random) -> Outcome {
     let number = (library.read_back)(rate, &word, &mut message);
     Outcome {
         number,
-        buffers: vec![message],
+        buffer: message,
+        report: None,
     }
 }
 
@@ -113,11 +139,12 @@ pub fn table_trial(decode_table: &DecodeTable, mut random: Random) -> Outcome {
     };
     let rate = perhaps_unknown(frame.rate, &mut random);
     let mut message = bytes(perhaps_other(frame.rate as usize, &mut random), &mut random);
-    let mut report = bytes(perhaps_other(8, &mut random), &mut random);
+    let mut report = bytes(perhaps_other(REPORT_BYTES, &mut random), &mut random);
     let number = decode_table(rate, &table, doubt, &mut message, &mut report);
     Outcome {
         number,
-        buffers: vec![message, report],
+        buffer: message,
+        report: Some(report),
     }
 }
 
@@ -147,7 +174,7 @@ fn perhaps_unknown(rate: u64, random: &mut Random) -> u64 {
 /// The size, or once in twenty another one.
 fn perhaps_other(size: usize, random: &mut Random) -> usize {
     if random.once_in(20) {
-        random.one_of(&[0, size - 1, size + 1, 39, 49])
+        random.one_of(&[0, 8, size - 1, size + 1, 39, 49])
     } else {
         size
     }
@@ -161,8 +188,8 @@ fn spoil_symbol(symbols: &mut [u8], random: &mut Random) {
     }
 }
 
-/// Runs trials 0 to `count` − 1 of a seed on both libraries: how often each number came, or the
-/// first trial found whose outcomes differ.
+/// Runs trials 0 to `count` − 1 of a seed on both libraries: what came how often, or the first trial
+/// found whose outcomes differ.
 pub fn compare<L: Sync>(
     trial: Trial<L>,
     libraries: [&L; 2],
@@ -180,7 +207,7 @@ pub fn compare<L: Sync>(
                     outcomes,
                 });
             }
-            tally[usize::from(outcomes[0].number)] += 1;
+            tally.count(&outcomes[0]);
         }
         Ok(tally)
     };
@@ -190,10 +217,7 @@ pub fn compare<L: Sync>(
             .collect();
         let mut sum = Tally::default();
         for part in parts {
-            let tally = part.join().expect("a thread that ends")?;
-            for (total, count) in sum.iter_mut().zip(tally) {
-                *total += count;
-            }
+            sum.add(part.join().expect("a thread that ends")?);
         }
         Ok(sum)
     })
@@ -206,7 +230,9 @@ mod tests {
     /// The numbers that come often when a library is compared with itself.
     fn reached<L: Sync>(trial: Trial<L>, library: &L, count: u64) -> Vec<usize> {
         let tally = compare(trial, [library, library], 60, count).unwrap();
-        (0..12).filter(|number| tally[*number] >= 10).collect()
+        (0..12)
+            .filter(|number| tally.numbers[*number] >= 10)
+            .collect()
     }
 
     #[test]
@@ -245,5 +271,64 @@ mod tests {
         assert!(compare(encode_trial, [&REFERENCE, &shifted], 61, 400).is_err());
         assert!(compare(read_back_trial, [&REFERENCE, &lenient], 61, 400).is_err());
         assert!(compare(table_trial, [&REFERENCE_TABLE, &miscounting], 61, 400).is_err());
+    }
+
+    #[test]
+    fn trials_have_margins() {
+        let both = [&REFERENCE_TABLE, &REFERENCE_TABLE];
+        let tally = compare(table_trial, both, 62, 1200).unwrap();
+        assert_eq!(tally.margins.check(1200), Ok(()));
+        assert!(tally.margins.zero >= 60 && tally.margins.absent >= 200);
+        let both = [&REFERENCE, &REFERENCE];
+        let tally = compare(encode_trial, both, 62, 40).unwrap();
+        assert_eq!(tally.margins, Margins::default());
+    }
+
+    /// Table decoding with one fault each in what the report says of the margin.
+    #[test]
+    fn wrong_margins_are_found() {
+        fn faulty(
+            [rate, doubt]: [u64; 2],
+            table: &[u8],
+            [message, report]: [&mut [u8]; 2],
+            fault: fn(&mut [u8]),
+        ) -> u8 {
+            let number = REFERENCE_TABLE(rate, table, doubt, message, report);
+            if number == 0 {
+                fault(report);
+            }
+            number
+        }
+        let never: DecodeTable = |rate, table, doubt, message, report| {
+            faulty([rate, doubt], table, [message, report], |report| {
+                report[8..].fill(0);
+            })
+        };
+        let always: DecodeTable = |rate, table, doubt, message, report| {
+            faulty([rate, doubt], table, [message, report], |report| {
+                report[8] = 1;
+            })
+        };
+        let zero_is_absent: DecodeTable = |rate, table, doubt, message, report| {
+            faulty([rate, doubt], table, [message, report], |report| {
+                report[8] &= u8::from(report[9..] != [0; 4]);
+            })
+        };
+        let two_bytes: DecodeTable = |rate, table, doubt, message, report| {
+            faulty([rate, doubt], table, [message, report], |report| {
+                report[9..11].fill(0);
+            })
+        };
+        let runner_up: DecodeTable = |rate, table, doubt, message, report| {
+            faulty([rate, doubt], table, [message, report], |report| {
+                if let Some(margin) = margin_of(report) {
+                    let total = u32::from_be_bytes([report[0], report[1], report[2], report[3]]);
+                    report[9..].copy_from_slice(&(total + margin).to_be_bytes());
+                }
+            })
+        };
+        for library in [never, always, zero_is_absent, two_bytes, runner_up] {
+            assert!(compare(table_trial, [&REFERENCE_TABLE, &library], 63, 400).is_err());
+        }
     }
 }

@@ -3,7 +3,7 @@
 use reference::capture::{capture_size, write_capture};
 use reference::code::encode;
 use reference::curve::{monomials, points, Monomial, Point, PLACES};
-use reference::decode::{decode_table, table_of_columns, Answer};
+use reference::decode::{decode_table, margin_of, table_of_columns, Answer, REPORT_BYTES};
 use reference::field::times;
 use reference::frames::frame_s;
 use reference::refusal::Refusal;
@@ -86,7 +86,7 @@ fn c10_all_sixteen_at_the_ceiling() {
 /// Table decoding's answer, taken from the buffers.
 fn decoded(rate: u64, columns: &Columns, doubt: u64) -> Result<Answer, Refusal> {
     let mut message = vec![99; rate as usize];
-    let mut report = [99; 8];
+    let mut report = [99; REPORT_BYTES];
     let table = table_of_columns(columns);
     decode_table(rate, &table, doubt, &mut message, &mut report)?;
     Ok(Answer {
@@ -95,10 +95,11 @@ fn decoded(rate: u64, columns: &Columns, doubt: u64) -> Result<Answer, Refusal> 
         tests: u16::from_be_bytes([report[4], report[5]]),
         pinned: report[6],
         changed: report[7],
+        margin: margin_of(&report),
     })
 }
 
-/// An answer with the message zero.
+/// An answer with the message zero and no second near codeword.
 fn zero(total: u32, tests: u16, pinned: u8, changed: u8) -> Answer {
     let message = vec![0; 39];
     Answer {
@@ -107,6 +108,7 @@ fn zero(total: u32, tests: u16, pinned: u8, changed: u8) -> Answer {
         tests,
         pinned,
         changed,
+        margin: None,
     }
 }
 
@@ -134,7 +136,7 @@ fn r3_seven_wrong_places_one_of_them_doubtful() {
     let session = delivered(39, &[0], &frame_s(7));
     let mut capture = vec![0; capture_size(&session)];
     assert_eq!(write_capture(&session, &mut capture), Ok(()));
-    let expected = format!("39 1 210 1 0 7\n{}\n", "0".repeat(39));
+    let expected = format!("39 1 210 1 0 7 -\n{}\n", "0".repeat(39));
     assert_eq!(show(&capture), expected);
     assert_eq!(show(include_bytes!("../../examples/r3.capture")), expected);
 }

@@ -4,13 +4,17 @@ use reference::capture::{capture_size, look_up, open_capture, write_capture};
 use reference::code::Code;
 use reference::curve::PLACES;
 use reference::damage::{capture_of, damaged};
-use reference::decode::{decode, decode_table, table_of_columns, test_words};
+use reference::decode::{decode, decode_table, table_of_columns, test_words, REPORT_BYTES};
 use reference::frames::{frame, Frame, Kind, RATES};
+use reference::margins::Margins;
 use reference::nearest::Finder;
+use reference::pairs::{between, Gaps};
 use reference::random::Random;
 use reference::refusal::Refusal;
+use reference::row::Row;
 use reference::session::Session;
-use reference::soft::{column_bytes, doubtful_places, total};
+use reference::show::show;
+use reference::soft::{best, column_bytes, doubtful_places, second, total, DOUBT_LIMIT};
 
 /// A frame delivered in the order of the places given.
 fn delivered(frame: &Frame, doubtful: &[u8], arrivals: &[u8]) -> Session {
@@ -24,7 +28,7 @@ fn delivered(frame: &Frame, doubtful: &[u8], arrivals: &[u8]) -> Session {
 
 fn closed(session: &Session) -> (Result<(), Refusal>, Vec<u8>, Vec<u8>) {
     let mut message = vec![99; session.rate() as usize];
-    let mut report = vec![99; 8];
+    let mut report = vec![99; REPORT_BYTES];
     let result = session.close(&mut message, &mut report);
     (result, message, report)
 }
@@ -39,7 +43,7 @@ fn table_decoding_answers_as_the_session_with_its_places() {
         let doubtful = doubtful_places(&frame.columns, doubt);
         let session = delivered(&frame, &doubtful, &random.shuffled(0..64));
         let mut message = vec![99; frame.rate as usize];
-        let mut report = vec![99; 8];
+        let mut report = vec![99; REPORT_BYTES];
         let table = table_of_columns(&frame.columns);
         let result = decode_table(frame.rate, &table, doubt as u64, &mut message, &mut report);
         assert_eq!(closed(&session), (result, message, report));
@@ -157,9 +161,10 @@ fn decoding_agrees_with_trying_every_change_of_one_place() {
         Kind::Level,
         Kind::Tied,
     ];
-    let mut answered = 0;
-    for number in 0..72 {
-        let kind = kinds[number as usize % kinds.len()];
+    let pairs = [Kind::Pair, Kind::EqualPair, Kind::UnevenPair, Kind::Trio];
+    let numbered = (0..72).map(|number| (number, kinds[number as usize % kinds.len()]));
+    let (mut answered, mut margins) = (0, 0);
+    for (number, kind) in numbered.chain((72..).zip(pairs)) {
         let mut random = Random::new(88, number);
         let frame = frame(kind, 49, number as usize / 6 % 4, &mut random);
         let mut tests = 0;
@@ -178,14 +183,107 @@ fn decoding_agrees_with_trying_every_change_of_one_place() {
             tests += u16::from(near.len() > before);
         }
         let answer = decode(finder, &frame.columns, &frame.doubtful);
-        let expected = near
-            .into_iter()
-            .min()
-            .map(|(total, message)| (total, message, tests));
+        let expected = near.iter().min().map(|(total, message)| {
+            let others = near.iter().filter(|(_, other)| other != message);
+            let margin = others.map(|(other, _)| other - total).min();
+            (*total, message.clone(), tests, margin)
+        });
         answered += u32::from(answer.is_some());
-        assert_eq!(answer.map(|a| (a.total, a.message, a.tests)), expected);
+        let answer = answer.map(|a| (a.total, a.message, a.tests, a.margin));
+        margins += u32::from(matches!(answer, Some((.., Some(_)))));
+        assert_eq!(answer, expected);
     }
     assert!((20..70).contains(&answered));
+    assert_eq!(margins, 3);
+}
+
+/// Codes small enough to try all messages, with their own large T. A near codeword has best symbols
+/// at settled places, and best or second ones at doubtful places, but for T places at most.
+#[test]
+fn margins_of_small_codes_agree_with_trying_every_message() {
+    for top in [4, 5, 8] {
+        let code = Code::new(top);
+        let finder = Finder::new(&code);
+        let all: Vec<(Vec<u8>, Row)> = (0..1u32 << (4 * code.symbols))
+            .map(|number| {
+                let symbol = |place| (number >> (4 * place) & 15) as u8;
+                let message: Vec<u8> = (0..code.symbols).map(symbol).collect();
+                let codeword = code.codeword(&message);
+                (message, codeword)
+            })
+            .collect();
+        let light = all.iter().map(|(_, word)| *word);
+        let light: Vec<Row> = light.filter(|word| word.weight() == PLACES - top).collect();
+        let mut margins = Margins::default();
+        for number in 0..60 {
+            let mut random = Random::new(90, number);
+            let first = all[random.below(all.len())].1;
+            let mut other = first;
+            other.add(&random.one_of(&light));
+            let doubt = DOUBT_LIMIT + number as usize % 3;
+            let lean = (PLACES - top - doubt) / 2 + random.below(3);
+            let gaps = random.one_of(&[Gaps::Mixed, Gaps::Wide]);
+            let rate = code.symbols as u64;
+            let planted = between([first, other], rate, doubt, lean, gaps, &mut random);
+            let frame = match gaps {
+                Gaps::Mixed => planted.apart(random.one_of(&[0, 1, 300])).frame,
+                _ => planted.frame,
+            };
+
+            let Frame {
+                doubtful, columns, ..
+            } = &frame;
+            let right: Vec<(u8, u8)> = (0..)
+                .zip(columns)
+                .map(|(place, column)| match doubtful.contains(&place) {
+                    true => (best(column), second(column)),
+                    false => (best(column), best(column)),
+                })
+                .collect();
+            let near = |word: &Row| {
+                let symbols = word.elements();
+                let wrong = |((a, b), symbol): &(&(u8, u8), &u8)| a != *symbol && b != *symbol;
+                right.iter().zip(&symbols).filter(wrong).count() <= code.reach
+            };
+            let near = all.iter().filter(|(_, word)| near(word));
+            let mut near: Vec<(u32, &Vec<u8>)> = near
+                .map(|(message, word)| (total(columns, &word.elements()), message))
+                .collect();
+            near.sort();
+            let expected = near.first().map(|(total, message)| {
+                let margin = near.get(1).map(|(next, _)| next - total);
+                (*total, message.to_vec(), margin)
+            });
+            let answer = decode(&finder, columns, doubtful);
+            if let Some(answer) = &answer {
+                margins.count(answer.margin);
+            }
+            assert_eq!(answer.map(|a| (a.total, a.message, a.margin)), expected);
+        }
+        assert!(margins.above >= 10 && margins.zero >= 2 && margins.absent >= 10);
+    }
+}
+
+/// A margin, zero or not, ends the first line; `-` stands where there is none.
+#[test]
+fn shown_lines_end_with_the_margin() {
+    let places: Vec<u8> = (0..64).collect();
+    let end = |kind| {
+        let frame = frame(kind, 49, 8, &mut Random::new(91, 0));
+        let lines = show(&capture_of(&frame, &places));
+        let heading = lines.lines().next().unwrap();
+        let finder = Finder::of_rate(49).unwrap();
+        let answer = decode(finder, &frame.columns, &frame.doubtful).unwrap();
+        (
+            heading.rsplit(' ').next().unwrap().to_string(),
+            answer.margin,
+        )
+    };
+    assert_eq!(end(Kind::UnevenPair), ("-".to_string(), None));
+    assert_eq!(end(Kind::EqualPair), ("0".to_string(), Some(0)));
+    let (shown, margin) = end(Kind::WidePair);
+    assert!(margin > Some(9999));
+    assert_eq!(shown, margin.unwrap().to_string());
 }
 
 /// Slips that the planted pairs show: the first near codeword is not always the answer, and an

@@ -1,5 +1,5 @@
-/* Table decoding as the firmware calls it: bench sheet R1, R2 and R4 to R6, every refusal in its
- * order, and guard bytes around each buffer. */
+/* Table decoding as the firmware calls it: bench sheet R1, R2 and R4 to R6, margins, every refusal
+ * in its order, and guard bytes around each buffer. */
 #include <stdio.h>
 #include <string.h>
 
@@ -69,7 +69,23 @@ static void frame_s(size_t m)
     }
 }
 
-static void answers(size_t rate, size_t doubt, unsigned total, unsigned tests, unsigned pinned, unsigned changed, const char *what)
+/* The function (x^11 + x^6 + x)(y^2 + y + 6), a message of rate 49, is not zero at ten places only,
+ * those with x^5 = 1 and y = 4 or 5, where it is x. Its first eight places have gap 5 at most here and
+ * the last two gap 6; the first nine vote for zero and the last one for the function. So with doubt 8
+ * the test words of eight best and of eight second symbols have a codeword within T = 1: zero, whose
+ * total is 6, and the function's, whose total is 8 * gap + 6. */
+static void frame_of_two(unsigned gap)
+{
+    static const uint8_t ten[10] = {6, 7, 34, 35, 42, 43, 50, 51, 62, 63};
+    frame_s(0);
+    for (size_t i = 0; i < 10; i++)
+        put_cost(ten[i], ten[i] / 4, i < 8 ? gap : i == 8 ? 6 : 0);
+    put_cost(63, 0, 6);
+}
+
+enum { ABSENT = -1 };
+
+static void answers(size_t rate, size_t doubt, unsigned total, unsigned tests, unsigned pinned, unsigned changed, long margin, const char *what)
 {
     static struct guarded message, report;
     uint8_t given[HERMITIAN_TABLE_BYTES];
@@ -83,6 +99,8 @@ static void answers(size_t rate, size_t doubt, unsigned total, unsigned tests, u
     expect(((unsigned)r[4] << 8 | r[5]) == tests, "tests");
     expect(r[6] == pinned, "pinned");
     expect(r[7] == changed, "changed");
+    expect(r[8] == (margin == ABSENT ? 0 : 1), "a margin is present or absent");
+    expect((((uint32_t)r[9] << 24) | ((uint32_t)r[10] << 16) | ((uint32_t)r[11] << 8) | r[12]) == (margin == ABSENT ? 0u : (uint32_t)margin), "margin");
     expect(all_are(message.bytes, rate, ROOM, 0xEE) && all_are(report.bytes, HERMITIAN_REPORT_BYTES, ROOM, 0xEE), "nothing is written after the buffers");
     expect(memcmp(given, table, sizeof given) == 0, "decoding reads the table");
     expect(guards_stand(&message) && guards_stand(&report), "guards stand");
@@ -101,20 +119,25 @@ static void refused(size_t rate, size_t table_length, size_t doubt, size_t messa
 static void bench_sheet(void)
 {
     frame_s(6);
-    answers(39, 0, 180, 1, 0, 6, "R1: S(6), no doubt");
+    answers(39, 0, 180, 1, 0, 6, ABSENT, "R1: S(6), no doubt");
     frame_s(7);
-    refused(39, HERMITIAN_TABLE_BYTES, 0, 39, 8, HERMITIAN_NONE_NEAR, "R2: S(7), no doubt");
-    answers(39, 1, 210, 1, 0, 7, "S(7), doubt 1: the place picked is 0, as in R3");
-    answers(39, 2, 210, 3, 0, 7, "R4: S(7), doubt 2");
+    refused(39, HERMITIAN_TABLE_BYTES, 0, 39, HERMITIAN_REPORT_BYTES, HERMITIAN_NONE_NEAR, "R2: S(7), no doubt");
+    answers(39, 1, 210, 1, 0, 7, ABSENT, "S(7), doubt 1: the place picked is 0, as in R3");
+    answers(39, 2, 210, 3, 0, 7, ABSENT, "R4: S(7), doubt 2");
     frame_s(1);
-    answers(49, 0, 30, 1, 0, 1, "R5: S(1)");
+    answers(49, 0, 30, 1, 0, 1, ABSENT, "R5: S(1)");
     frame_s(2);
-    refused(49, HERMITIAN_TABLE_BYTES, 0, 49, 8, HERMITIAN_NONE_NEAR, "R5: S(2)");
+    refused(49, HERMITIAN_TABLE_BYTES, 0, 49, HERMITIAN_REPORT_BYTES, HERMITIAN_NONE_NEAR, "R5: S(2)");
     memset(table, 0, sizeof table);
-    answers(39, 0, 0, 1, 0, 0, "R6: a table of zero bytes");
-    answers(49, 0, 0, 1, 0, 0, "a table of zero bytes at the other rate");
+    answers(39, 0, 0, 1, 0, 0, ABSENT, "R6: a table of zero bytes");
+    answers(49, 0, 0, 1, 0, 0, ABSENT, "a table of zero bytes at the other rate");
     memset(table, 255, sizeof table);
-    answers(39, 0, 64u * 65535u, 1, 64, 0, "every cost at the ceiling");
+    answers(39, 0, 64u * 65535u, 1, 64, 0, ABSENT, "every cost at the ceiling");
+    frame_of_two(5);
+    answers(49, 8, 6, 2, 0, 1, 40, "two near codewords");
+    frame_of_two(0);
+    answers(49, 8, 6, 2, 0, 1, 0, "two near codewords of equal totals: zero is a margin");
+    answers(49, 0, 6, 1, 0, 1, ABSENT, "the same without doubt: one is near");
 }
 
 /* Each wrong argument set beside those that a later check would refuse. */
@@ -123,20 +146,21 @@ static void refusals(void)
     static const size_t unknown[] = {0, 38, 40, 48, 50, 64, SIZE_MAX};
     frame_s(7);
     for (size_t i = 0; i < sizeof unknown / sizeof unknown[0]; i++) {
-        refused(unknown[i], HERMITIAN_TABLE_BYTES, 0, 39, 8, HERMITIAN_UNKNOWN_RATE, "unknown rate");
+        refused(unknown[i], HERMITIAN_TABLE_BYTES, 0, 39, HERMITIAN_REPORT_BYTES, HERMITIAN_UNKNOWN_RATE, "unknown rate");
         refused(unknown[i], 5, 9, 3, 7, HERMITIAN_UNKNOWN_RATE, "the rate is checked first");
     }
     for (size_t rate = 39; rate <= 49; rate += 10) {
-        refused(rate, 0, 9, rate, 8, HERMITIAN_WRONG_SIZE, "no table");
-        refused(rate, HERMITIAN_TABLE_BYTES - 1, 9, rate, 8, HERMITIAN_WRONG_SIZE, "a short table");
-        refused(rate, HERMITIAN_TABLE_BYTES + 1, 9, rate, 8, HERMITIAN_WRONG_SIZE, "a long table");
-        refused(rate, HERMITIAN_TABLE_BYTES, 9, rate - 1, 8, HERMITIAN_WRONG_SIZE, "a short message buffer");
-        refused(rate, HERMITIAN_TABLE_BYTES, 9, rate + 1, 8, HERMITIAN_WRONG_SIZE, "a long message buffer");
-        refused(rate, HERMITIAN_TABLE_BYTES, 9, rate, 7, HERMITIAN_WRONG_SIZE, "a short report");
-        refused(rate, HERMITIAN_TABLE_BYTES, 9, rate, 9, HERMITIAN_WRONG_SIZE, "a long report");
-        refused(rate, HERMITIAN_TABLE_BYTES, 9, rate, 8, HERMITIAN_WRONG_DOUBT, "doubt 9");
-        refused(rate, HERMITIAN_TABLE_BYTES, SIZE_MAX, rate, 8, HERMITIAN_WRONG_DOUBT, "the largest doubt");
-        refused(rate, HERMITIAN_TABLE_BYTES, 0, rate, 8, HERMITIAN_NONE_NEAR, "none near");
+        refused(rate, 0, 9, rate, HERMITIAN_REPORT_BYTES, HERMITIAN_WRONG_SIZE, "no table");
+        refused(rate, HERMITIAN_TABLE_BYTES - 1, 9, rate, HERMITIAN_REPORT_BYTES, HERMITIAN_WRONG_SIZE, "a short table");
+        refused(rate, HERMITIAN_TABLE_BYTES + 1, 9, rate, HERMITIAN_REPORT_BYTES, HERMITIAN_WRONG_SIZE, "a long table");
+        refused(rate, HERMITIAN_TABLE_BYTES, 9, rate - 1, HERMITIAN_REPORT_BYTES, HERMITIAN_WRONG_SIZE, "a short message buffer");
+        refused(rate, HERMITIAN_TABLE_BYTES, 9, rate + 1, HERMITIAN_REPORT_BYTES, HERMITIAN_WRONG_SIZE, "a long message buffer");
+        refused(rate, HERMITIAN_TABLE_BYTES, 9, rate, 8, HERMITIAN_WRONG_SIZE, "a report without room for the margin");
+        refused(rate, HERMITIAN_TABLE_BYTES, 9, rate, HERMITIAN_REPORT_BYTES - 1, HERMITIAN_WRONG_SIZE, "a short report");
+        refused(rate, HERMITIAN_TABLE_BYTES, 9, rate, HERMITIAN_REPORT_BYTES + 1, HERMITIAN_WRONG_SIZE, "a long report");
+        refused(rate, HERMITIAN_TABLE_BYTES, 9, rate, HERMITIAN_REPORT_BYTES, HERMITIAN_WRONG_DOUBT, "doubt 9");
+        refused(rate, HERMITIAN_TABLE_BYTES, SIZE_MAX, rate, HERMITIAN_REPORT_BYTES, HERMITIAN_WRONG_DOUBT, "the largest doubt");
+        refused(rate, HERMITIAN_TABLE_BYTES, 0, rate, HERMITIAN_REPORT_BYTES, HERMITIAN_NONE_NEAR, "none near");
     }
 }
 

@@ -2,7 +2,8 @@
 use mathlib.Core.Bool.{Bool, true, false, cond, _&&_, _||_}
 use mathlib.Core.Path.{_≡_, refl, sym, ap, ap₂, _∙_}
 use mathlib.Core.List.{List, [], _∷_}
-use Prim.Native.Nat.{ℕ, suc, _+_, _<_, _≤_}
+use mathlib.Core.Option.{Option, some}
+use Prim.Native.Nat.{ℕ, suc, _+_, _-_, _<_, _≤_}
 use native.Mathlib.Numerals.{add-one}
 use native.Mathlib.Omega.{arith}
 use lib.Dec.{ltb, eqb}
@@ -10,11 +11,16 @@ use lib.ListN.{length, getD, take, drop, length-take, drop-of-length-le}
 use lib.Seq.{drop-cons, getD-take}
 use borrow.Author.Tests.{lt-ltb, le-ltb, eq-eqb, ne-eqb}
 use Rattle.lists.specs.Words.{isBefore}
+use Rattle.lists.specs.Margin.{lesser, lesser-none, lesser-first, lesser-second, lesser-zero}
+use Rattle.totals.specs.declared.margin.Margin.{Margin}
+use Rattle.totals.specs.declared.margin.Margin.the-variants.{Absent, Of}
+use Rattle.totals.specs.Margin.{marginIs, marginFrom, from-is}
+use Rattle.answers.specs.declared.Answer.{Answer}
 use Rattle.answers.specs.declared.Answer.the-variants.{NoneNear, Near}
 use Rattle.answers.specs.declared.Found.{Found}
 use Rattle.answers.specs.Result.{found-same}
-use Rattle.answers.specs.Answered.{counted}
-use Rattle.answers.specs.Better.{isBetter, betterOf}
+use Rattle.answers.specs.Answered.{counted, answering}
+use Rattle.answers.specs.Better.{isBetter, betterFor, betterOf}
 
 -- ---- the order of messages
 
@@ -62,51 +68,123 @@ before-end k t a b {size} e h la lb = ap₂ isBefore (none-left a la) (none-left
 
 -- ---- two answers
 
+-- the smaller of two margins
+module _ (first second : Margin) where
+  pub lesser-absent : first ≡ Absent → marginIs second ≡ lesser (marginIs first) (marginIs second)
+  unfolding marginIs lesser
+  lesser-absent e = sym (ap (λ d. lesser (marginIs d) (marginIs second)) e)
+
+  module _ {one : ℕ} (a : first ≡ Of one) where
+    pub lesser-alone : second ≡ Absent → marginIs (Of one) ≡ lesser (marginIs first) (marginIs second)
+    unfolding marginIs
+    lesser-alone e = sym (ap₂ (λ d g. lesser (marginIs d) (marginIs g)) a e ∙ lesser-none (some one))
+
+    module _ {other : ℕ} (b : second ≡ Of other) where
+      pub lesser-other : other < one → marginIs (Of other) ≡ lesser (marginIs first) (marginIs second)
+      unfolding marginIs
+      lesser-other h = sym (ap₂ (λ d g. lesser (marginIs d) (marginIs g)) a b ∙ lesser-second one other (omega arith))
+
+      pub lesser-one : one ≤ other → marginIs (Of one) ≡ lesser (marginIs first) (marginIs second)
+      unfolding marginIs
+      lesser-one h = sym (ap₂ (λ d g. lesser (marginIs d) (marginIs g)) a b ∙ lesser-first one other h)
+
+-- which of two totals with their messages is better
+module _ (k t u : ℕ) (m n : List ℕ) where
+  cheaper-wins : t < u → isBetter k t m u n ≡ true
+  unfolding isBetter
+  cheaper-wins h = ap (λ c. c || (eqb t u && isBefore (take k m) (take k n))) (lt-ltb t u h)
+
+  dearer-loses : u < t → isBetter k t m u n ≡ false
+  unfolding isBetter
+  dearer-loses h =
+      ap₂ (λ c d. c || (d && isBefore (take k m) (take k n))) (le-ltb t u (omega arith)) (ne-eqb t u (λ (e : t ≡ u). omega arith))
+
+  equal-by : t ≡ u → isBetter k t m u n ≡ isBefore (take k m) (take k n)
+  unfolding isBetter
+  equal-by e = ap₂ (λ c d. c || (d && isBefore (take k m) (take k n))) (le-ltb t u (omega arith)) (eq-eqb t u e)
+
 module _ (k : ℕ) (a b : Found) where
-  -- the one that is kept
-  abbrev wins : Bool
-  wins = isBetter k (a .answer) (a .message) (b .answer) (b .message)
-
-  keep-first : (r : Found) → r .answer ≡ a .answer → r .message ≡ a .message → r .codeword ≡ a .codeword → r .tests ≡ a .tests + b .tests
-      → wins ≡ true → r ≡ betterOf k a b
+  -- what is kept, by the two answers
+  kept : (r f : Found) {x y : Answer} → a .answer ≡ x → b .answer ≡ y → betterFor k x y a b ≡ f → r .answer ≡ f .answer
+      → r .message ≡ f .message → r .codeword ≡ f .codeword → r .tests ≡ a .tests + b .tests → r ≡ betterOf k a b
   unfolding betterOf counted
-  keep-first r ea em ec et w = found-same r (counted (a .tests + b .tests) a) ea em ec et ∙ sym (ap (λ c. counted (a .tests + b .tests) (cond c a b)) w)
-
-  keep-other : (r : Found) → r .answer ≡ b .answer → r .message ≡ b .message → r .codeword ≡ b .codeword → r .tests ≡ a .tests + b .tests
-      → wins ≡ false → r ≡ betterOf k a b
-  unfolding betterOf counted
-  keep-other r ea em ec et w = found-same r (counted (a .tests + b .tests) b) ea em ec et ∙ sym (ap (λ c. counted (a .tests + b .tests) (cond c a b)) w)
+  kept r f ax by e ea em ec et =
+      found-same r (counted (a .tests + b .tests) f) ea em ec et
+      ∙ sym (ap (counted (a .tests + b .tests)) (ap₂ (λ x y. betterFor k x y a b) ax by ∙ e))
 
   pub join-other : (r : Found) → a .answer ≡ NoneNear → r .answer ≡ b .answer → r .message ≡ b .message → r .codeword ≡ b .codeword
       → r .tests ≡ a .tests + b .tests → r ≡ betterOf k a b
-  unfolding isBetter
-  join-other r none-a ea em ec et = keep-other r ea em ec et (ap (λ x. isBetter k x (a .message) (b .answer) (b .message)) none-a)
+  unfolding betterFor
+  join-other r none-a = kept r b none-a refl refl
 
-  pub join-first : (r : Found) (t : ℕ) → b .answer ≡ NoneNear → a .answer ≡ Near t → r .answer ≡ Near t → r .message ≡ a .message
+  pub join-first : (r : Found) (t : ℕ) (d : Margin) → b .answer ≡ NoneNear → a .answer ≡ Near t d → r .answer ≡ Near t d → r .message ≡ a .message
       → r .codeword ≡ a .codeword → r .tests ≡ a .tests + b .tests → r ≡ betterOf k a b
-  unfolding isBetter
-  join-first r t none-b at rt em ec et =
-      keep-first r (rt ∙ sym at) em ec et (ap₂ (λ x y. isBetter k x (a .message) y (b .message)) at none-b)
+  unfolding betterFor
+  join-first r t d none-b at rt = kept r a at none-b refl (rt ∙ sym at)
 
-  module _ (t u : ℕ) (at : a .answer ≡ Near t) (bt : b .answer ≡ Near u) (r : Found) (et : r .tests ≡ a .tests + b .tests) where
-    -- both have an answer: by the tests of the code
-    tested : (x y z : Bool) → ltb t u ≡ x → eqb t u ≡ y → isBefore (take k (a .message)) (take k (b .message)) ≡ z → wins ≡ (x || (y && z))
-    unfolding isBetter
-    tested x y z p q s =
-        ap₂ (λ v w. isBetter k v (a .message) w (b .message)) at bt
-        ∙ ap₂ (λ c d. c || (d && isBefore (take k (a .message)) (take k (b .message)))) p q ∙ ap (λ c. x || (y && c)) s
+  module _ (t u : ℕ) (d e : Margin) (at : a .answer ≡ Near t d) (bt : b .answer ≡ Near u e) (r : Found) (et : r .tests ≡ a .tests + b .tests) where
+    abbrev wins : Bool
+    wins = isBetter k t (a .message) u (b .message)
 
-    pub join-cheaper : t < u → r .answer ≡ Near t → r .message ≡ a .message → r .codeword ≡ a .codeword → r ≡ betterOf k a b
-    join-cheaper h rt em ec = keep-first r (rt ∙ sym at) em ec et (tested true _ _ (lt-ltb t u h) refl refl)
+    abbrev loses : Bool
+    loses = isBetter k u (b .message) t (a .message)
 
-    pub join-dearer : u < t → r .answer ≡ Near u → r .message ≡ b .message → r .codeword ≡ b .codeword → r ≡ betterOf k a b
-    join-dearer h rt em ec =
-        keep-other r (rt ∙ sym bt) em ec et (tested false false _ (le-ltb t u (omega arith)) (ne-eqb t u (λ (e : t ≡ u). omega arith)) refl)
+    -- with the margin that the code joins
+    margined : (v : ℕ) {g : Margin} {o : Option ℕ} → marginIs g ≡ o → Near v g ≡ Near v (marginFrom o)
+    margined v {g} eg = ap (Near v) (sym (from-is g) ∙ ap marginFrom eg)
 
-    pub join-before : t ≡ u → isBefore (take k (a .message)) (take k (b .message)) ≡ true → r .answer ≡ Near t → r .message ≡ a .message
+    abbrev first : Found
+    first = answering (Near t (marginFrom (lesser (marginIs d) (some (u - t))))) a
+
+    abbrev other : Found
+    other = answering (Near u (marginFrom (lesser (marginIs e) (some (t - u))))) b
+
+    abbrev one : Found
+    one = answering (Near u (marginFrom (lesser (marginIs d) (marginIs e)))) b
+
+    chosen : (x y : Bool) → wins ≡ x → loses ≡ y → betterFor k (Near t d) (Near u e) a b ≡ cond x first (cond y other one)
+    unfolding betterFor
+    chosen x y p q = ap₂ (λ v w. cond v first (cond w other one)) p q
+
+    keep-first : {g : Margin} → wins ≡ true → marginIs g ≡ lesser (marginIs d) (some (u - t)) → r .answer ≡ Near t g → r .message ≡ a .message
         → r .codeword ≡ a .codeword → r ≡ betterOf k a b
-    join-before e s rt em ec = keep-first r (rt ∙ sym at) em ec et (tested false true true (le-ltb t u (omega arith)) (eq-eqb t u e) s)
+    unfolding answering
+    keep-first w eg rt em ec = kept r first at bt (chosen true loses w refl) (rt ∙ margined t eg) em ec et
 
-    pub join-after : t ≡ u → isBefore (take k (a .message)) (take k (b .message)) ≡ false → r .answer ≡ Near u → r .message ≡ b .message
+    keep-other : {g : Margin} → wins ≡ false → loses ≡ true → marginIs g ≡ lesser (marginIs e) (some (t - u)) → r .answer ≡ Near u g
+        → r .message ≡ b .message → r .codeword ≡ b .codeword → r ≡ betterOf k a b
+    unfolding answering
+    keep-other w l eg rt em ec = kept r other at bt (chosen false true w l) (rt ∙ margined u eg) em ec et
+
+    pub join-cheaper : {g : Margin} → t < u → marginIs g ≡ lesser (marginIs d) (marginIs (Of (u - t))) → r .answer ≡ Near t g → r .message ≡ a .message
+        → r .codeword ≡ a .codeword → r ≡ betterOf k a b
+    unfolding marginIs
+    join-cheaper h = keep-first (cheaper-wins k t u (a .message) (b .message) h)
+
+    pub join-dearer : {g : Margin} → u < t → marginIs g ≡ lesser (marginIs e) (marginIs (Of (t - u))) → r .answer ≡ Near u g → r .message ≡ b .message
         → r .codeword ≡ b .codeword → r ≡ betterOf k a b
-    join-after e s rt em ec = keep-other r (rt ∙ sym bt) em ec et (tested false true false (le-ltb t u (omega arith)) (eq-eqb t u e) s)
+    unfolding marginIs
+    join-dearer h = keep-other (dearer-loses k t u (a .message) (b .message) h) (cheaper-wins k u t (b .message) (a .message) h)
+
+    -- equal totals
+    module _ (s : t ≡ u) where
+      zero-margin : (g : Margin) {v : ℕ} → v ≡ 0 → marginIs (Of 0) ≡ lesser (marginIs g) (some v)
+      unfolding marginIs
+      zero-margin g z = sym (ap (λ (w : ℕ). lesser (marginIs g) (some w)) z ∙ lesser-zero (marginIs g))
+
+      pub join-before : isBefore (take k (a .message)) (take k (b .message)) ≡ true → r .answer ≡ Near t (Of 0) → r .message ≡ a .message
+          → r .codeword ≡ a .codeword → r ≡ betterOf k a b
+      join-before f = keep-first (equal-by k t u (a .message) (b .message) s ∙ f) (zero-margin d (omega arith))
+
+      pub join-after : isBefore (take k (a .message)) (take k (b .message)) ≡ false → isBefore (take k (b .message)) (take k (a .message)) ≡ true
+          → r .answer ≡ Near u (Of 0) → r .message ≡ b .message → r .codeword ≡ b .codeword → r ≡ betterOf k a b
+      join-after f g =
+          keep-other (equal-by k t u (a .message) (b .message) s ∙ f) (equal-by k u t (b .message) (a .message) (sym s) ∙ g) (zero-margin e (omega arith))
+
+      pub join-same : {g : Margin} → isBefore (take k (a .message)) (take k (b .message)) ≡ false
+          → isBefore (take k (b .message)) (take k (a .message)) ≡ false → marginIs g ≡ lesser (marginIs d) (marginIs e) → r .answer ≡ Near u g
+          → r .message ≡ b .message → r .codeword ≡ b .codeword → r ≡ betterOf k a b
+      unfolding answering
+      join-same f h eg rt em ec =
+          kept r one at bt
+          (chosen false false (equal-by k t u (a .message) (b .message) s ∙ f) (equal-by k u t (b .message) (a .message) (sym s) ∙ h)) (rt ∙ margined u eg) em ec et

@@ -1,39 +1,56 @@
 -- The better of two answers.
 --
---   isBetter k a m b n    whether the answer a with the message m is better than b with n: it is cheaper, or as dear and its message the smaller one
+--   isBetter k t m u n    whether the total t with the message m is better than u with n: it is cheaper, or as dear and its message the smaller one
+--   betterFor k x y a b   of two findings with the answers x and y the one with the better answer, whose rival the other is; if neither is better,
+--                         both are one codeword, and a rival of either is its rival
 --   betterOf k a b        two branches together: the counts add, and what stands beside the better answer is kept
 --   better-tests          its count
 --   better-joins          it is what two lists of test words find together, where a and b is what each of them finds
 --   sound-better          it is sound
 use mathlib.Core.Bool.{Bool, true, false, cond, _&&_, _||_}
-use mathlib.Core.Path.{_≡_, refl, sym, ap, ap₂, _∙_}
+use mathlib.Core.Path.{_≡_, refl, sym, ap, ap₂, _∙_, subst}
 use mathlib.Core.List.{List, _++_}
 use mathlib.Core.Option.{Option, some, none}
-use Prim.Native.Nat.{ℕ, _+_}
-use lib.Dec.{ltb, eqb}
+use Prim.Native.Nat.{ℕ, _+_, _-_}
+use lib.Dec.{T, ltb, eqb}
 use lib.ListN.{take}
+use Rattle.refusals.specs.Refusal.{accepted}
 use Rattle.lists.specs.Every.{both}
 use Rattle.lists.specs.Words.{isBefore}
-use Rattle.lists.specs.Answers.{beats, better, pick}
-use Rattle.near.specs.Here.{reachOf, testsNear, messageCost, answerOf}
+use Rattle.lists.specs.Answers.{no-worse-same, beats, beats-yes, beats-no, better, pick}
+use Rattle.lists.specs.Margin.{lesser}
+use Rattle.totals.specs.declared.margin.Margin.{Margin}
+use Rattle.totals.specs.Margin.{marginIs, marginFrom, is-from}
+use Rattle.near.specs.Here.{reachOf, testsNear, messageCost, answerOf, marginOf}
 use Rattle.near.specs.Laws.{tests-append, answer-append}
+use Rattle.near.specs.Runner.{margin-append, margin-first, margin-second, margin-left, margin-right}
 use Rattle.answers.specs.declared.Answer.{Answer}
 use Rattle.answers.specs.declared.Answer.the-variants.{NoneNear, Near}
 use Rattle.answers.specs.declared.Found.{Found}
 use Rattle.near.specs.Result as Family
-use Rattle.answers.specs.Result.{resultFor}
-use Rattle.answers.specs.Nearest.{Nearest, nearest-nobody, nearest-somebody}
-use Rattle.answers.specs.Answered.{counted, Sound, sound-counted}
+use Rattle.answers.specs.Result.{resultFor, total-near}
+use Rattle.answers.specs.Nearest.{Nearest, nearest-nobody, nearest-somebody, nearest-margin, nearest-some}
+use Rattle.answers.specs.Answered.{counted, answering, Sound, sound-counted, sound-answering}
 use Rattle.family.specs.Member.{m16}
 use Rattle.soft.specs.Total.{everywhere}
 
-unfoldable pub isBetter : ℕ → Answer → List ℕ → Answer → List ℕ → Bool
-isBetter k NoneNear m b n = false
-isBetter k (Near t) m NoneNear n = true
-isBetter k (Near t) m (Near u) n = ltb t u || (eqb t u && isBefore (take k m) (take k n))
+unfoldable pub isBetter : ℕ → ℕ → List ℕ → ℕ → List ℕ → Bool
+isBetter k t m u n = ltb t u || (eqb t u && isBefore (take k m) (take k n))
+
+-- the total and the margin of an answer
+abbrev near : ℕ → Option ℕ → Answer
+near t o = Near t (marginFrom o)
+
+unfoldable pub betterFor : ℕ → Answer → Answer → Found → Found → Found
+betterFor k NoneNear y a b = b
+betterFor k (Near t d) NoneNear a b = a
+betterFor k (Near t d) (Near u e) a b =
+    cond (isBetter k t (a .message) u (b .message)) (answering (near t (lesser (marginIs d) (some (u - t)))) a)
+    (cond (isBetter k u (b .message) t (a .message)) (answering (near u (lesser (marginIs e) (some (t - u)))) b)
+    (answering (near u (lesser (marginIs d) (marginIs e))) b))
 
 unfoldable pub betterOf : ℕ → Found → Found → Found
-betterOf k a b = counted (a .tests + b .tests) (cond (isBetter k (a .answer) (a .message) (b .answer) (b .message)) a b)
+betterOf k a b = counted (a .tests + b .tests) (betterFor k (a .answer) (b .answer) a b)
 
 pub better-tests : (k : ℕ) (a b : Found) → betterOf k a b .tests ≡ a .tests + b .tests
 unfolding betterOf counted
@@ -46,10 +63,6 @@ unfolding better
 better-none cost none = refl
 better-none cost (some m) = refl
 
-picked : (c : Bool) (o o′ : Option (List ℕ)) → pick c o o′ ≡ cond c o o′
-picked true o o′ = refl
-picked false o o′ = refl
-
 abbrev rival : Bool → Bool → Bool
 rival true r = true
 rival false r = r
@@ -59,47 +72,110 @@ either-way true y z = refl
 either-way false true z = refl
 either-way false false z = refl
 
-beats-by : (cost : List ℕ → ℕ) (m n : List ℕ) {t u : ℕ} → t ≡ cost m → u ≡ cost n → beats cost m n ≡ (ltb t u || (eqb t u && isBefore m n))
-unfolding beats
-beats-by cost m n {t} {u} p q =
-    ap₂ (λ x y. rival (ltb x y) (both (eqb x y) (isBefore m n))) (sym p) (sym q) ∙ either-way (ltb t u) (eqb t u) (isBefore m n)
+beats-by : (cost : List ℕ → ℕ) (k : ℕ) (m n : List ℕ) {t u : ℕ} → t ≡ cost (take k m) → u ≡ cost (take k n)
+    → isBetter k t m u n ≡ beats cost (take k m) (take k n)
+unfolding beats isBetter
+beats-by cost k m n {t} {u} p q =
+    sym (either-way (ltb t u) (eqb t u) (isBefore (take k m) (take k n)))
+    ∙ ap₂ (λ x y. rival (ltb x y) (both (eqb x y) (isBefore (take k m) (take k n)))) p q
 
 module _ {k : ℕ} {columns : ℕ → List ℕ} {ts us : List (List ℕ)} {a b : Found} (p : Nearest k columns ts a) (q : Nearest k columns us b) where
-  both-answers : {o o′ : Option (List ℕ)} → answerOf k columns ts ≡ o → answerOf k columns us ≡ o′
-      → answerOf k columns (ts ++ us) ≡ better (messageCost k columns) o o′
-  both-answers e f = answer-append m16 everywhere (reachOf k) k columns ts us ∙ ap₂ (better (messageCost k columns)) e f
+  abbrev cost : List ℕ → ℕ
+  cost = messageCost k columns
 
-  answer-kept : (x y : Answer) → a .answer ≡ x → b .answer ≡ y
-      → answerOf k columns (ts ++ us) ≡ cond (isBetter k x (a .message) y (b .message)) (answerOf k columns ts) (answerOf k columns us)
-  unfolding isBetter better
-  answer-kept NoneNear y e f = both-answers (nearest-nobody p e) refl
-  answer-kept (Near t) NoneNear e f = both-answers refl (nearest-nobody q f) ∙ better-none (messageCost k columns) (answerOf k columns ts)
-  answer-kept (Near t) (Near u) e f =
-      let m = take k (a .message) in
-      let n = take k (b .message) in
-      let P = nearest-somebody p t e in
-      let Q = nearest-somebody q u f in
-      both-answers (P .0) (Q .0)
-      ∙ ap₂ (λ o o′. pick (beats (messageCost k columns) m n) o o′) (sym (P .0)) (sym (Q .0))
-      ∙ picked (beats (messageCost k columns) m n) (answerOf k columns ts) (answerOf k columns us)
-      ∙ ap (λ c. cond c (answerOf k columns ts) (answerOf k columns us)) (beats-by (messageCost k columns) m n (P .1) (Q .1))
+  both-answers : {o o′ : Option (List ℕ)} → answerOf k columns ts ≡ o → answerOf k columns us ≡ o′
+      → answerOf k columns (ts ++ us) ≡ better cost o o′
+  both-answers e f = answer-append m16 everywhere (reachOf k) k columns ts us ∙ ap₂ (better cost) e f
+
+  counts : a .tests + b .tests ≡ testsNear k (ts ++ us)
+  counts = ap₂ (λ x y. x + y) (p .count) (q .count) ∙ sym (tests-append m16 everywhere (reachOf k) k ts us)
+
+  -- a finding with the total and the margin of its message among all test words
+  kept : (f : Found) (t : ℕ) (o : Option ℕ) → answerOf k columns (ts ++ us) ≡ some (take k (f .message)) → t ≡ cost (take k (f .message))
+      → o ≡ marginOf k columns (ts ++ us) (take k (f .message)) → Nearest k columns (ts ++ us) (counted (a .tests + b .tests) (answering (near t o) f))
+  unfolding counted answering
+  kept f t o answered total margin =
+      nearest-some (counted (a .tests + b .tests) (answering (near t o) f)) t (marginFrom o) refl (sym counts) answered total (is-from o ∙ margin)
+
+  -- one of the lists alone has near codewords
+  alone : (f : Found) (ws : List (List ℕ)) → Nearest k columns ws f → answerOf k columns (ts ++ us) ≡ answerOf k columns ws
+      → ((m : List ℕ) → marginOf k columns (ts ++ us) m ≡ marginOf k columns ws m) → Nearest k columns (ts ++ us) (counted (a .tests + b .tests) f)
+  unfolding counted Family.resultOf Family.resultFor
+  alone f ws r answered margin = record { count = counts; result = r .result ∙ go (answerOf k columns ws) ∙ ap (resultFor k columns (ts ++ us)) (sym answered) }
+    where
+      go : (o : Option (List ℕ)) → resultFor k columns ws o ≡ resultFor k columns (ts ++ us) o
+      go none = refl
+      go (some m) = ap (λ (d : Option ℕ). record { number = accepted; message = m; total = cost m; margin = d }) (sym (margin m))
+
+  -- both have
+  module _ {t u : ℕ} {d e : Margin} (at : a .answer ≡ Near t d) (bt : b .answer ≡ Near u e) where
+    abbrev m : List ℕ
+    m = take k (a .message)
+
+    abbrev n : List ℕ
+    n = take k (b .message)
+
+    two-near : Nearest k columns (ts ++ us) (counted (a .tests + b .tests) (betterFor k (Near t d) (Near u e) a b))
+    unfolding betterFor better
+    two-near =
+        go (isBetter k t (a .message) u (b .message)) (isBetter k u (b .message) t (a .message))
+        (beats-by cost k (a .message) (b .message) (P .1) (Q .1)) (beats-by cost k (b .message) (a .message) (Q .1) (P .1))
+      where
+        P : (answerOf k columns ts ≡ some m) × (t ≡ cost m)
+        P = nearest-somebody p t (total-near at)
+
+        Q : (answerOf k columns us ≡ some n) × (u ≡ cost n)
+        Q = nearest-somebody q u (total-near bt)
+
+        answered : (x : Bool) → x ≡ beats cost m n → answerOf k columns (ts ++ us) ≡ pick x (some m) (some n)
+        answered x g = both-answers (P .0) (Q .0) ∙ ap (λ c. pick c (some m) (some n)) (sym g)
+
+        one : false ≡ beats cost m n → false ≡ beats cost n m → m ≡ n
+        one g h = no-worse-same (beats-no cost n m (λ s. subst T (sym h) s)) (beats-no cost m n (λ s. subst T (sym g) s))
+
+        go : (x y : Bool) → x ≡ beats cost m n → y ≡ beats cost n m
+            → Nearest k columns (ts ++ us)
+            (counted (a .tests + b .tests)
+            (cond x (answering (near t (lesser (marginIs d) (some (u - t)))) a)
+            (cond y (answering (near u (lesser (marginIs e) (some (t - u)))) b) (answering (near u (lesser (marginIs d) (marginIs e))) b))))
+        go true y g h =
+            kept a t (lesser (marginIs d) (some (u - t))) (answered true g) (P .1)
+            (ap₂ lesser (nearest-margin p t d at) (ap₂ (λ (v w : ℕ). some (w - v)) (P .1) (Q .1))
+            ∙ sym (margin-first m16 everywhere (reachOf k) k columns ts us (Q .0) (beats-yes cost m n (subst T g tt))))
+        go false true g h =
+            kept b u (lesser (marginIs e) (some (t - u))) (answered false g) (Q .1)
+            (ap₂ lesser (nearest-margin q u e bt) (ap₂ (λ (v w : ℕ). some (v - w)) (P .1) (Q .1))
+            ∙ sym (margin-second m16 everywhere (reachOf k) k columns ts us (P .0) (beats-yes cost n m (subst T h tt))))
+        go false false g h =
+            kept b u (lesser (marginIs d) (marginIs e)) (answered false g) (Q .1)
+            (ap₂ lesser (nearest-margin p t d at ∙ ap (marginOf k columns ts) (one g h)) (nearest-margin q u e bt)
+            ∙ sym (margin-append m16 everywhere (reachOf k) k columns ts us n))
 
   pub better-joins : Nearest k columns (ts ++ us) (betterOf k a b)
-  unfolding betterOf counted Family.resultOf
-  better-joins = go (isBetter k (a .answer) (a .message) (b .answer) (b .message)) (answer-kept (a .answer) (b .answer) refl refl)
+  unfolding betterOf betterFor better
+  better-joins = go (a .answer) (b .answer) refl refl
     where
-      counts : a .tests + b .tests ≡ testsNear k (ts ++ us)
-      counts = ap₂ (λ x y. x + y) (p .count) (q .count) ∙ sym (tests-append m16 everywhere (reachOf k) k ts us)
-
-      go : (c : Bool) → answerOf k columns (ts ++ us) ≡ cond c (answerOf k columns ts) (answerOf k columns us)
-          → Nearest k columns (ts ++ us) (counted (a .tests + b .tests) (cond c a b))
-      go true e = record { count = counts; result = p .result ∙ ap (resultFor k columns) (sym e) }
-      go false e = record { count = counts; result = q .result ∙ ap (resultFor k columns) (sym e) }
+      go : (x y : Answer) → a .answer ≡ x → b .answer ≡ y → Nearest k columns (ts ++ us) (counted (a .tests + b .tests) (betterFor k x y a b))
+      go NoneNear y e f =
+          let o = nearest-nobody p e in
+          alone b us q (both-answers o refl) (margin-right m16 everywhere (reachOf k) k columns ts us o)
+      go (Near t d) NoneNear e f =
+          let o = nearest-nobody q f in
+          alone a ts p (both-answers refl o ∙ better-none cost (answerOf k columns ts)) (margin-left m16 everywhere (reachOf k) k columns ts us o)
+      go (Near t d) (Near u g) e f = two-near e f
 
 pub sound-better : {k : ℕ} {columns : ℕ → List ℕ} {a b : Found} → Sound k columns a → Sound k columns b → Sound k columns (betterOf k a b)
-unfolding betterOf
-sound-better {k} {columns} {a} {b} s r = sound-counted (a .tests + b .tests) (go (isBetter k (a .answer) (a .message) (b .answer) (b .message)))
+unfolding betterOf betterFor
+sound-better {k} {columns} {a} {b} s r = sound-counted (a .tests + b .tests) (go (a .answer) (b .answer) refl refl)
   where
-    go : (c : Bool) → Sound k columns (cond c a b)
-    go true = s
-    go false = r
+    one : (x y : Bool) {f g h : Found} → Sound k columns f → Sound k columns g → Sound k columns h → Sound k columns (cond x f (cond y g h))
+    one true y p q r = p
+    one false true p q r = q
+    one false false p q r = r
+
+    go : (x y : Answer) → a .answer ≡ x → b .answer ≡ y → Sound k columns (betterFor k x y a b)
+    go NoneNear y e f = r
+    go (Near t d) NoneNear e f = s
+    go (Near t d) (Near u g) e f =
+        one (isBetter k t (a .message) u (b .message)) (isBetter k u (b .message) t (a .message)) (sound-answering _ (total-near e) s)
+        (sound-answering _ (total-near f) r) (sound-answering _ (total-near f) r)

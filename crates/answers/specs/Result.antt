@@ -1,12 +1,14 @@
 -- Document 01's number and values for each case of the answer, and what a search returns.
 --
 --   resultIn k answer message  the result of an answer with the message beside it: 9 where none is near; else 0, the first k symbols, the total
+--                              and the margin
+--   totalIs answer             the total, if a codeword is near; total-near: where one is
 --   resultFor, resultOf        the result of an answer's message and of a list of test words, as the family has them
 --   nothingFound               none near, and zeros beside it
---   foundOf k columns tests    the answer with its total, its message with zeros behind it, its codeword, and how many test words have a codeword
---                              within T; or nothing found
+--   foundOf k columns tests    the answer with its total and its margin, its message with zeros behind it, its codeword, and how many test words
+--                              have a codeword within T; or nothing found
 --   found-same                 two findings are equal by their parts
-use mathlib.Core.Path.{_≡_}
+use mathlib.Core.Path.{_≡_, ap}
 use mathlib.Core.List.{List}
 use mathlib.Core.Option.{Option, none, some}
 use Prim.Native.Nat.{ℕ}
@@ -17,8 +19,10 @@ use Rattle.code.specs.Encoding.{encodeOf}
 use Rattle.code.specs.Rates.{mostRate}
 use Rattle.soft.specs.Column.{places}
 use Rattle.soft.specs.Total.{everywhere}
+use Rattle.totals.specs.declared.margin.Margin.{Margin}
+use Rattle.totals.specs.Margin.{marginIs, marginFrom}
 use Rattle.family.specs.Member.{m16}
-use Rattle.near.specs.Here.{reachOf, testsNear, messageCost, answerOf}
+use Rattle.near.specs.Here.{reachOf, testsNear, messageCost, answerOf, marginOf}
 use Rattle.near.specs.Result.{Result, refusedResult}
 use Rattle.near.specs.Result as Family
 use Rattle.answers.specs.declared.Answer.{Answer}
@@ -27,10 +31,18 @@ use Rattle.answers.specs.declared.Found.{Found}
 
 unfoldable pub resultIn : ℕ → Answer → List ℕ → Result
 resultIn k NoneNear message = refusedResult noneNear
-resultIn k (Near t) message = record { number = accepted; message = take k message; total = t }
+resultIn k (Near t d) message = record { number = accepted; message = take k message; total = t; margin = marginIs d }
 
-abbrev pub resultFor : ℕ → (ℕ → List ℕ) → Option (List ℕ) → Result
-resultFor k columns o = Family.resultFor m16 k columns o
+unfoldable pub totalIs : Answer → Option ℕ
+totalIs NoneNear = none
+totalIs (Near t d) = some t
+
+pub total-near : {a : Answer} {t : ℕ} {d : Margin} → a ≡ Near t d → totalIs a ≡ some t
+unfolding totalIs
+total-near e = ap totalIs e
+
+abbrev pub resultFor : ℕ → (ℕ → List ℕ) → List (List ℕ) → Option (List ℕ) → Result
+resultFor k columns tests o = Family.resultFor m16 everywhere (reachOf k) k columns tests o
 
 abbrev pub resultOf : ℕ → (ℕ → List ℕ) → List (List ℕ) → Result
 resultOf k columns tests = Family.resultOf m16 everywhere (reachOf k) k columns tests
@@ -39,13 +51,18 @@ unfoldable pub nothingFound : Found
 nothingFound = record { answer = NoneNear; message = replicate mostRate 0; codeword = replicate places 0; tests = 0 }
 
 -- by the answer's message, if there is one
-unfoldable pub foundFor : ℕ → (ℕ → List ℕ) → ℕ → Option (List ℕ) → Found
+unfoldable pub foundFor : ℕ → (ℕ → List ℕ) → List (List ℕ) → Option (List ℕ) → Found
 foundFor k columns tests none = nothingFound
 foundFor k columns tests (some m) =
-    record { answer = Near (messageCost k columns m); message = padded mostRate m; codeword = encodeOf k m; tests = tests }
+    record {
+      answer = Near (messageCost k columns m) (marginFrom (marginOf k columns tests m));
+      message = padded mostRate m;
+      codeword = encodeOf k m;
+      tests = testsNear k tests;
+    }
 
 unfoldable pub foundOf : ℕ → (ℕ → List ℕ) → List (List ℕ) → Found
-foundOf k columns tests = foundFor k columns (testsNear k tests) (answerOf k columns tests)
+foundOf k columns tests = foundFor k columns tests (answerOf k columns tests)
 
 pub found-same : (f g : Found) → f .answer ≡ g .answer → f .message ≡ g .message → f .codeword ≡ g .codeword → f .tests ≡ g .tests → f ≡ g
 found-same f g a m c n = λ i. record { answer = a i; message = m i; codeword = c i; tests = n i }

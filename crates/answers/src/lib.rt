@@ -3,7 +3,9 @@
 ghost use mathlib.Core.Path.{_≡_};
 ghost use Prim.Native.Nat.{_+_, _≤_};
 ghost use lib.ListN.{take};
+ghost use Rattle.lists.specs.Margin.{lesser};
 ghost use Rattle.lists.specs.Words.{isBefore};
+ghost use Rattle.totals.specs.Margin.{marginIs};
 ghost use Rattle.code.specs.Rates.{mostRate};
 ghost use Rattle.answers.specs.Result.{nothingFound};
 ghost use Rattle.answers.specs.Better.{betterOf};
@@ -11,11 +13,13 @@ use candidate::Message;
 use candidate::Word;
 use candidate::rate::MOST_RATE;
 use columns::costs::PLACES;
+use totals::margin::Margin;
 
-// Document 01's answer: no codeword is near, or the total of the cheapest near one, whose message stands beside it.
+// Document 01's answer: no codeword is near, or the total of the cheapest near one, whose message stands beside it, and its margin to the
+// cheapest of the other near ones.
 pub enum Answer {
     NoneNear,
-    Near { total: u32 },
+    Near { total: u32, margin: Margin },
 }
 
 // The message in the first k entries, where k is the rate, and its codeword; and how many test words have a codeword within T.
@@ -55,7 +59,24 @@ fn before(a: Message, b: Message, k: usize) -> bool
     false
 }
 
-// Two branches together: the counts add, the cheaper answer wins, equal totals go to the smaller message.
+// The smaller of two margins, where one that is absent is larger than any.
+fn lesser(first: Margin, second: Margin) -> Margin
+    ensures { λ r. ⌜ marginIs r ≡ lesser (marginIs first) (marginIs second) ⌝ }
+{
+    let Margin::Of(one) = first else {
+        return second;
+    };
+    let Margin::Of(other) = second else {
+        return first;
+    };
+    if other < one {
+        return second;
+    }
+    first
+}
+
+// Two branches together: the counts add, the cheaper answer wins, equal totals go to the smaller message. The answer that loses is a rival of
+// the other; if both are one codeword, a rival in either branch is its rival.
 pub fn better(a: Found, b: Found, k: usize) -> Found
     requires { ⌜ (k ≤ mostRate) × (a .tests + b .tests ≤ 65535) ⌝ }
     ensures { λ r. ⌜ r ≡ betterOf k a b ⌝ }
@@ -67,7 +88,7 @@ pub fn better(a: Found, b: Found, k: usize) -> Found
     let rival = b.message;
     let codeword = a.codeword;
     let competing = b.codeword;
-    let Answer::Near { total } = first else {
+    let Answer::Near { total, margin } = first else {
         return Found {
             answer: other,
             message: rival,
@@ -75,7 +96,11 @@ pub fn better(a: Found, b: Found, k: usize) -> Found
             tests,
         };
     };
-    let Answer::Near { total: dues } = other else {
+    let Answer::Near {
+        total: dues,
+        margin: spare,
+    } = other
+    else {
         return Found {
             answer: first,
             message,
@@ -85,7 +110,10 @@ pub fn better(a: Found, b: Found, k: usize) -> Found
     };
     if total < dues {
         return Found {
-            answer: first,
+            answer: Answer::Near {
+                total,
+                margin: lesser(margin, Margin::Of(dues - total)),
+            },
             message,
             codeword,
             tests,
@@ -93,7 +121,10 @@ pub fn better(a: Found, b: Found, k: usize) -> Found
     }
     if dues < total {
         return Found {
-            answer: other,
+            answer: Answer::Near {
+                total: dues,
+                margin: lesser(spare, Margin::Of(total - dues)),
+            },
             message: rival,
             codeword: competing,
             tests,
@@ -101,14 +132,31 @@ pub fn better(a: Found, b: Found, k: usize) -> Found
     }
     if before(message, rival, k) {
         return Found {
-            answer: first,
+            answer: Answer::Near {
+                total,
+                margin: Margin::Of(0),
+            },
             message,
             codeword,
             tests,
         };
     }
+    if before(rival, message, k) {
+        return Found {
+            answer: Answer::Near {
+                total: dues,
+                margin: Margin::Of(0),
+            },
+            message: rival,
+            codeword: competing,
+            tests,
+        };
+    }
     Found {
-        answer: other,
+        answer: Answer::Near {
+            total: dues,
+            margin: lesser(margin, spare),
+        },
         message: rival,
         codeword: competing,
         tests,

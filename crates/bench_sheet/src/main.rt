@@ -1,8 +1,9 @@
-// Runs R1 to R6 of document 01's bench sheet on the library, by table and by session. A line is the name, the call's number, the eight bytes of
-// the report, and whether a bit is set anywhere in the message buffer, both as the call left them: they are lent filled with 1.
+// Runs R1 to R6 of document 01's bench sheet on the library, by table and by session. A line is the name, the call's number, the bytes of the
+// report, and whether a bit is set anywhere in the message buffer, both as the call left them: they are lent filled with 1.
 ghost use Prim.Native.Nat.{_≤_};
 use libc::STDOUT_FILENO;
 use session::Session;
+use totals::report::REPORT_BYTES;
 
 // Is place p one of the first m of the places 0, 10, 20, 30, 40, 50, 60?
 fn leaning(place: usize, m: usize) -> bool {
@@ -67,8 +68,8 @@ fn show_name(run: u64, way: &[u8]) {
     io::write_all(STDOUT_FILENO, way);
 }
 
-fn show_report(report: [u8; 8]) {
-    for i in 0..8 {
+fn show_report(report: [u8; REPORT_BYTES]) {
+    for i in 0..REPORT_BYTES {
         show_byte(report[i]);
     }
 }
@@ -84,7 +85,7 @@ fn seen(message: [u8; 49], rate: usize) -> u8
     bits
 }
 
-fn show_answer(number: u8, report: [u8; 8], message: [u8; 49], rate: usize)
+fn show_answer(number: u8, report: [u8; REPORT_BYTES], message: [u8; 49], rate: usize)
     requires { ⌜ rate ≤ 49 ⌝ }
 {
     show_byte(number);
@@ -98,7 +99,7 @@ fn by_table(run: u64, rate: usize, costs: [u8; 2048], doubt: usize)
 {
     show_name(run, b" table");
     let mut room = [1u8; 49];
-    let mut report = [1u8; 8];
+    let mut report = [1u8; REPORT_BYTES];
     let number = table_decoding::decode_table(rate, &costs, doubt, &mut room[..rate], &mut report);
     show_answer(number, report, room, rate);
 }
@@ -108,7 +109,7 @@ fn by_session(run: u64, rate: usize, doubt: usize, m: usize)
 {
     show_name(run, b" session");
     let mut room = [1u8; 49];
-    let mut report = [1u8; 8];
+    let mut report = [1u8; REPORT_BYTES];
     let number = closing::close(filled(rate, doubt, m), &mut room[..rate], &mut report);
     show_answer(number, report, room, rate);
 }

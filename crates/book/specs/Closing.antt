@@ -2,9 +2,11 @@
 --
 --   Closed               what closing answers: 0 or the refusal's number, and the two lent buffers after the call
 --   refusedClosing n message report   refused with the number n: the buffers as they were
---   reportLength         the report's bytes: four of the total, two of the test words, and those of the two counts of places
+--   reportLength         the report's bytes: four of the total, two of the test words, those of the two counts of places, one that says whether
+--                        there is a margin, and four of the margin
 --   testsFor, answerFor k columns doubtful   how many test words have a codeword within T, and the answer, if there is one
---   reportFor k columns doubtful m    the report of the message m: total, test words with a codeword within T, pinned and changed places
+--   marginFor k columns doubtful m    the margin to the runner-up: how much more than that of m the cheapest other near codeword costs, if there is one
+--   reportFor k columns doubtful m    the report of the message m: total, test words with a codeword within T, pinned and changed places, and margin
 --   decodeOf k columns doubtful message report   9 if no codeword is near, the buffers as they were; else 0, the answer's message and its report
 --   closeOf book message report   2 if a buffer has the wrong size, 7 if a place is missing; else what decoding by the row's columns and the doubtful list answers
 use mathlib.Core.Bool.{Bool, cond, _&&_}
@@ -18,6 +20,7 @@ use Rattle.soft.specs.TestWord.{testWords}
 use Rattle.soft.specs.Total.{everywhere, totalOf, pinnedOf, changedOf, reportOf}
 use Rattle.family.specs.Encoding.{encodeOf}
 use Rattle.near.specs.Near.{reachOf, testsNear, answerOf}
+use Rattle.near.specs.Runner.{marginOf}
 use Rattle.book.specs.Model.{Model, places}
 use Rattle.book.specs.Book.{Book, someMissing}
 use Rattle.book.specs.Columns.{columnsOf}
@@ -34,7 +37,7 @@ module _ (𝓓 : Model) where
   open Model 𝓓 using (member, wide)
 
   abbrev pub reportLength : ℕ
-  reportLength = 6 + wide + wide
+  reportLength = 11 + wide + wide
 
   -- T at the rate, and every place counts
   abbrev pub testsFor : ℕ → (ℕ → List ℕ) → List ℕ → ℕ
@@ -43,10 +46,14 @@ module _ (𝓓 : Model) where
   abbrev pub answerFor : ℕ → (ℕ → List ℕ) → List ℕ → Option (List ℕ)
   answerFor k columns doubtful = answerOf member everywhere (reachOf member k) k columns (testWords (places 𝓓) columns doubtful)
 
+  abbrev pub marginFor : ℕ → (ℕ → List ℕ) → List ℕ → List ℕ → Option ℕ
+  marginFor k columns doubtful m = marginOf member everywhere (reachOf member k) k columns (testWords (places 𝓓) columns doubtful) m
+
   unfoldable pub reportFor : ℕ → (ℕ → List ℕ) → List ℕ → List ℕ → List ℕ
   reportFor k columns doubtful m =
       reportOf wide (totalOf (places 𝓓) columns (encodeOf member k m)) (testsFor k columns doubtful)
       (pinnedOf (places 𝓓) columns (encodeOf member k m)) (changedOf (places 𝓓) columns (encodeOf member k m))
+      (marginFor k columns doubtful m)
 
   -- by the answer's message, if there is one
   unfoldable pub answered : ℕ → (ℕ → List ℕ) → List ℕ → Option (List ℕ) → List ℕ → List ℕ → Closed

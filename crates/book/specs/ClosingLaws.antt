@@ -55,7 +55,7 @@ module _ (𝓓 : Model) where
 
   pub report-length : (k : ℕ) (columns : ℕ → List ℕ) (doubtful m : List ℕ) → length (reportFor 𝓓 k columns doubtful m) ≡ reportLength 𝓓
   unfolding reportFor
-  report-length k columns doubtful m = reportOf-length wide _ _ _ _
+  report-length k columns doubtful m = reportOf-length wide _ _ _ _ _
 
   module _ (k : ℕ) (columns : ℕ → List ℕ) (doubtful message report : List ℕ) where
     pub decode-none : answerFor 𝓓 k columns doubtful ≡ none
@@ -88,7 +88,7 @@ module _ (𝓓 : Model) where
         go (some m) e = rw (decode-some e)
 
     pub decode-sized : length message ≡ k → length report ≡ reportLength 𝓓 → Sized message report (decodeOf 𝓓 k columns doubtful message report)
-    decode-sized long eight =
+    decode-sized long whole-report =
         go (answerFor 𝓓 k columns doubtful) refl (near-answers member everywhere (reachOf member k) k columns (testWords (places 𝓓) columns doubtful))
       where
         go : (o : Option (List ℕ)) → answerFor 𝓓 k columns doubtful ≡ o
@@ -99,7 +99,7 @@ module _ (𝓓 : Model) where
             rw (decode-some e)
             (record {
               message-sized = answers-some a .word .size ∙ sym long;
-              report-sized = report-length k columns doubtful m ∙ sym eight;
+              report-sized = report-length k columns doubtful m ∙ sym whole-report;
             })
 
   module _ (book : Book) (message report : List ℕ) where

@@ -1,14 +1,16 @@
 -- The book of the modem of 64 places, under the names that the crates above use: every modem's, at modem64.
 --
 --   places, width        its 64 places and the sixteen costs in a column, of `soft` Column
---   reportLength, tableLength   the report's 8 bytes and the table's 2,048
---   pinnedIn, changedIn  the report's last two bytes: pinned-byte, changed-byte
+--   reportLength, tableLength   the report's 13 bytes and the table's 2,048
+--   pinnedIn, changedIn, markIn, marginIn   the report's bytes 6, 7 and 8, and the number in its last four: pinned-byte, changed-byte, mark-byte, margin-bytes
 --
 -- All others mean what they mean in Book, Opening, Delivery, Columns, Entries, RowLaws, OpeningLaws, Closing, Table, Sentences, Costs, Report and Repairs.
 use mathlib.Core.Bool.{Bool}
 use mathlib.Core.Path.{_≡_}
 use mathlib.Core.List.{List}
-use Prim.Native.Nat.{ℕ}
+use mathlib.Core.Option.{Option}
+use Prim.Native.Nat.{ℕ, _+_, _*_}
+use native.Mathlib.Omega.{arith}
 use lib.ListN.{getD}
 use Rattle.soft.specs.Column as Column
 use Rattle.book.specs.Model.{modem64}
@@ -92,7 +94,10 @@ RowColumns row = Costs.RowColumns modem64 row
 -- ---- closing
 
 abbrev pub reportLength : ℕ
-reportLength = 8
+reportLength = 13
+
+abbrev pub marginFor : ℕ → (ℕ → List ℕ) → List ℕ → List ℕ → Option ℕ
+marginFor k columns doubtful m = Closing.marginFor modem64 k columns doubtful m
 
 abbrev pub reportFor : ℕ → (ℕ → List ℕ) → List ℕ → List ℕ → List ℕ
 reportFor k columns doubtful m = Closing.reportFor modem64 k columns doubtful m
@@ -105,6 +110,9 @@ closeOf book message report = Closing.closeOf modem64 book message report
 
 abbrev pub IsNear : Book → ℕ → List ℕ → Type 0
 IsNear book T m = Sentences.IsNear modem64 book T m
+
+abbrev pub HasMargin : Book → ℕ → List ℕ → ℕ → Type 0
+HasMargin book T m d = Sentences.HasMargin modem64 book T m d
 
 abbrev pub IsAnswer : Book → ℕ → Closed → Type 0
 IsAnswer book T c = Sentences.IsAnswer modem64 book T c
@@ -132,14 +140,27 @@ pinnedIn report = getD report 6 0
 abbrev pub changedIn : List ℕ → ℕ
 changedIn report = getD report 7 0
 
+abbrev pub markIn : List ℕ → ℕ
+markIn report = getD report 8 0
+
+abbrev pub marginIn : List ℕ → ℕ
+marginIn report = 16777216 * getD report 9 0 + 65536 * getD report 10 0 + 256 * getD report 11 0 + getD report 12 0
+
 pub pinned-byte : (report : List ℕ) → Report.pinnedIn modem64 report ≡ pinnedIn report
 pinned-byte report = Report.number-byte 6 report
 
 pub changed-byte : (report : List ℕ) → Report.changedIn modem64 report ≡ changedIn report
 changed-byte report = Report.number-byte 7 report
 
-abbrev pub Shows : List ℕ → ℕ → ℕ → ℕ → ℕ → Type 0
-Shows report total tests pinned changed = Report.Shows modem64 report total tests pinned changed
+pub mark-byte : (report : List ℕ) → Report.markIn modem64 report ≡ markIn report
+mark-byte report = Report.number-byte 8 report
+
+pub margin-bytes : (report : List ℕ) → Report.marginIn modem64 report ≡ marginIn report
+unfolding Report.numberIn
+margin-bytes report = omega arith
+
+abbrev pub Shows : List ℕ → ℕ → ℕ → ℕ → ℕ → Option ℕ → Type 0
+Shows report total tests pinned changed margin = Report.Shows modem64 report total tests pinned changed margin
 
 abbrev pub ReportedIn : Book → Closed → Type 0
 ReportedIn book c = Report.ReportedIn modem64 book c

@@ -255,16 +255,16 @@ module _ (𝓓 : Model) where
   -- ---- closing
 
   module _ (book : Book) {T : ℕ} (rate : Known 𝓓 (book .rate) T) (full : (p : ℕ) → Missing 𝓓 (book .row) p → ⊥) (message report : List ℕ)
-      (long : length message ≡ book .rate) (eight : length report ≡ reportLength 𝓓) (m : List ℕ) where
+      (long : length message ≡ book .rate) (whole-report : length report ≡ reportLength 𝓓) (m : List ℕ) where
     pub only-near : IsNear 𝓓 book T m → ((n : List ℕ) → IsNear 𝓓 book T n → n ≡ m) → RepairedIn book m (closeOf 𝓓 book message report)
-    only-near = closes-only (closes 𝓓 rate message report long eight) full m
+    only-near = closes-only (closes 𝓓 rate message report long whole-report) full m
 
     pub always-repaired : book .doubtful ≡ [] → Word (width 𝓓) (book .rate) m → notBest (book .rate) (columnsOf 𝓓 (book .row)) m ≤ T
         → RepairedIn book m (closeOf 𝓓 book message report)
-    always-repaired none-doubtful = closes-repaired (closes 𝓓 rate message report long eight) full rate none-doubtful m
+    always-repaired none-doubtful = closes-repaired (closes 𝓓 rate message report long whole-report) full rate none-doubtful m
 
     pub always-found : FewWrongIn book T m → NoDearerIn book m (closeOf 𝓓 book message report)
-    always-found = closes-found (closes 𝓓 rate message report long eight) full m
+    always-found = closes-found (closes 𝓓 rate message report long whole-report) full m
 
   -- ---- table decoding
 
@@ -282,7 +282,7 @@ module _ (𝓓 : Model) where
   none-picked table = doubtful-none (places 𝓓) (tableColumns 𝓓 table)
 
   module _ {rate T : ℕ} (rated : Known 𝓓 rate T) (table : List ℕ) (whole : length table ≡ tableLength 𝓓) (message report : List ℕ)
-      (long : length message ≡ rate) (eight : length report ≡ reportLength 𝓓) (m : List ℕ) where
+      (long : length message ≡ rate) (whole-report : length report ≡ reportLength 𝓓) (m : List ℕ) where
     full : (p : ℕ) → Missing 𝓓 (inOrder table) p → ⊥
     full = missing-none 𝓓 (inOrder table) (delivered-none-missing 𝓓 table (inOrder table) (in-order table))
 
@@ -299,7 +299,7 @@ module _ (𝓓 : Model) where
         subst (λ list. Repaired rate (tableColumns 𝓓 table) list m (tableOf 𝓓 rate table 0 message report)) (none-picked table)
         (subst (λ c. Repaired rate c (pickedOf 𝓓 table 0) m (tableOf 𝓓 rate table 0 message report)) columns
         (subst (Repaired rate (columnsOf 𝓓 (inOrder table)) (pickedOf 𝓓 table 0) m) (session 0 (omega arith))
-        (always-repaired (record { rate = rate; doubtful = pickedOf 𝓓 table 0; row = inOrder table }) rated full message report long eight m
+        (always-repaired (record { rate = rate; doubtful = pickedOf 𝓓 table 0; row = inOrder table }) rated full message report long whole-report m
         (none-picked table) word
         (subst (λ c. notBest rate c m ≤ T) (sym columns) few))))
 
@@ -308,5 +308,5 @@ module _ (𝓓 : Model) where
     table-found doubt most few =
         subst (λ c. NoDearer rate c (pickedOf 𝓓 table doubt) m (tableOf 𝓓 rate table doubt message report)) columns
         (subst (NoDearer rate (columnsOf 𝓓 (inOrder table)) (pickedOf 𝓓 table doubt) m) (session doubt most)
-        (always-found (record { rate = rate; doubtful = pickedOf 𝓓 table doubt; row = inOrder table }) rated full message report long eight m
+        (always-found (record { rate = rate; doubtful = pickedOf 𝓓 table doubt; row = inOrder table }) rated full message report long whole-report m
         (subst (λ c. FewWrong rate c (pickedOf 𝓓 table doubt) T m) (sym columns) few)))

@@ -1,18 +1,21 @@
--- 'The report has eight bytes, high byte first: total (4), test words with a codeword within T (2), pinned places (1), changed places (1).' In every modem,
--- with as many bytes for each count of places as it has.
+-- The report's thirteen bytes, high byte first: total (4), test words with a codeword within T (2), pinned places (1), changed places (1), 1 or 0 for a
+-- margin that is present or absent (1), margin (4), zero where absent. In every modem, with as many bytes for each count of places as it has.
 --
 --   numberIn n i bytes     the number in n bytes from byte i on, high byte first
---   totalIn, testsIn, pinnedIn, changedIn   the four numbers that a report's bytes hold
---   Shows report total tests pinned changed   the report has its length in bytes, and they hold these numbers: none of them is cut
+--   totalIn, testsIn, pinnedIn, changedIn, markIn, marginIn   the numbers that a report's bytes hold
+--   markOf margin, amountOf margin   1 and the margin where there is one; 0 and 0 where there is none
+--   Shows report total tests pinned changed margin   the report has its length in bytes, and they hold these numbers: none of them is cut
 --   reads-back             numbers that fit their bytes are read off the report that is made of them
---   ShowsFor k columns doubtful m report   the report shows the message's total, the test words with a codeword within T, pinned and changed places
+--   ShowsFor k columns doubtful m report   the report shows the message's total, the test words with a codeword within T, pinned and changed places, and
+--                          the margin
 --   report-shows           so does the report of every message, if the columns' costs are 0 to 65535 and no more places are doubtful than the largest doubt
 --   Reported k columns doubtful c, ReportedIn book c   the same of the message and the report that a call answers
 --   closing-shows          so an accepted closing shows the numbers of the message that it gives: of a book with such a row
 --   table-shows            and so does table decoding
 use mathlib.Core.Bool.{true}
-use mathlib.Core.Path.{_≡_, sym, ap, _∙_, subst}
+use mathlib.Core.Path.{_≡_, refl, sym, ap, _∙_, subst}
 use mathlib.Core.List.{List, [], _∷_, _++_, append-assoc, append-nil}
+use mathlib.Core.Option.{Option, none, some}
 use Prim.Native.Nat.{ℕ, zero, suc, _+_, _*_, _/_, _%_, _^_, _<_, _≤_}
 use native.Mathlib.Omega.{arith}
 use lib.ListN.{length, getD, length-append}
@@ -20,16 +23,18 @@ use lib.Pow.{pow-mono}
 use lib.Seq.{getD-at}
 use Rattle.refusals.specs.Refusal.{accepted}
 use Rattle.lists.specs.Distinct.{below, below-nil, below-one, below-append, and-both}
-use Rattle.soft.specs.Total.{everywhere, symbolAt, totalOf, pinnedOf, changedOf, bytesOf, reportOf}
+use Rattle.soft.specs.Total.{everywhere, symbolAt, totalOf, pinnedOf, changedOf, bytesOf, marginBytes, reportOf}
 use Rattle.soft.specs.TotalLaws.{total-bound, pinned-le, changed-le, bytesOf-length, reportOf-length}
 use Rattle.soft.specs.Column.{ceiling}
+use Rattle.soft.specs.TestWord.{testWords}
 use Rattle.family.specs.Encoding.{encodeOf}
-use Rattle.near.specs.Near.{reachOf}
+use Rattle.near.specs.Near.{reachOf, messageCost}
 use Rattle.near.specs.Laws.{tests-tree}
+use Rattle.near.specs.Runner.{margin-le}
 use Rattle.book.specs.Model.{Model, places}
 use Rattle.book.specs.Book.{Book}
 use Rattle.book.specs.Columns.{columnsOf}
-use Rattle.book.specs.Closing.{reportLength, Closed, testsFor, reportFor, closeOf}
+use Rattle.book.specs.Closing.{reportLength, Closed, testsFor, marginFor, reportFor, closeOf}
 use Rattle.book.specs.ClosingLaws.{decode-report, close-report}
 use Rattle.book.specs.Table.{tableColumns, pickedOf, picked-length, tableOf, table-accepted}
 use Rattle.book.specs.Costs.{AreColumns, column-cost, RowColumns, row-columns, table-costs}
@@ -71,6 +76,31 @@ unfolding bytesOf
 bytes-below zero v = below-nil 256
 bytes-below (suc n) v = both-below (bytesOf n (v / 256)) (v % 256 ∷ []) (bytes-below n (v / 256)) (below-one 256 (v % 256) (omega arith))
 
+-- ---- a margin as two numbers
+
+unfoldable pub markOf : Option ℕ → ℕ
+markOf none = 0
+markOf (some d) = 1
+
+unfoldable pub amountOf : Option ℕ → ℕ
+amountOf none = 0
+amountOf (some d) = d
+
+mark-small : (margin : Option ℕ) → markOf margin < 256 ^ 1
+unfolding markOf
+mark-small none = omega arith
+mark-small (some d) = omega arith
+
+amount-le : (margin : Option ℕ) {b : ℕ} → ((d : ℕ) → margin ≡ some d → d ≤ b) → amountOf margin ≤ b
+unfolding amountOf
+amount-le none h = omega arith
+amount-le (some d) h = h d refl
+
+margin-parts : (margin : Option ℕ) → marginBytes margin ≡ bytesOf 1 (markOf margin) ++ bytesOf 4 (amountOf margin)
+unfolding marginBytes markOf amountOf
+margin-parts none = refl
+margin-parts (some d) = refl
+
 module _ (𝓓 : Model) where
   open Model 𝓓 using (member, mostDoubt, wide, counts-fit, totals-fit, tests-fit)
 
@@ -80,62 +110,96 @@ module _ (𝓓 : Model) where
   abbrev pub changedIn : List ℕ → ℕ
   changedIn report = numberIn wide (6 + wide) report
 
-  pub record Shows (report : List ℕ) (total tests pinned changed : ℕ) : Type 0 where
+  abbrev pub markIn : List ℕ → ℕ
+  markIn report = numberIn 1 (6 + wide + wide) report
+
+  abbrev pub marginIn : List ℕ → ℕ
+  marginIn report = numberIn 4 (7 + wide + wide) report
+
+  pub record Shows (report : List ℕ) (total tests pinned changed : ℕ) (margin : Option ℕ) : Type 0 where
     pub size : length report ≡ reportLength 𝓓
     pub bytes : below 256 report ≡ true
     pub total-there : totalIn report ≡ total
     pub tests-there : testsIn report ≡ tests
     pub pinned-there : pinnedIn report ≡ pinned
     pub changed-there : changedIn report ≡ changed
+    pub mark-there : markIn report ≡ markOf margin
+    pub margin-there : marginIn report ≡ amountOf margin
 
   -- ---- numbers that fit their bytes
 
-  module _ (total tests pinned changed : ℕ) where
-    report-below : below 256 (reportOf wide total tests pinned changed) ≡ true
-    unfolding reportOf
+  module _ (total tests pinned changed : ℕ) (margin : Option ℕ) where
+    whole : List ℕ
+    whole = reportOf wide total tests pinned changed margin
+
+    -- the bytes before each count of places, and those before the margin
+    front : List ℕ
+    front = bytesOf 4 total ++ bytesOf 2 tests
+
+    counts : List ℕ
+    counts = (front ++ bytesOf wide pinned) ++ bytesOf wide changed
+
+    front-length : length front ≡ 6
+    unfolding front
+    front-length = omega (arith, length-append (bytesOf 4 total) (bytesOf 2 tests), bytesOf-length 4 total, bytesOf-length 2 tests)
+
+    pinned-length : length (front ++ bytesOf wide pinned) ≡ 6 + wide
+    pinned-length = omega (arith, length-append front (bytesOf wide pinned), front-length, bytesOf-length wide pinned)
+
+    counts-length : length counts ≡ 6 + wide + wide
+    unfolding counts
+    counts-length =
+        omega (arith, length-append (front ++ bytesOf wide pinned) (bytesOf wide changed), pinned-length, bytesOf-length wide changed)
+
+    mark-length : length (counts ++ bytesOf 1 (markOf margin)) ≡ 7 + wide + wide
+    mark-length = omega (arith, length-append counts (bytesOf 1 (markOf margin)), counts-length, bytesOf-length 1 (markOf margin))
+
+    from-pinned : whole ≡ front ++ (bytesOf wide pinned ++ (bytesOf wide changed ++ marginBytes margin))
+    unfolding whole front reportOf
+    from-pinned = sym (append-assoc (bytesOf 4 total) (bytesOf 2 tests) (bytesOf wide pinned ++ (bytesOf wide changed ++ marginBytes margin)))
+
+    from-changed : whole ≡ (front ++ bytesOf wide pinned) ++ (bytesOf wide changed ++ marginBytes margin)
+    from-changed = from-pinned ∙ sym (append-assoc front (bytesOf wide pinned) (bytesOf wide changed ++ marginBytes margin))
+
+    from-mark : whole ≡ counts ++ (bytesOf 1 (markOf margin) ++ bytesOf 4 (amountOf margin))
+    unfolding counts
+    from-mark =
+        from-changed ∙ sym (append-assoc (front ++ bytesOf wide pinned) (bytesOf wide changed) (marginBytes margin))
+        ∙ ap (λ l. counts ++ l) (margin-parts margin)
+
+    from-margin : whole ≡ (counts ++ bytesOf 1 (markOf margin)) ++ (bytesOf 4 (amountOf margin) ++ [])
+    from-margin =
+        from-mark ∙ sym (append-assoc counts (bytesOf 1 (markOf margin)) (bytesOf 4 (amountOf margin)))
+        ∙ ap (λ l. (counts ++ bytesOf 1 (markOf margin)) ++ l) (sym (append-nil (bytesOf 4 (amountOf margin))))
+
+    report-below : below 256 whole ≡ true
+    unfolding whole reportOf
     report-below =
         both-below (bytesOf 4 total) _ (bytes-below 4 total)
         (both-below (bytesOf 2 tests) _ (bytes-below 2 tests)
-        (both-below (bytesOf wide pinned) _ (bytes-below wide pinned) (bytes-below wide changed)))
+        (both-below (bytesOf wide pinned) _ (bytes-below wide pinned)
+        (both-below (bytesOf wide changed) _ (bytes-below wide changed)
+        (ap (below 256) (margin-parts margin)
+        ∙ both-below (bytesOf 1 (markOf margin)) _ (bytes-below 1 (markOf margin)) (bytes-below 4 (amountOf margin))))))
 
-    pinned-back : pinned < 256 ^ wide → pinnedIn (reportOf wide total tests pinned changed) ≡ pinned
-    unfolding reportOf
-    pinned-back h =
-        ap (numberIn wide 6) (sym (append-assoc (bytesOf 4 total) (bytesOf 2 tests) (bytesOf wide pinned ++ bytesOf wide changed)))
-        ∙ number-there wide 6 pinned (bytesOf 4 total ++ bytesOf 2 tests) (bytesOf wide changed)
-        (omega (arith, length-append (bytesOf 4 total) (bytesOf 2 tests), bytesOf-length 4 total, bytesOf-length 2 tests)) h
-
-    changed-back : changed < 256 ^ wide → changedIn (reportOf wide total tests pinned changed) ≡ changed
-    unfolding reportOf
-    changed-back h =
-        let front = bytesOf 4 total ++ bytesOf 2 tests in
-        ap (numberIn wide (6 + wide))
-        (sym (append-assoc (bytesOf 4 total) (bytesOf 2 tests) (bytesOf wide pinned ++ bytesOf wide changed))
-        ∙ sym (append-assoc front (bytesOf wide pinned) (bytesOf wide changed))
-        ∙ ap (λ l. (front ++ bytesOf wide pinned) ++ l) (sym (append-nil (bytesOf wide changed))))
-        ∙ number-there wide (6 + wide) changed (front ++ bytesOf wide pinned) []
-        (omega (
-          arith,
-          length-append front (bytesOf wide pinned),
-          length-append (bytesOf 4 total) (bytesOf 2 tests),
-          bytesOf-length 4 total,
-          bytesOf-length 2 tests,
-          bytesOf-length wide pinned,
-        )) h
-
-    pub reads-back : total < 256 ^ 4 → tests < 256 ^ 2 → pinned < 256 ^ wide → changed < 256 ^ wide
-        → Shows (reportOf wide total tests pinned changed) total tests pinned changed
-    unfolding reportOf bytesOf
-    reads-back a b c d =
+    pub reads-back : total < 256 ^ 4 → tests < 256 ^ 2 → pinned < 256 ^ wide → changed < 256 ^ wide → amountOf margin < 256 ^ 4
+        → Shows (reportOf wide total tests pinned changed margin) total tests pinned changed margin
+    unfolding whole reportOf bytesOf
+    reads-back a b c d e =
         let a′ : total < 4294967296 = a in
         let b′ : tests < 65536 = b in
         record {
-          size = reportOf-length wide total tests pinned changed;
+          size = reportOf-length wide total tests pinned changed margin;
           bytes = report-below;
           total-there = omega arith;
           tests-there = omega arith;
-          pinned-there = pinned-back c;
-          changed-there = changed-back d;
+          pinned-there = ap (numberIn wide 6) from-pinned ∙ number-there wide 6 pinned front _ front-length c;
+          changed-there = ap (numberIn wide (6 + wide)) from-changed ∙ number-there wide (6 + wide) changed (front ++ bytesOf wide pinned) _ pinned-length d;
+          mark-there =
+              ap (numberIn 1 (6 + wide + wide)) from-mark ∙ number-there 1 (6 + wide + wide) (markOf margin) counts _ counts-length (mark-small margin);
+          margin-there =
+              ap (numberIn 4 (7 + wide + wide)) from-margin
+              ∙ number-there 4 (7 + wide + wide) (amountOf margin) (counts ++ bytesOf 1 (markOf margin)) [] mark-length e;
         }
 
   -- ---- the report of a message
@@ -143,19 +207,24 @@ module _ (𝓓 : Model) where
   abbrev pub ShowsFor : ℕ → (ℕ → List ℕ) → List ℕ → List ℕ → List ℕ → Type 0
   ShowsFor k columns doubtful m report =
       Shows report (totalOf (places 𝓓) columns (encodeOf member k m)) (testsFor 𝓓 k columns doubtful)
-      (pinnedOf (places 𝓓) columns (encodeOf member k m)) (changedOf (places 𝓓) columns (encodeOf member k m))
+      (pinnedOf (places 𝓓) columns (encodeOf member k m)) (changedOf (places 𝓓) columns (encodeOf member k m)) (marginFor 𝓓 k columns doubtful m)
 
   pub report-shows : {columns : ℕ → List ℕ} → AreColumns 𝓓 columns → (k : ℕ) (doubtful m : List ℕ) → length doubtful ≤ mostDoubt
       → ShowsFor k columns doubtful m (reportFor 𝓓 k columns doubtful m)
-  unfolding reportFor
+  unfolding reportFor messageCost
   report-shows {columns} c k doubtful m few =
       let word = encodeOf member k m in
-      let a : totalOf (places 𝓓) columns word ≤ places 𝓓 * ceiling =
-      total-bound columns word (places 𝓓) ceiling (λ p h. column-cost 𝓓 (c .at p h) (symbolAt word p)) in
+      let a : (n : List ℕ) → totalOf (places 𝓓) columns (encodeOf member k n) ≤ places 𝓓 * ceiling =
+      λ n. total-bound columns (encodeOf member k n) (places 𝓓) ceiling (λ p h. column-cost 𝓓 (c .at p h) (symbolAt (encodeOf member k n) p)) in
       let b : 2 ^ length doubtful ≤ 2 ^ mostDoubt = pow-mono few in
+      let e : amountOf (marginFor 𝓓 k columns doubtful m) ≤ places 𝓓 * ceiling =
+      amount-le (marginFor 𝓓 k columns doubtful m)
+      (λ d q. margin-le member everywhere (reachOf member k) k columns (testWords (places 𝓓) columns doubtful) a m q) in
       reads-back (totalOf (places 𝓓) columns word) (testsFor 𝓓 k columns doubtful) (pinnedOf (places 𝓓) columns word)
-      (changedOf (places 𝓓) columns word) (omega (arith, totals-fit)) (omega (arith, tests-fit, tests-tree member everywhere (reachOf member k) k (places 𝓓) columns doubtful))
+      (changedOf (places 𝓓) columns word) (marginFor 𝓓 k columns doubtful m) (omega (arith, totals-fit, a m))
+      (omega (arith, tests-fit, tests-tree member everywhere (reachOf member k) k (places 𝓓) columns doubtful))
       (omega (arith, counts-fit, pinned-le columns word (places 𝓓))) (omega (arith, counts-fit, changed-le columns word (places 𝓓)))
+      (omega (arith, totals-fit, e))
 
   -- ---- closing
 

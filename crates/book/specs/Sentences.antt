@@ -5,7 +5,9 @@
 --   testsOf book, tests-different   the test words; no two are equal, in every book that opening and deliveries lead to
 --   IsNear book T m      the codeword of the message m is near: it differs from some test word in at most T places
 --   Dearer book m n      the codeword of n has a larger total than that of m, or an equal total and n is the larger message
---   IsAnswer book T c    the message of a near codeword, every other near codeword is dearer, and the report is that message's
+--   HasMargin book T m d   a runner-up: a near codeword other than that of m, of the least total among these, and its total is that of m and d
+--   IsAnswer book T c    the message of a near codeword, every other near codeword is dearer; a margin, absent exactly if no other codeword is near, and d
+--                        exactly if there is a runner-up at d; and the report is that message's, with that margin
 --   closing-sizes        closing into a buffer of the wrong size is refused with 2, whatever the row
 --   closing-early        into buffers of the right sizes it is early exactly when a place is missing
 --   closing-none-near    with none missing it says 'none near' exactly when no codeword is near
@@ -13,13 +15,14 @@
 --   Closes book T c, closes   the three together
 --   Agree a b            equal rates, equal lists, and rows that agree as sets: each place has the same column in both, or none in either
 --   closing-alike        such books close alike
+--   margin-alike         and have the same margins: they do not depend on the order of arrival
 --   deliver-kept, deliver-held   a refused delivery leaves the book as it was, and none changes its rate or its list
 use mathlib.Core.Bool.{Bool, true, false}
 use mathlib.Core.Path.{_≡_, refl, sym, ap, _∙_, subst}
 use mathlib.Core.List.{List, List·Memᴰ}
 use mathlib.Core.Logic.{_↔_, _≢_, _⊎_, inl, inr, ⊎-elim}
 use mathlib.Core.Option.{Option, none, some}
-use Prim.Native.Nat.{ℕ, _<_, _≤_}
+use Prim.Native.Nat.{ℕ, _+_, _<_, _≤_}
 use native.Mathlib.Nat.{mul-le-mul-left}
 use native.Mathlib.Decide.{decLt}
 use native.Mathlib.Omega.{arith}
@@ -31,19 +34,21 @@ use Rattle.lists.specs.Different.{Different, rising-different}
 use Rattle.lists.specs.Member.{at-member}
 use Rattle.lists.specs.Words.{Word, Lex}
 use Rattle.lists.specs.Answers.{Answers, nobody, best, cheaper, earlier, NoWorse, Found}
+use Rattle.lists.specs.Margin.{RunnerUp}
 use Rattle.soft.specs.TestWord.{testWords}
 use Rattle.soft.specs.TestWordLaws.{testWords-different}
 use Rattle.soft.specs.Total.{everywhere, totalOf, differing}
 use Rattle.family.specs.Encoding.{encodeOf}
 use Rattle.near.specs.Near.{reachOf, nearTo, near, messageCost, answerOf}
 use Rattle.near.specs.Laws.{near-member, member-near, near-answers}
+use Rattle.near.specs.Runner.{margin-absent, margin-some}
 use Rattle.book.specs.Model.{Model, places, width}
 use Rattle.book.specs.Book.{Book, newBook, columnIn, taken, someMissing, Outcome}
 use Rattle.book.specs.Opening.{fitDoubt, refusedOpening, openOf}
 use Rattle.book.specs.Delivery.{withEntry, deliverOf}
 use Rattle.book.specs.Columns.{columnsOf, missing-alike, columns-alike}
 use Rattle.book.specs.Entries.{Missing, missing-there, missing-none}
-use Rattle.book.specs.Closing.{reportLength, Closed, refusedClosing, reportFor, decodeOf, closingFits, closeOf}
+use Rattle.book.specs.Closing.{reportLength, Closed, refusedClosing, marginFor, reportFor, decodeOf, closingFits, closeOf}
 use Rattle.book.specs.ClosingLaws.{refused-number, fits-both, fits-of, close-size, close-missing, close-decoded, decode-none, decode-some}
 use Rattle.book.specs.RowLaws.{Proper, columns-wide, deliver-above, deliver-taken, deliver-accepted, open-accepted, open-refused-rate, open-refused-list}
 use Rattle.book.specs.OpeningLaws.{Known, DoubtfulList, list-fits, fits-list}
@@ -92,10 +97,21 @@ module _ (𝓓 : Model) where
     abbrev pub Dearer : List ℕ → List ℕ → Type 0
     Dearer m n = (totalFor m < totalFor n) ⊎ ((totalFor m ≡ totalFor n) × Lex m n)
 
+    pub record HasMargin (T : ℕ) (m : List ℕ) (d : ℕ) : Type 0 where
+      pub rival : List ℕ
+      pub near : IsNear T rival
+      pub other : rival ≢ m
+      pub least : (n : List ℕ) → IsNear T n → n ≢ m → totalFor rival ≤ totalFor n
+      pub margin : totalFor m + d ≡ totalFor rival
+
     pub record IsAnswer (T : ℕ) (c : Closed) : Type 0 where
       pub number : c .number ≡ accepted
       pub near : IsNear T (c .message)
       pub others : (n : List ℕ) → IsNear T n → n ≢ c .message → Dearer (c .message) n
+      pub margin : Option ℕ
+      pub absent : (margin ≡ none) ↔ ((n : List ℕ) → IsNear T n → n ≡ c .message)
+      pub present : (d : ℕ) → (margin ≡ some d) ↔ HasMargin T (c .message) d
+      pub margin-there : marginFor 𝓓 (book .rate) (columnsOf 𝓓 (book .row)) (book .doubtful) (c .message) ≡ margin
       pub report : c .report ≡ reportFor 𝓓 (book .rate) (columnsOf 𝓓 (book .row)) (book .doubtful) (c .message)
 
   -- different doubtful places make different test words
@@ -143,9 +159,9 @@ module _ (𝓓 : Model) where
         go true e = let f = fits-both 𝓓 book message report e in absurd (⊎-elim (λ n. n (f .0)) (λ n. n (f .1)) w)
         go false e = e
 
-    module _ (long : length message ≡ book .rate) (eight : length report ≡ reportLength 𝓓) {T : ℕ} (rate : Known 𝓓 (book .rate) T) where
+    module _ (long : length message ≡ book .rate) (whole-report : length report ≡ reportLength 𝓓) {T : ℕ} (rate : Known 𝓓 (book .rate) T) where
       fits : closingFits 𝓓 book message report ≡ true
-      fits = fits-of 𝓓 book message report long eight
+      fits = fits-of 𝓓 book message report long whole-report
 
       -- what decoding answers, whether or not a codeword is near
       decoded : someMissing 𝓓 (book .row) ≡ false
@@ -162,6 +178,39 @@ module _ (𝓓 : Model) where
           dearer (inl q) d = absurd (d q)
           dearer (inr (cheaper l)) d = inl l
           dearer (inr (earlier q l)) d = inr (q, l)
+
+          absent : (m : List ℕ)
+              → (marginFor 𝓓 (book .rate) (columnsOf 𝓓 (book .row)) (book .doubtful) m ≡ none) ↔ ((n : List ℕ) → IsNear book T n → n ≡ m)
+          absent m =
+              let a = margin-absent member everywhere (reachOf member (book .rate)) (book .rate) (columnsOf 𝓓 (book .row)) (testsOf book) m in
+              (λ e n i. a .0 e n (near-found book rate i), λ h. a .1 (λ n g. h n (found-near book rate g)))
+
+          present : {m : List ℕ}
+              → answerOf member everywhere (reachOf member (book .rate)) (book .rate) (columnsOf 𝓓 (book .row)) (testsOf book) ≡ some m → (d : ℕ)
+              → (marginFor 𝓓 (book .rate) (columnsOf 𝓓 (book .row)) (book .doubtful) m ≡ some d) ↔ HasMargin book T m d
+          present {m} q d =
+              let a = margin-some member everywhere (reachOf member (book .rate)) (book .rate) (columnsOf 𝓓 (book .row)) (testsOf book) q d in
+              (λ e. held (a .0 e), λ h. a .1 (runner-up h))
+            where
+              held : RunnerUp (messageCost member (book .rate) (columnsOf 𝓓 (book .row))) (Found (width 𝓓) (book .rate) (nearIn book)) m d → HasMargin book T m d
+              held r =
+                  record {
+                    rival = r .rival;
+                    near = found-near book rate (r .passes);
+                    other = r .other;
+                    least = λ n i ne. r .least n (near-found book rate i) ne;
+                    margin = r .margin;
+                  }
+
+              runner-up : HasMargin book T m d → RunnerUp (messageCost member (book .rate) (columnsOf 𝓓 (book .row))) (Found (width 𝓓) (book .rate) (nearIn book)) m d
+              runner-up h =
+                  record {
+                    rival = h .rival;
+                    passes = near-found book rate (h .near);
+                    other = h .other;
+                    least = λ n g ne. h .least n (found-near book rate g) ne;
+                    margin = h .margin;
+                  }
 
           go : (o : Option (List ℕ)) → answerOf member everywhere (reachOf member (book .rate)) (book .rate) (columnsOf 𝓓 (book .row)) (testsOf book) ≡ o
               → Answers (messageCost member (book .rate) (columnsOf 𝓓 (book .row))) (Found (width 𝓓) (book .rate) (nearIn book)) o
@@ -181,6 +230,10 @@ module _ (𝓓 : Model) where
                 number = refl;
                 near = found-near book rate p;
                 others = λ n i d. dearer (f n (near-found book rate i)) d;
+                margin = marginFor 𝓓 (book .rate) (columnsOf 𝓓 (book .row)) (book .doubtful) m;
+                absent = absent m;
+                present = present q;
+                margin-there = refl;
                 report = refl;
               }))
 
@@ -222,11 +275,11 @@ module _ (𝓓 : Model) where
 
   pub closes : {book : Book} {T : ℕ} → Known 𝓓 (book .rate) T → (message report : List ℕ) → length message ≡ book .rate → length report ≡ reportLength 𝓓
       → Closes book T (closeOf 𝓓 book message report)
-  closes {book} rate message report long eight =
+  closes {book} rate message report long whole-report =
       record {
-        early = closing-early book message report long eight rate;
-        none-near = closing-none-near book message report long eight rate;
-        otherwise = closing-answer book message report long eight rate;
+        early = closing-early book message report long whole-report rate;
+        none-near = closing-none-near book message report long whole-report rate;
+        otherwise = closing-answer book message report long whole-report rate;
       }
 
   -- ---- 'Two sessions … that agree in rate, doubtful list, places taken and the columns held for these read and close alike.'
@@ -238,6 +291,10 @@ module _ (𝓓 : Model) where
         let m : someMissing 𝓓 (a .row) ≡ someMissing 𝓓 (b .row) = missing-alike 𝓓 (a .row) (b .row) (same .same-columns) in
         let c : columnsOf 𝓓 (a .row) ≡ columnsOf 𝓓 (b .row) = columns-alike 𝓓 (a .row) (b .row) (same .same-columns) in
         cc (m, c, same .same-rate, same .same-list)
+
+    pub margin-alike : (m : List ℕ)
+        → marginFor 𝓓 (a .rate) (columnsOf 𝓓 (a .row)) (a .doubtful) m ≡ marginFor 𝓓 (b .rate) (columnsOf 𝓓 (b .row)) (b .doubtful) m
+    margin-alike m = cc (columns-alike 𝓓 (a .row) (b .row) (same .same-columns), same .same-rate, same .same-list)
 
   -- ---- 'Only an accepted delivery changes the book.'
 

@@ -126,14 +126,14 @@ module _ (𝓓 : Model) where
               w)
           go false e = e
 
-      module _ (whole : length table ≡ tableLength) (long : length message ≡ rate) (eight : length report ≡ reportLength 𝓓) where
+      module _ (whole : length table ≡ tableLength) (long : length message ≡ rate) (whole-report : length report ≡ reportLength 𝓓) where
         fits : tableFits rate table message report ≡ true
         unfolding tableFits
         fits =
             and-both (eqb (length table) tableLength) (eqb (length message) rate && eqb (length report) (reportLength 𝓓))
             (eq-eqb (length table) tableLength whole)
             (and-both (eqb (length message) rate) (eqb (length report) (reportLength 𝓓)) (eq-eqb (length message) rate long)
-            (eq-eqb (length report) (reportLength 𝓓) eight))
+            (eq-eqb (length report) (reportLength 𝓓) whole-report))
 
         pub table-doubt : mostDoubt < doubt → tableOf rate table doubt message report ≡ refusedClosing wrongDoubt message report
         unfolding tableOf

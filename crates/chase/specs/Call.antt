@@ -8,6 +8,7 @@
 use mathlib.Core.Bool.{Bool, true, cond, _&&_}
 use mathlib.Core.Path.{_≡_}
 use mathlib.Core.List.{List}
+use mathlib.Core.Option.{some}
 use Prim.Native.Nat.{ℕ, _*_, _≤_}
 use lib.Dec.{eqb, leb}
 use lib.ListN.{length, take}
@@ -16,9 +17,8 @@ use Rattle.soft.specs.Column.{places, symbols, columnOf}
 use Rattle.soft.specs.Doubt.{mostDoubt}
 use Rattle.soft.specs.TestWord.{testWords}
 use Rattle.near.specs.Here.{Places}
-use Rattle.answers.specs.declared.Answer.the-variants.{Near}
 use Rattle.answers.specs.declared.Found.{Found}
-use Rattle.answers.specs.Result.{nothingFound, foundOf}
+use Rattle.answers.specs.Result.{totalIs, nothingFound, foundOf}
 use Rattle.answers.specs.Nearest.{Nearest}
 use Rattle.chase.specs.Places.{arePlaces}
 
@@ -41,4 +41,4 @@ pub record NearestCall (rate : ℕ) (costs doubtful : List ℕ) (doubt : ℕ) (f
   pub asked : Asked rate costs doubtful doubt
       → Nearest rate (columnOf symbols costs) (testWords places (columnOf symbols costs) (take doubt doubtful)) f
   pub refused : ¬ Asked rate costs doubtful doubt → f ≡ nothingFound
-  pub encoded : (t : ℕ) → f .answer ≡ Near t → f .codeword ≡ encodeOf rate (take rate (f .message))
+  pub encoded : (t : ℕ) → totalIs (f .answer) ≡ some t → f .codeword ≡ encodeOf rate (take rate (f .message))

@@ -3,7 +3,8 @@
 --   list-few           the search is asked for at most eight doubtful places
 --   tests-few          so at most 256 test words have a codeword within T, and their count fits two bytes
 --   answered-none      nobody near: refused with 9, the buffers as they were
---   answered-near      somebody near: the message, and the report with its total, the count, and the pinned and changed places of its codeword
+--   answered-near      somebody near: the message, and the report with its total, the count, the pinned and changed places of its codeword, and the
+--                      margin
 --   decoded-near       the same from the steps of the code
 use mathlib.Core.Path.{_≡_, sym, ap, ap₂, _∙_}
 use mathlib.Core.List.{List}
@@ -17,9 +18,11 @@ use Rattle.soft.specs.Column.{places}
 use Rattle.soft.specs.Doubt.{mostDoubt}
 use Rattle.soft.specs.TestWord.{testWords}
 use Rattle.soft.specs.Total.{everywhere, pinnedOf, changedOf, reportOf}
+use Rattle.totals.specs.declared.margin.Margin.{Margin}
+use Rattle.totals.specs.Margin.{marginIs}
 use Rattle.code.specs.Encoding.{encodeOf}
 use Rattle.code.specs.Rates.{mostRate}
-use Rattle.near.specs.Here.{reachOf}
+use Rattle.near.specs.Here.{reachOf, testsNear, messageCost}
 use Rattle.near.specs.Laws.{tests-tree}
 use Rattle.book.specs.Model.{modem64}
 use Rattle.book.specs.Closing.{refusedClosing}
@@ -29,7 +32,8 @@ use Rattle.book.specs.Here.{decodeOf}
 use Rattle.book.specs.Closing as BookClosing
 use Rattle.answers.specs.declared.Answer.the-variants.{NoneNear, Near}
 use Rattle.answers.specs.declared.Found.{Found}
-use Rattle.answers.specs.Nearest.{Nearest, nearest-nobody, nearest-somebody}
+use Rattle.answers.specs.Result.{total-near}
+use Rattle.answers.specs.Nearest.{Nearest, nearest-nobody, nearest-somebody, nearest-margin}
 use Rattle.chase.specs.Call.{Asked}
 use Rattle.family.specs.Member.{m16}
 use Rattle.near.specs.Near as Near
@@ -48,27 +52,31 @@ module _ (rate : ℕ) (columns : ℕ → List ℕ) (doubtful : List ℕ) (f : Fo
     unfolding refusedClosing
     answered-none e = sym (decode-none modem64 rate columns doubtful message report (nearest-nobody near e))
 
-    pub answered-near : (t : ℕ) → f .answer ≡ Near t
+    pub answered-near : (t : ℕ) (margin : Margin) → f .answer ≡ Near t margin
         → closed accepted (take rate (f .message))
         (reportOf 1 t (f .tests) (pinnedOf places columns (encodeOf rate (take rate (f .message))))
-        (changedOf places columns (encodeOf rate (take rate (f .message)))))
+        (changedOf places columns (encodeOf rate (take rate (f .message)))) (marginIs margin))
         ≡ decodeOf rate columns doubtful message report
     unfolding BookClosing.reportFor Near.messageCost
-    answered-near t e =
+    answered-near t margin e =
         let m = take rate (f .message) in
-        ap₂
-        (λ total tests. closed accepted m (reportOf 1 total tests (pinnedOf places columns (encodeOf rate m)) (changedOf places columns (encodeOf rate m))))
-        (nearest-somebody near t e .1) (near .count)
-        ∙ sym (decode-some modem64 rate columns doubtful message report (nearest-somebody near t e .0))
+        let found = nearest-somebody near t (total-near e) in
+        let pinned = pinnedOf places columns (encodeOf rate m) in
+        let changed = changedOf places columns (encodeOf rate m) in
+        ap₂ (λ total tests. closed accepted m (reportOf 1 total tests pinned changed (marginIs margin))) (found .1) (near .count)
+        ∙ ap (λ d. closed accepted m (reportOf 1 (messageCost rate columns m) (testsNear rate (testWords places columns doubtful)) pinned changed d))
+        (nearest-margin near t margin e)
+        ∙ sym (decode-some modem64 rate columns doubtful message report (found .0))
 
     -- the same, step by step as the code goes
-    pub decoded-near : {t pinned changed : ℕ} {message′ word bytes report′ : List ℕ} → f .answer ≡ Near t → length message ≡ rate
-        → length (f .message) ≡ mostRate → rate ≤ mostRate → message′ ≡ over (f .message) message → word ≡ encodeOf rate (take rate (f .message))
-        → pinned ≡ pinnedOf places columns word → changed ≡ changedOf places columns word → bytes ≡ reportOf 1 t (f .tests) pinned changed
-        → length report ≡ length bytes → report′ ≡ over bytes report
+    pub decoded-near : {t pinned changed : ℕ} {margin : Margin} {message′ word bytes report′ : List ℕ} → f .answer ≡ Near t margin
+        → length message ≡ rate → length (f .message) ≡ mostRate → rate ≤ mostRate → message′ ≡ over (f .message) message
+        → word ≡ encodeOf rate (take rate (f .message)) → pinned ≡ pinnedOf places columns word → changed ≡ changedOf places columns word
+        → bytes ≡ reportOf 1 t (f .tests) pinned changed (marginIs margin) → length report ≡ length bytes → report′ ≡ over bytes report
         → closed accepted message′ report′ ≡ decodeOf rate columns doubtful message report
-    decoded-near {t} {pinned} {changed} {message′} {word} {bytes} {report′} e long size small m w p q b whole r =
+    decoded-near {t} {pinned} {changed} {margin} {message′} {word} {bytes} {report′} e long size small m w p q b whole r =
         let a : message′ ≡ take rate (f .message) = m ∙ over-short (f .message) message (omega arith) ∙ ap (λ n. take n (f .message)) long in
         ap₂ (λ (x y : List ℕ). closed accepted x y) a
-        (r ∙ over-same bytes report whole ∙ b ∙ ap₂ (λ (x y : ℕ). reportOf 1 t (f .tests) x y) (p ∙ ap (pinnedOf places columns) w) (q ∙ ap (changedOf places columns) w))
-        ∙ answered-near t e
+        (r ∙ over-same bytes report whole ∙ b
+        ∙ ap₂ (λ (x y : ℕ). reportOf 1 t (f .tests) x y (marginIs margin)) (p ∙ ap (pinnedOf places columns) w) (q ∙ ap (changedOf places columns) w))
+        ∙ answered-near t margin e

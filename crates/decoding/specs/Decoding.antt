@@ -1,6 +1,6 @@
 -- What decoding is given.
 --
---   Decodable rate costs doubtful doubt message report   what the search may be asked, a message buffer of k bytes, where k is the rate, and a report of 8
+--   Decodable rate costs doubtful doubt message report   what the search may be asked, a message buffer of k bytes, where k is the rate, and a report of its length
 use mathlib.Core.Path.{_≡_}
 use mathlib.Core.List.{List}
 use Prim.Native.Nat.{ℕ}

@@ -25,7 +25,7 @@ pub fn decode(
 {
     let found = chase::nearest(rate, costs, doubtful, doubt);
     let answer = found.answer;
-    let answers::Answer::Near { total } = answer else {
+    let answers::Answer::Near { total, margin } = answer else {
         return NONE_NEAR;
     };
     let best = found.message;
@@ -33,7 +33,7 @@ pub fn decode(
     let word = found.codeword;
     let pinned = totals::total::pinned(costs, &word);
     let changed = totals::total::changed(costs, &word);
-    let bytes = totals::report::report(total, found.tests as u16, pinned, changed);
+    let bytes = totals::report::report(total, found.tests as u16, pinned, changed, margin);
     copy(&bytes, report);
     ACCEPTED
 }

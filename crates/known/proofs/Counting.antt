@@ -1,6 +1,6 @@
--- The steps of the functions: the test of a known codeword, and what later branches know.
+-- The steps of the functions: the test of a known codeword, what later branches know, and the answer without a runner-up.
 use mathlib.Core.Bool.{false}
-use mathlib.Core.Path.{_≡_, sym}
+use mathlib.Core.Path.{_≡_, sym, ap}
 use mathlib.Core.List.{List}
 use Prim.Native.Nat.{ℕ, _+_, _-_}
 use lib.Dec.{ltb}
@@ -8,25 +8,37 @@ use lib.ListN.{length}
 use Rattle.soft.specs.Column.{places}
 use Rattle.soft.specs.Total.{differing}
 use Rattle.near.specs.Here.{mOf, reachOf}
+use Rattle.totals.specs.declared.margin.Margin.{Margin}
+use Rattle.totals.specs.declared.margin.Margin.the-variants.{Absent}
+use Rattle.answers.specs.declared.Answer.{Answer}
 use Rattle.answers.specs.declared.Answer.the-variants.{NoneNear, Near}
 use Rattle.answers.specs.declared.Found.{Found}
-use Rattle.known.specs.Known.{isNear, laterOf, filledOf, governsOf}
+use Rattle.known.specs.Known.{isNear, laterOf, filledOf, governsOf, aloneOf}
 
 module _ (k : ℕ) (known : Found) (word ps : List ℕ) where
   pub governs-none : known .answer ≡ NoneNear → false ≡ governsOf k known word ps
   unfolding governsOf isNear
   governs-none e = sym (rw e)
 
-  pub governs-some : (t left d r m : ℕ) (agreed : List ℕ) → known .answer ≡ Near t → length ps ≡ left → agreed ≡ filledOf (known .codeword) word ps
+  pub governs-some : (t left d r m : ℕ) (s : Margin) (agreed : List ℕ) → known .answer ≡ Near t s → length ps ≡ left → agreed ≡ filledOf (known .codeword) word ps
       → d ≡ differing places (known .codeword) agreed → r ≡ reachOf k → m ≡ places - mOf k → ltb (d + left + r) m ≡ governsOf k known word ps
   unfolding governsOf isNear
-  governs-some t left d r m agreed near size agreed-is d-is r-is m-is = rw (near, d-is, agreed-is, sym size, r-is, m-is)
+  governs-some t left d r m s agreed near size agreed-is d-is r-is m-is = rw (near, d-is, agreed-is, sym size, r-is, m-is)
 
 module _ (first known : Found) where
   pub later-none : first .answer ≡ NoneNear → known ≡ laterOf first known
   unfolding laterOf isNear
   later-none e = sym (rw e)
 
-  pub later-some : (t : ℕ) → first .answer ≡ Near t → first ≡ laterOf first known
+  pub later-some : (t : ℕ) (d : Margin) → first .answer ≡ Near t d → first ≡ laterOf first known
   unfolding laterOf isNear
-  later-some t e = sym (rw e)
+  later-some t d e = sym (rw e)
+
+module _ (answer : Answer) where
+  pub alone-none : answer ≡ NoneNear → NoneNear ≡ aloneOf answer
+  unfolding aloneOf
+  alone-none e = sym (ap aloneOf e)
+
+  pub alone-some : {t : ℕ} {d : Margin} → answer ≡ Near t d → Near t Absent ≡ aloneOf answer
+  unfolding aloneOf
+  alone-some e = sym (ap aloneOf e)

@@ -7,6 +7,7 @@
 use mathlib.Core.Bool.{Bool, true, false, cond, false≢true}
 use mathlib.Core.Path.{_≡_, refl, sym, ap, _∙_, subst}
 use mathlib.Core.List.{List, List·Memᴰ}
+use mathlib.Core.Option.{some}
 use Prim.Native.Nat.{ℕ, _+_, _-_, _<_}
 use native.Mathlib.Decide.{ℕ-discrete}
 use native.Mathlib.Omega.{arith}
@@ -19,24 +20,27 @@ use Rattle.code.specs.Encoding.{encodeOf}
 use Rattle.soft.specs.Column.{places, symbols}
 use Rattle.soft.specs.Total.{everywhere, differing}
 use Rattle.soft.specs.TestWord.{expand}
+use Rattle.totals.specs.declared.margin.Margin.the-variants.{Absent}
+use Rattle.totals.specs.Margin.{marginIs}
 use Rattle.family.specs.Member.{m16}
 use Rattle.near.specs.Here.{mOf, reachOf, Workable, Places}
 use Rattle.near.specs.Reach.{count-everywhere}
-use Rattle.near.specs.Governing.{Governed, expand-outside, governed-outside, within-tests, within-some, within-none}
+use Rattle.near.specs.Runner.{margin-governed}
+use Rattle.near.specs.Governing.{Governed, expand-outside, governed-outside, governed-only, within-tests, within-some, within-none}
 use Rattle.answers.specs.declared.Answer.{Answer}
 use Rattle.answers.specs.declared.Answer.the-variants.{NoneNear, Near}
 use Rattle.answers.specs.declared.Found.{Found as Answered}
-use Rattle.answers.specs.Result.{nothingFound}
+use Rattle.answers.specs.Result.{totalIs, total-near, nothingFound}
 use Rattle.answers.specs.Nearest.{Nearest, nearest-nothing, nearest-some}
-use Rattle.answers.specs.Answered.{counted, Sound, sound-nothing, sound-counted}
-use Rattle.known.specs.Known.{isNear, laterOf, filledOf, Governs, governsOf, testsWithin, belowOf}
+use Rattle.answers.specs.Answered.{counted, answering, Sound, sound-nothing, sound-counted, sound-answering}
+use Rattle.known.specs.Known.{isNear, laterOf, filledOf, Governs, governsOf, testsWithin, aloneOf, belowOf}
 
 -- ---- the test of the known codeword
 
-near-total : (a : Answer) → isNear a ≡ true → (t : ℕ) × (a ≡ Near t)
-unfolding isNear
+near-total : (a : Answer) → isNear a ≡ true → (t : ℕ) × (totalIs a ≡ some t)
+unfolding isNear totalIs
 near-total NoneNear e = absurd (false≢true e)
-near-total (Near t) e = (t, refl)
+near-total (Near t d) e = (t, refl)
 
 -- a codeword that passes the test governs
 module _ (k : ℕ) (known : Answered) (word ps : List ℕ) where
@@ -56,17 +60,26 @@ module _ (k : ℕ) (known : Answered) (word ps : List ℕ) where
 
 -- ---- what is known
 
+-- what is known, without a runner-up
+abbrev alone : Answered → Answered
+alone known = answering (aloneOf (known .answer)) known
+
+alone-near : (a : Answer) {t : ℕ} → totalIs a ≡ some t → aloneOf a ≡ Near t Absent
+unfolding aloneOf totalIs
+alone-near NoneNear e = let z : _≡_ {A = ℕ} 0 1 = cc in absurd (omega arith)
+alone-near (Near u d) {t} e = let s : u ≡ t = cc in ap (λ v. Near v Absent) s
+
 module _ (known : Answered) (tests : ℕ) where
   pub below-none : tests ≡ 0 → belowOf known tests ≡ nothingFound
   unfolding belowOf
-  below-none z = ap (λ b. cond b nothingFound (counted tests known)) (eq-eqb tests 0 z)
+  below-none z = ap (λ b. cond b nothingFound (counted tests (alone known))) (eq-eqb tests 0 z)
 
-  pub below-some : (tests ≡ 0 → ⊥) → belowOf known tests ≡ counted tests known
+  pub below-some : (tests ≡ 0 → ⊥) → belowOf known tests ≡ counted tests (alone known)
   unfolding belowOf
-  below-some n = ap (λ b. cond b nothingFound (counted tests known)) (ne-eqb tests 0 n)
+  below-some n = ap (λ b. cond b nothingFound (counted tests (alone known))) (ne-eqb tests 0 n)
 
   pub below-tests : belowOf known tests .tests ≡ tests
-  unfolding nothingFound counted
+  unfolding nothingFound counted answering
   below-tests = go (ℕ-discrete tests 0)
     where
       go : Dec (tests ≡ 0) → belowOf known tests .tests ≡ tests
@@ -83,12 +96,16 @@ module _ {k : ℕ} {columns : ℕ → List ℕ} {known : Answered} (s : Sound k 
       go false = s
 
   pub sound-below : (tests : ℕ) → Sound k columns (belowOf known tests)
-  unfolding belowOf
+  unfolding belowOf aloneOf answering
   sound-below tests = go (eqb tests 0)
     where
-      go : (b : Bool) → Sound k columns (cond b nothingFound (counted tests known))
+      sound-alone : (a : Answer) → known .answer ≡ a → Sound k columns (answering (aloneOf a) known)
+      sound-alone NoneNear e = subst (λ a. Sound k columns (answering a known)) e s
+      sound-alone (Near t d) e = sound-answering Absent (total-near e) s
+
+      go : (b : Bool) → Sound k columns (cond b nothingFound (counted tests (alone known)))
       go true = sound-nothing
-      go false = sound-counted tests s
+      go false = sound-counted tests (sound-alone (known .answer) refl)
 
 module _ {k : ℕ} (rate : Workable k) (columns : ℕ → List ℕ) (known : Answered) (word ps : List ℕ) (size : length word ≡ places) (s : Sound k columns known)
     (g : Governs k known word ps) where
@@ -103,7 +120,7 @@ module _ {k : ℕ} (rate : Workable k) (columns : ℕ → List ℕ) (known : Ans
   governed t i = subst (λ u. Governed m16 everywhere (reachOf k) k u t) encoded (g .apart t (expand-outside places columns word ps size t i))
 
   pub governed-nearest : (tests : ℕ) → tests ≡ testsWithin k (known .codeword) tests-below → Nearest k columns tests-below (belowOf known tests)
-  unfolding counted
+  unfolding counted answering marginIs
   governed-nearest tests within = go (ℕ-discrete tests 0)
     where
       count : tests ≡ testsWithin k (encodeOf k (take k (known .message))) tests-below
@@ -118,6 +135,7 @@ module _ {k : ℕ} (rate : Workable k) (columns : ℕ → List ℕ) (known : Ans
           (nearest-nothing (within-none m16 everywhere (reachOf k) rate known-word columns tests-below governed (sym count ∙ z)))
       go (no n) =
           subst (Nearest k columns tests-below) (sym (below-some known tests n))
-          (nearest-some (counted tests known) (g .total) (g .near)
+          (nearest-some (counted tests (alone known)) (g .total) Absent (alone-near (known .answer) (g .near))
           (within-tests m16 everywhere (reachOf k) rate known-word tests-below governed ∙ sym count)
-          (within-some m16 everywhere (reachOf k) rate known-word columns tests-below governed (omega (arith, count))) (s .cost (g .total) (g .near)))
+          (within-some m16 everywhere (reachOf k) rate known-word columns tests-below governed (omega (arith, count))) (s .cost (g .total) (g .near))
+          (sym (margin-governed m16 everywhere (reachOf k) k columns tests-below (λ t i n f. governed-only m16 everywhere (reachOf k) rate known-word t n (governed t i) f))))

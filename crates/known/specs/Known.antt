@@ -7,15 +7,18 @@
 --   governsOf k known word ps  the test of it: the places outside ps where the known codeword differs from the word, ps, and T are together less than n − M
 --   testsWithin k c tests  how many test words are within T of the codeword c, as the family has it
 --   WithinOf …             what counting them below a node finds, as the family has it
+--   aloneOf answer         the answer without a margin: where no other codeword is near, there is no runner-up
 --   belowOf known tests    what is found where tests of the test words are within T of the known codeword, and no other codeword is near
 use mathlib.Core.Bool.{Bool, true, false, cond, _&&_}
 use mathlib.Core.Path.{_≡_}
 use mathlib.Core.List.{List}
+use mathlib.Core.Option.{some}
 use Prim.Native.Nat.{ℕ, _+_, _-_}
 use lib.Dec.{eqb, ltb}
 use lib.ListN.{length}
 use Rattle.soft.specs.Column.{places}
 use Rattle.soft.specs.Total.{everywhere, differing}
+use Rattle.totals.specs.declared.margin.Margin.the-variants.{Absent}
 use Rattle.family.specs.Member.{m16}
 use Rattle.near.specs.Here.{mOf, reachOf}
 use Rattle.near.specs.Governing.{Outside, Governed}
@@ -24,12 +27,12 @@ use Rattle.near.specs.Within as Within
 use Rattle.answers.specs.declared.Answer.{Answer}
 use Rattle.answers.specs.declared.Answer.the-variants.{NoneNear, Near}
 use Rattle.answers.specs.declared.Found.{Found}
-use Rattle.answers.specs.Result.{nothingFound}
-use Rattle.answers.specs.Answered.{counted}
+use Rattle.answers.specs.Result.{totalIs, nothingFound}
+use Rattle.answers.specs.Answered.{counted, answering}
 
 unfoldable pub isNear : Answer → Bool
 isNear NoneNear = false
-isNear (Near t) = true
+isNear (Near t d) = true
 
 unfoldable pub laterOf : Found → Found → Found
 laterOf first known = cond (isNear (first .answer)) first known
@@ -39,7 +42,7 @@ filledOf c word ps = Governing.filledOf places c word ps
 
 pub record Governs (k : ℕ) (known : Found) (word ps : List ℕ) : Type 0 where
   pub total : ℕ
-  pub near : known .answer ≡ Near total
+  pub near : totalIs (known .answer) ≡ some total
   pub apart : (t : List ℕ) → Outside places ps word t → Governed m16 everywhere (reachOf k) k (known .codeword) t
 
 unfoldable pub governsOf : ℕ → Found → List ℕ → List ℕ → Bool
@@ -53,5 +56,9 @@ testsWithin k c tests = Within.testsWithin m16 everywhere (reachOf k) c tests
 abbrev pub WithinOf : ℕ → (ℕ → List ℕ) → List ℕ → List ℕ → List ℕ → ℕ → ℕ → Type 0
 WithinOf k columns c word ps left n = Within.WithinOf m16 everywhere (reachOf k) columns c word ps left n
 
+unfoldable pub aloneOf : Answer → Answer
+aloneOf NoneNear = NoneNear
+aloneOf (Near t d) = Near t Absent
+
 unfoldable pub belowOf : Found → ℕ → Found
-belowOf known tests = cond (eqb tests 0) nothingFound (counted tests known)
+belowOf known tests = cond (eqb tests 0) nothingFound (counted tests (answering (aloneOf (known .answer)) known))

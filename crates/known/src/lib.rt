@@ -10,7 +10,7 @@ ghost use Rattle.soft.specs.Doubt.{mostDoubt};
 ghost use Rattle.soft.specs.Total.{differing};
 ghost use Rattle.near.specs.Here.{reachOf};
 ghost use Rattle.candidate.specs.Ranged.{Ranged};
-ghost use Rattle.known.specs.Known.{laterOf, filledOf, governsOf, WithinOf, belowOf};
+ghost use Rattle.known.specs.Known.{laterOf, filledOf, governsOf, WithinOf, aloneOf, belowOf};
 use answers::Answer;
 use answers::Found;
 use answers::none_near;
@@ -23,6 +23,7 @@ use columns::column::second;
 use columns::costs::PLACES;
 use columns::costs::column_of;
 use doubt::MOST_DOUBT;
+use totals::margin::Margin;
 
 // The known codeword for later branches: the one just found, if there is one.
 pub fn later(first: Found, known: Found) -> Found
@@ -113,6 +114,19 @@ pub fn tests_within(
     first + rest
 }
 
+// An answer without a runner-up: whatever rivals the known codeword has elsewhere, it has none where it is the only one near.
+fn alone(answer: Answer) -> Answer
+    ensures { λ r. ⌜ r ≡ aloneOf answer ⌝ }
+{
+    let Answer::Near { total, margin: _ } = answer else {
+        return Answer::NoneNear;
+    };
+    Answer::Near {
+        total,
+        margin: Margin::Absent,
+    }
+}
+
 // The known codeword as the answer of the test words below a node, where so many of them are within T of it and no other is near.
 pub fn below(known: Found, tests: usize) -> Found
     ensures { λ r. ⌜ r ≡ belowOf known tests ⌝ }
@@ -124,7 +138,7 @@ pub fn below(known: Found, tests: usize) -> Found
     let message = known.message;
     let codeword = known.codeword;
     Found {
-        answer,
+        answer: alone(answer),
         message,
         codeword,
         tests,

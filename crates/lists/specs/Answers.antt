@@ -1,7 +1,7 @@
 -- The one meaning of 'the first', 'the cheapest' and 'none' among words.
 --
 --   Beats cost m n        m costs less than n, or as much and stands before it
---   NoWorse cost m n      n is m, or m beats it
+--   NoWorse cost m n      n is m, or m beats it; no-worse-same: neither is worse only if they are the same
 --   Answers cost P o      o is none and nothing has P; or o is some m, which has P and beats every other word that has P
 --   answers-unique        there is one answer
 --   answers-some, answers-none  what it says of the word answered, and where there is none
@@ -50,6 +50,11 @@ module _ {cost : List ℕ → ℕ} where
   beats-trans (earlier e g) (cheaper h) = cheaper (omega arith)
   beats-trans {k} {m} {n} (earlier e g) (earlier f h) = earlier (e ∙ f) (lex-trans k m n g h)
 
+  pub no-worse-same : {m n : List ℕ} → NoWorse cost m n → NoWorse cost n m → m ≡ n
+  no-worse-same (inl e) r = sym e
+  no-worse-same (inr b) (inl e) = e
+  no-worse-same (inr b) (inr c) = absurd (beats-asym b c)
+
   no-worse-trans : {k m n : List ℕ} → NoWorse cost k m → NoWorse cost m n → NoWorse cost k n
   no-worse-trans {k} {m} {n} (inl e) (inl f) = inl (f ∙ e)
   no-worse-trans {k} {m} {n} (inl e) (inr h) = inr (subst (λ x. Beats cost x n) e h)
@@ -61,12 +66,7 @@ module _ {cost : List ℕ → ℕ} {P : List ℕ → Type 0} where
   answers-unique (nobody f) (nobody g) = refl
   answers-unique (nobody f) (best p g) = absurd (f _ p)
   answers-unique (best p f) (nobody g) = absurd (g _ p)
-  answers-unique (best {m = m} p f) (best {m = n} q g) = ap some (go (f n q) (g m p))
-    where
-      go : NoWorse cost m n → NoWorse cost n m → m ≡ n
-      go (inl e) r = sym e
-      go (inr b) (inl e) = e
-      go (inr b) (inr c) = absurd (beats-asym b c)
+  answers-unique (best {m = m} p f) (best {m = n} q g) = ap some (no-worse-same (f n q) (g m p))
 
   pub answers-some : {m : List ℕ} → Answers cost P (some m) → P m
   answers-some (best p f) = p

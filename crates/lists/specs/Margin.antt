@@ -6,10 +6,12 @@
 --   RunnerUp cost P m d      a word other than m has P, no other one that has P costs less, and it costs d more than m
 --   margin-absent            there is no margin exactly if no word but m passes
 --   margin-some              where m is the answer, it is d exactly if there is a runner-up at d
---   lesser o o′              the smaller of two margins, where none is larger than any; lesser-none, lesser-comm
+--   lesser o o′              the smaller of two margins, where none is larger than any; lesser-none, lesser-first, lesser-second, lesser-zero,
+--                            lesser-comm
 --   margin-either            the margin among words that pass one of two tests is the smaller of the two
 --   margin-nobody            where nothing passes, there is none
 --   margin-beaten            where n is the answer and m beats it, the margin of m is what n costs more
+--   margin-le                no margin is larger than what every word costs at most
 use mathlib.Core.Bool.{Bool, true, false, not, cond}
 use mathlib.Core.Path.{_≡_, refl, sym, ap, _∙_, subst}
 use mathlib.Core.List.{List}
@@ -52,17 +54,22 @@ unfolding lesser
 lesser-none none = refl
 lesser-none (some d) = refl
 
-lesser-first : (d e : ℕ) → d ≤ e → lesser (some d) (some e) ≡ some d
+pub lesser-first : (d e : ℕ) → d ≤ e → lesser (some d) (some e) ≡ some d
 unfolding lesser
 lesser-first d e h = ap (λ b. some (cond b e d)) (le-ltb e d h)
 
-lesser-second : (d e : ℕ) → e ≤ d → lesser (some d) (some e) ≡ some e
+pub lesser-second : (d e : ℕ) → e ≤ d → lesser (some d) (some e) ≡ some e
 unfolding lesser
 lesser-second d e h = go (decLt e d)
   where
     go : Dec (e < d) → some (cond (ltb e d) e d) ≡ some e
     go (yes l) = ap (λ b. some (cond b e d)) (lt-ltb e d l)
     go (no l) = ap (λ b. some (cond b e d)) (le-ltb e d (omega arith)) ∙ ap some (omega arith)
+
+pub lesser-zero : (o : Option ℕ) → lesser o (some 0) ≡ some 0
+unfolding lesser
+lesser-zero none = refl
+lesser-zero (some d) = lesser-second d 0 (omega arith)
 
 pub lesser-comm : (o o′ : Option ℕ) → lesser o o′ ≡ lesser o′ o
 unfolding lesser
@@ -73,6 +80,15 @@ lesser-comm (some d) (some e) = go (decLt e d)
     go : Dec (e < d) → lesser (some d) (some e) ≡ lesser (some e) (some d)
     go (yes l) = lesser-second d e (omega arith) ∙ sym (lesser-first e d (omega arith))
     go (no l) = lesser-first d e (omega arith) ∙ sym (lesser-second e d (omega arith))
+
+pub margin-le : {cost : List ℕ → ℕ} {b : ℕ} → ((n : List ℕ) → cost n ≤ b) → (test : List ℕ → Bool) (ws : List (List ℕ)) (m : List ℕ) {d : ℕ}
+    → marginIn cost test ws m ≡ some d → d ≤ b
+unfolding marginIn beyond
+margin-le {cost} {b} h test ws m {d} = go (cheapest cost (otherThan m test) ws)
+  where
+    go : (o : Option (List ℕ)) → beyond cost m o ≡ some d → d ≤ b
+    go none e = let z : _≡_ {A = ℕ} 0 1 = cc in absurd (omega arith)
+    go (some n) e = let s : cost n - cost m ≡ d = cc in omega (arith, h n)
 
 -- ---- the cheapest of the others
 

@@ -6,6 +6,7 @@
 --   margin-some                  where m is the answer, it is d exactly if there is a runner-up whose total is m's total and d
 --   margin-beaten, margin-nobody   what the answer costs more than a message that beats it; none where no codeword is near
 --   margin-columns               only the columns of the places matter
+--   margin-le                    it is no larger than what every codeword costs at most
 --   margin-governed              where no codeword but that of m is within T of a test word, there is none
 --   margin-one                   one test word gives none, where so many wrong places can be repaired
 --   margin-append                the margin of two lists is the smaller of theirs
@@ -16,7 +17,7 @@ use mathlib.Core.Path.{_≡_, ap, _∙_, subst, fun-ext}
 use mathlib.Core.List.{List, [], _∷_, _++_, List·Memᴰ, List·Memᴰ·eq-of-singleton}
 use mathlib.Core.Logic.{_↔_}
 use mathlib.Core.Option.{Option, some, none}
-use Prim.Native.Nat.{ℕ, _-_, _<_}
+use Prim.Native.Nat.{ℕ, _-_, _<_, _≤_}
 use Rattle.lists.specs.Words.{words}
 use Rattle.lists.specs.Answers.{Answers, Beats, Found, free, answers-some}
 use Rattle.lists.specs.Margin as Margin
@@ -67,6 +68,10 @@ module _ (𝓜 : Member) (counts : ℕ → Bool) (reach : ℕ) where
     margin-columns {dues} h m =
         ap (λ cost. marginIn cost (near 𝓜 counts reach k ts) (words (symbols 𝓜) k) m)
         (fun-ext (λ n. totalOf-ext (places 𝓜) columns dues (encodeOf 𝓜 k n) h))
+
+    pub margin-le : {b : ℕ} → ((n : List ℕ) → messageCost 𝓜 k columns n ≤ b) → (m : List ℕ) {d : ℕ} → marginOf k columns ts m ≡ some d → d ≤ b
+    unfolding marginOf
+    margin-le h m = Margin.margin-le h (near 𝓜 counts reach k ts) (words (symbols 𝓜) k) m
 
     pub margin-governed : {m : List ℕ}
         → ((t : List ℕ) → List·Memᴰ t ts → (n : List ℕ) → Found (symbols 𝓜) k (nearTo 𝓜 counts reach k t) n → n ≡ m)

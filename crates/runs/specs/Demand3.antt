@@ -74,7 +74,7 @@ pub record Demand3 : Type 0 where
   pub alike : {s t : Session} → Reached s → Reached t → SameHeld s t → Alike s t
 
 closes-after : {T : ℕ} {book : Book} {calls : List Call} {a : Answer} → ClosedAfter T book calls a → Closes (afterAll book calls) T (closedBy a)
-closes-after (closed-after start run step long eight) = start-follows start .closed run step long eight
+closes-after (closed-after start run step long whole-report) = start-follows start .closed run step long whole-report
 
 pub whole : Demand3
 whole =

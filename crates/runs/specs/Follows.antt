@@ -53,12 +53,12 @@ module _ {T : ℕ} (s : Session) (good : Good s) (rate : Rate (bookOf s .rate) T
       → {message report : List ℕ} {a : Answer} {u : Session} → Step t (closing message report) a u
       → length message ≡ bookOf s .rate → length report ≡ reportLength → Closes (afterAll (bookOf s) calls) T (closedBy a)
   unfolding answer
-  closed-after {calls} {given} {t} run {message} {report} {a} step long eight =
+  closed-after {calls} {given} {t} run {message} {report} {a} step long whole-report =
       let e : bookOf t ≡ afterAll (bookOf s) calls = run-book run good in
       let r : bookOf t .rate ≡ bookOf s .rate = ap (λ (b : Book). b .rate) e ∙ rate-held (bookOf s) calls in
       subst (λ (b : Book). Closes b T (closedBy a)) e
       (subst (λ (x : Answer). Closes (bookOf t) T (closedBy x)) (sym (step .answered (run-good run good)))
-      (closes modem64 (rate-is (subst (λ k. Rate k T) (sym r) rate)) message report (long ∙ sym r) eight))
+      (closes modem64 (rate-is (subst (λ k. Rate k T) (sym r) rate)) message report (long ∙ sym r) whole-report))
 
   pub good-follows : Follows T s (bookOf s)
   good-follows =
@@ -66,7 +66,7 @@ module _ {T : ℕ} (s : Session) (good : Good s) (rate : Rate (bookOf s .rate) T
         answered = λ run. every-run run good;
         left = λ run. (run-good run good, run-book run good);
         one-left = λ a b. one-end good a b;
-        closed = λ run step long eight. closed-after run step long eight;
+        closed = λ run step long whole-report. closed-after run step long whole-report;
         not-empty = λ fit. some-run fit s good;
       }
 

@@ -30,7 +30,7 @@ use Rattle.runs.specs.Follows.{closedBy, Follows, by-opening, start-foll
 
 module _ {T : ℕ} {s : Session} {book : Book} (follows : Follows T s book) {calls : List Call} {given : List Answer} {t : Session}
     (run : Run s calls given t) {message report : List ℕ} {a : Answer} {u : Session} (step : Step t (closing message report) a u)
-    (long : length message ≡ book .rate) (eight : length report ≡ reportLength) (full : (p : ℕ) → Missing (afterAll book calls .row) p → ⊥)
+    (long : length message ≡ book .rate) (whole-report : length report ≡ reportLength) (full : (p : ℕ) → Missing (afterAll book calls .row) p → ⊥)
     (m : List ℕ) where
   pub follows-repaired : Rate (book .rate) T → book .doubtful ≡ [] → Word 16 (book .rate) m
       → notBest (book .rate) (columnsOf (afterAll book calls .row)) m ≤ T
@@ -39,7 +39,7 @@ module _ {T : ℕ} {s : Session} {book : Book} (follows : Follows T s book) {cal
       let k = sym (rate-held book calls) in
       subst₂ (λ r l. Repaired r (columnsOf (afterAll book calls .row)) l m (closedBy a))
       (rate-held book calls) (list-held book calls)
-      (closes-repaired modem64 (follows .closed run step long eight) full (rate-is (subst (λ r. Rate r T) k rate)) (list-held book calls ∙ none-doubtful) m
+      (closes-repaired modem64 (follows .closed run step long whole-report) full (rate-is (subst (λ r. Rate r T) k rate)) (list-held book calls ∙ none-doubtful) m
       (subst (λ r. Word 16 r m) k word)
       (subst (λ r. notBest r (columnsOf (afterAll book calls .row)) m ≤ T) k few))
 
@@ -48,7 +48,7 @@ module _ {T : ℕ} {s : Session} {book : Book} (follows : Follows T s book) {cal
   follows-found few =
       subst₂ (λ r l. NoDearer r (columnsOf (afterAll book calls .row)) l m (closedBy a))
       (rate-held book calls) (list-held book calls)
-      (closes-found modem64 (follows .closed run step long eight) full m
+      (closes-found modem64 (follows .closed run step long whole-report) full m
       (subst₂ (λ r l. FewWrong r (columnsOf (afterAll book calls .row)) l T m) (sym (rate-held book calls)) (sym (list-held book calls)) few))
 
 -- ---- an opened session
@@ -63,15 +63,15 @@ no-places : DoubtfulList []
 no-places = record { short = omega arith; in-range = λ i l. absurd (omega arith); rises = λ i l. absurd (omega arith) }
 
 module _ {rate T : ℕ} (known : Rate rate T) {r : Opened} {calls : List Call} {given : List Answer} {t : Session} {message report : List ℕ}
-    {a : Answer} {u : Session} (step : Step t (closing message report) a u) (long : length message ≡ rate) (eight : length report ≡ reportLength)
+    {a : Answer} {u : Session} (step : Step t (closing message report) a u) (long : length message ≡ rate) (whole-report : length report ≡ reportLength)
     (m : List ℕ) where
   pub run-repaired : Opening (openOf rate []) r → Run (r .session) calls given t → Full rate [] calls → Word 16 rate m
       → notBest rate (columnsAfter rate [] calls) m ≤ T → Repaired rate (columnsAfter rate [] calls) [] m (closedBy a)
   unfolding newBook
   run-repaired opened run full word few =
-      follows-repaired (start-follows (by-opening known no-places opened)) run step long eight full m known refl word few
+      follows-repaired (start-follows (by-opening known no-places opened)) run step long whole-report full m known refl word few
 
   pub run-found : {list : List ℕ} → DoubtfulList list → Opening (openOf rate list) r → Run (r .session) calls given t → Full rate list calls
       → FewWrong rate (columnsAfter rate list calls) list T m → NoDearer rate (columnsAfter rate list calls) list m (closedBy a)
   unfolding newBook
-  run-found d opened run full few = follows-found (start-follows (by-opening known d opened)) run step long eight full m few
+  run-found d opened run full few = follows-found (start-follows (by-opening known d opened)) run step long whole-report full m few

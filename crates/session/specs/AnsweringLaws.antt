@@ -76,19 +76,19 @@ module _ (s : Session) (message report : List ℕ) where
   unfolding bookOf
   closing-wrong-size w = refused wrongSize (λ good. closing-sizes modem64 (bookOf s) message report w)
 
-  module _ (long : length message ≡ s .rate) (eight : length report ≡ reportLength) where
+  module _ (long : length message ≡ s .rate) (whole-report : length report ≡ reportLength) where
     pub closing-early : s .taken < places → Closing s message report placeMissing message report
     unfolding bookOf refusedClosing Fields.bookOf
-    closing-early h = refused placeMissing (λ good. laws.close-early modem64 (held s) good message report long eight h)
+    closing-early h = refused placeMissing (λ good. laws.close-early modem64 (held s) good message report long whole-report h)
 
     full-close : places ≤ s .taken → Good s → closeOf (bookOf s) message report ≡ decoded
     unfolding bookOf Fields.bookOf
-    full-close h good = laws.close-full modem64 (held s) good message report long eight h
+    full-close h good = laws.close-full modem64 (held s) good message report long whole-report h
 
     here : places ≤ s .taken → Closing s message report (decoded .number) (decoded .message) (decoded .report)
     here h =
         let k = decode-kept modem64 (s .rate) (columnOf symbols (s .costs)) (take (s .doubt) (s .doubtful)) message report in
-        let l = decode-sized modem64 (s .rate) (columnOf symbols (s .costs)) (take (s .doubt) (s .doubtful)) message report long eight in
+        let l = decode-sized modem64 (s .rate) (columnOf symbols (s .costs)) (take (s .doubt) (s .doubtful)) message report long whole-report in
         record {
           number = λ good. sym (ap (λ (c : Closed). c .number) (full-close h good));
           message-bytes = λ good. sym (ap (λ (c : Closed). c .message) (full-close h good));

@@ -323,11 +323,11 @@ module _ (𝓓 : Model) where
 
   -- ---- closing
 
-  module _ (s : Held) (good : Good 𝓓 s) (message report : List ℕ) (long : length message ≡ s .rate) (eight : length report ≡ reportLength 𝓓) where
+  module _ (s : Held) (good : Good 𝓓 s) (message report : List ℕ) (long : length message ≡ s .rate) (whole-report : length report ≡ reportLength 𝓓) where
     pub close-early : s .taken < places 𝓓 → closeOf 𝓓 (bookOf 𝓓 s) message report ≡ refusedClosing placeMissing message report
     unfolding bookOf
     close-early h =
-        close-missing 𝓓 (bookOf 𝓓 s) message report (fits-of 𝓓 (bookOf 𝓓 s) message report long eight)
+        close-missing 𝓓 (bookOf 𝓓 s) message report (fits-of 𝓓 (bookOf 𝓓 s) message report long whole-report)
         (missing-taken s good ∙ ap not (lt-leb (places 𝓓) (s .taken) h))
 
     pub close-full : places 𝓓 ≤ s .taken
@@ -335,7 +335,7 @@ module _ (𝓓 : Model) where
         ≡ decodeOf 𝓓 (s .rate) (columnOf (width 𝓓) (s .costs)) (take (s .doubt) (s .doubtful)) message report
     unfolding bookOf
     close-full h =
-        close-decoded 𝓓 (bookOf 𝓓 s) message report (fits-of 𝓓 (bookOf 𝓓 s) message report long eight)
+        close-decoded 𝓓 (bookOf 𝓓 s) message report (fits-of 𝓓 (bookOf 𝓓 s) message report long whole-report)
         (missing-taken s good ∙ ap not (le-leb (places 𝓓) (s .taken) h))
         ∙ ap (λ (f : ℕ → List ℕ). decodeOf 𝓓 (s .rate) f (take (s .doubt) (s .doubtful)) message report) (columns-table s good)
 

@@ -1,6 +1,6 @@
 -- What the program prints for the bytes that it reads (document 01, 'The capture'), by the book.
 --
---   answerLines book c   `rate d total tests pinned changed`, then the message; `refused N` if closing was refused
+--   answerLines book c   `rate d total tests pinned changed margin`, then the message; `refused N` if closing was refused
 --   closedOf book        what closing answers into buffers of zeros
 --   shownOf bytes        of the capture's book, closed; `refused N` if opening was refused
 --   shown-answer         where both are accepted: the two lines, and the report that they are of shows the numbers of the answer
@@ -25,7 +25,7 @@ answerLines book c =
     cond (eqb (c .number) accepted) (headingOf (book .rate) (length (book .doubtful)) (c .report) ++ messageLine (c .message))
     (refusedLine (c .number))
 
--- the buffers of a closing have a byte for each symbol and eight for the report; what they hold before it is left by none that is accepted
+-- the buffers of a closing have a byte for each symbol and those of the report; what they hold before it is left by none that is accepted
 abbrev pub closedOf : Book → Closed
 closedOf book = closeOf book (replicate (book .rate) 0) (replicate reportLength 0)
 

@@ -1,8 +1,9 @@
-// Reads a capture from standard input and prints what its session closes with: `rate d total tests pinned changed`, then the message
-// in hexadecimal digits; or `refused N`. No more than 4,096 bytes are read: a capture is shorter, and a longer input is refused by its size.
+// Reads a capture from standard input and prints what its session closes with: `rate d total tests pinned changed margin`, then the
+// message in hexadecimal digits; or `refused N`. No more than 4,096 bytes are read: a capture is shorter, and a longer input is refused by its size.
 use libc::STDIN_FILENO;
 use libc::STDOUT_FILENO;
 use session::Session;
+use totals::report::REPORT_BYTES;
 ghost use mathlib.Core.Path.{_≡_};
 ghost use Prim.Native.Nat.{_≤_};
 ghost use lib.ListN.{length, replicate};
@@ -15,7 +16,7 @@ fn show_closed(opened: Session, message: &mut [u8], out: &mut [u8]) -> usize
     requires { ⌜ Good opened × (now message ≡ replicate (opened .rate) 0) × (opened .rate ≤ 64) × (256 ≤ length (now out)) ⌝ }
     ensures { λ r. ⌜ Appended (now (out .entry)) 0 (closedLines (bookOf opened)) r (now (out .exit)) ⌝ }
 {
-    let mut report = [0u8; 8];
+    let mut report = [0u8; REPORT_BYTES];
     let refusal = closing::close(opened, message, &mut report);
     if refusal != refusals::ACCEPTED {
         return text::put_refused(refusal, out);

@@ -9,10 +9,12 @@
 --   differingIn counts n u v   in how many of n places, of those that count, two words differ; a missing entry differs
 --   differing n u v            the same where every place counts
 --   bytesOf n v                v in n bytes, high byte first
---   reportOf wide total tests pinned changed   the report's bytes: four of the total, two of the test words, and so many as `wide` says of each count of
---                              places
+--   marginBytes margin         the margin to the runner-up in five bytes: a byte of 1 and four of the margin, or five of 0 where there is none
+--   reportOf wide total tests pinned changed margin   the report's bytes: four of the total, two of the test words, so many as `wide` says of each
+--                              count of places, and those of the margin
 use mathlib.Core.Bool.{Bool, true, not, _&&_}
 use mathlib.Core.List.{List, [], _∷_, _++_}
+use mathlib.Core.Option.{Option, none, some}
 use Prim.Native.Nat.{ℕ, zero, suc, _/_, _%_}
 use lib.Dec.{ltb, eqb}
 use lib.ListN.{length, getD}
@@ -60,5 +62,10 @@ unfoldable pub bytesOf : ℕ → ℕ → List ℕ
 bytesOf zero v = []
 bytesOf (suc n) v = bytesOf n (v / 256) ++ (v % 256 ∷ [])
 
-unfoldable pub reportOf : ℕ → ℕ → ℕ → ℕ → ℕ → List ℕ
-reportOf wide total tests pinned changed = bytesOf 4 total ++ (bytesOf 2 tests ++ (bytesOf wide pinned ++ bytesOf wide changed))
+unfoldable pub marginBytes : Option ℕ → List ℕ
+marginBytes none = bytesOf 1 0 ++ bytesOf 4 0
+marginBytes (some d) = bytesOf 1 1 ++ bytesOf 4 d
+
+unfoldable pub reportOf : ℕ → ℕ → ℕ → ℕ → ℕ → Option ℕ → List ℕ
+reportOf wide total tests pinned changed margin =
+    bytesOf 4 total ++ (bytesOf 2 tests ++ (bytesOf wide pinned ++ (bytesOf wide changed ++ marginBytes margin)))

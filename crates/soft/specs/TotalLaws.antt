@@ -7,11 +7,12 @@
 --   totalOf-ext, pinnedOf-ext, changedOf-ext   only the columns of the places matter
 --   differing-le, differing-self, differing-comm, differing-triangle, differing-none   differing is a distance of words of n places
 --   changed-differing      the changed places are those in which a word differs from the word of best symbols
---   bytesOf-length, reportOf-length   how many bytes a report has: 8 where each count of places is one byte
+--   bytesOf-length, marginBytes-length, reportOf-length   how many bytes a report has: 13 where each count of places is one byte
 use mathlib.Core.Bool.{Bool, true, false, not, _&&_}
 use mathlib.Core.Path.{_≡_, refl, sym, ap, _∙_, subst}
 use mathlib.Core.List.{List, [], _∷_, _++_}
 use mathlib.Core.Logic.{_≢_, _⊎_, inl, inr, ⊎-elim}
+use mathlib.Core.Option.{Option, none, some}
 use Prim.Native.Nat.{ℕ, zero, suc, _+_, _*_, _/_, _%_, _<_, _≤_}
 use native.Mathlib.Numerals.{add-one}
 use native.Mathlib.Decide.{ℕ-discrete}
@@ -23,7 +24,7 @@ use borrow.Author.Tests.{lt-ltb, eq-eqb, ne-eqb, not-false}
 use Rattle.lists.specs.Count.{bit, sumOf-suc, sumOf-ext, sumOf-mono, sumOf-plus, sumOf-bound, count, count-nil, count-suc, count-ext, count-le, count-none, count-zero}
 use Rattle.soft.specs.Column.{costOf, bestOf, ceiling}
 use Rattle.soft.specs.TestWord.{bestAt, bestWord}
-use Rattle.soft.specs.Total.{symbolAt, costIn, totalOf, pinnedAt, pinnedOf, changedAt, changedOf, agree, differAt, differingIn, differing, bytesOf, reportOf}
+use Rattle.soft.specs.Total.{symbolAt, costIn, totalOf, pinnedAt, pinnedOf, changedAt, changedOf, agree, differAt, differingIn, differing, bytesOf, marginBytes, reportOf}
 use Rattle.soft.specs.TestWordLaws.{bestWord-length, bestWord-at}
 
 module _ (columns : ℕ → List ℕ) (word : List ℕ) where
@@ -209,16 +210,24 @@ bytesOf-length zero v = refl
 bytesOf-length (suc n) v =
     length-append (bytesOf n (v / 256)) (v % 256 ∷ []) ∙ ap (λ k. k + 1) (bytesOf-length n (v / 256)) ∙ add-one n
 
-pub reportOf-length : (wide total tests pinned changed : ℕ) → length (reportOf wide total tests pinned changed) ≡ 6 + wide + wide
+pub marginBytes-length : (margin : Option ℕ) → length (marginBytes margin) ≡ 5
+unfolding marginBytes
+marginBytes-length none = omega (arith, length-append (bytesOf 1 0) (bytesOf 4 0), bytesOf-length 1 0, bytesOf-length 4 0)
+marginBytes-length (some d) = omega (arith, length-append (bytesOf 1 1) (bytesOf 4 d), bytesOf-length 1 1, bytesOf-length 4 d)
+
+pub reportOf-length : (wide total tests pinned changed : ℕ) (margin : Option ℕ)
+    → length (reportOf wide total tests pinned changed margin) ≡ 11 + wide + wide
 unfolding reportOf
-reportOf-length wide total tests pinned changed =
+reportOf-length wide total tests pinned changed margin =
     omega (
       arith,
-      length-append (bytesOf 4 total) (bytesOf 2 tests ++ (bytesOf wide pinned ++ bytesOf wide changed)),
-      length-append (bytesOf 2 tests) (bytesOf wide pinned ++ bytesOf wide changed),
-      length-append (bytesOf wide pinned) (bytesOf wide changed),
+      length-append (bytesOf 4 total) (bytesOf 2 tests ++ (bytesOf wide pinned ++ (bytesOf wide changed ++ marginBytes margin))),
+      length-append (bytesOf 2 tests) (bytesOf wide pinned ++ (bytesOf wide changed ++ marginBytes margin)),
+      length-append (bytesOf wide pinned) (bytesOf wide changed ++ marginBytes margin),
+      length-append (bytesOf wide changed) (marginBytes margin),
       bytesOf-length 4 total,
       bytesOf-length 2 tests,
       bytesOf-length wide pinned,
       bytesOf-length wide changed,
+      marginBytes-length margin,
     )

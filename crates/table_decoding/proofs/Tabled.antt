@@ -42,6 +42,6 @@ module _ (table : List ℕ) (doubt : ℕ) (few : doubt ≤ mostDoubt) {costs dou
         → {a : Closed} → a ≡ decodeOf rate (columnOf symbols costs) (take doubt doubtful) message report
         → a ≡ tableOf rate table doubt message report
     unfolding BookTable.tableColumns
-    table-answers message report whole long eight e =
+    table-answers message report whole long whole-report e =
         e ∙ ap₂ (λ (l list : List ℕ). decodeOf rate (columnOf symbols l) list message report) c table-list
-        ∙ sym (table-decoded modem64 rate table doubt message report known whole long eight few)
+        ∙ sym (table-decoded modem64 rate table doubt message report known whole long whole-report few)

@@ -1,11 +1,13 @@
 // What `show` prints, as text in a lent buffer: each function puts some behind the first `at` bytes and answers where the text then ends.
-// It knows of no session: a report is its eight bytes.
+// It knows of no session: a report is its bytes.
+use totals::report::REPORT_BYTES;
 ghost use mathlib.Core.Path.{_≡_};
 ghost use mathlib.Core.List.{map, _++_};
 ghost use Prim.Native.Nat.{_+_, _*_, _≤_, _<_};
 ghost use lib.ListN.{length};
 ghost use Rattle.book.specs.Report.{totalIn, testsIn};
-ghost use Rattle.text.specs.Text.{space, decimalOf, hexOf, numberLine, headingOf, messageLine, refusedLine};
+ghost use Rattle.book.specs.Here.{marginIn};
+ghost use Rattle.text.specs.Text.{space, decimalOf, hexOf, numberLine, marginLine, headingOf, messageLine, refusedLine};
 ghost use Rattle.text.specs.Appended.{Appended};
 
 fn put_bytes(bytes: &[u8], out: &mut [u8], at: usize) -> usize
@@ -50,16 +52,22 @@ fn pair(high: u8, low: u8) -> u64
     256 * byte(high) + byte(low)
 }
 
-fn total_in(report: [u8; 8]) -> u64
+fn total_in(report: [u8; REPORT_BYTES]) -> u64
     ensures { λ r. ⌜ r ≡ totalIn report ⌝ }
 {
     65536 * pair(report[0], report[1]) + pair(report[2], report[3])
 }
 
-fn tests_in(report: [u8; 8]) -> u64
+fn tests_in(report: [u8; REPORT_BYTES]) -> u64
     ensures { λ r. ⌜ r ≡ testsIn report ⌝ }
 {
     pair(report[4], report[5])
+}
+
+fn margin_in(report: [u8; REPORT_BYTES]) -> u64
+    ensures { λ r. ⌜ r ≡ marginIn report ⌝ }
+{
+    65536 * pair(report[9], report[10]) + pair(report[11], report[12])
 }
 
 fn hex_digit(symbol: u8) -> u8
@@ -103,19 +111,37 @@ fn put_cost(rate: u8, doubt: usize, total: u64, out: &mut [u8]) -> usize
     put_number(total, b' ', out, after_doubt)
 }
 
-// The line `rate d total tests pinned changed`; the last four are read from the report.
-fn put_heading(rate: u8, doubt: usize, report: [u8; 8], out: &mut [u8]) -> usize
+// The margin, or a dash where there is none, and the end of the line.
+fn put_margin(report: [u8; REPORT_BYTES], out: &mut [u8], at: usize) -> usize
+    requires { ⌜ at + 21 ≤ length (now out) ⌝ }
+    ensures { λ r. ⌜ Appended (now (out .entry)) at (marginLine report) r (now (out .exit)) × (r ≤ at + 21) ⌝ }
+{
+    if report[8] != 1 {
+        return put_bytes(b"-\n", out, at);
+    }
+    put_number(margin_in(report), b'\n', out, at)
+}
+
+// The line `rate d total tests pinned changed margin`; the last five are read from the report.
+fn put_heading(rate: u8, doubt: usize, report: [u8; REPORT_BYTES], out: &mut [u8]) -> usize
     requires { ⌜ 256 ≤ length (now out) ⌝ }
-    ensures { λ r. ⌜ Appended (now (out .entry)) 0 (headingOf rate doubt report) r (now (out .exit)) × (r ≤ 126) ⌝ }
+    ensures { λ r. ⌜ Appended (now (out .entry)) 0 (headingOf rate doubt report) r (now (out .exit)) × (r ≤ 147) ⌝ }
 {
     let after_total = put_cost(rate, doubt, total_in(report), out);
     let after_tests = put_number(tests_in(report), b' ', out, after_total);
     let after_pinned = put_number(byte(report[6]), b' ', out, after_tests);
-    put_number(byte(report[7]), b'\n', out, after_pinned)
+    let after_changed = put_number(byte(report[7]), b' ', out, after_pinned);
+    put_margin(report, out, after_changed)
 }
 
 // Both lines of an accepted closing.
-pub fn put_answer(rate: u8, doubt: usize, report: [u8; 8], message: &[u8], out: &mut [u8]) -> usize
+pub fn put_answer(
+    rate: u8,
+    doubt: usize,
+    report: [u8; REPORT_BYTES],
+    message: &[u8],
+    out: &mut [u8],
+) -> usize
     requires { ⌜ (256 ≤ length (now out)) × (length (now message) ≤ 64) ⌝ }
     ensures { λ r. ⌜ Appended (now (out .entry)) 0 (headingOf rate doubt report ++ messageLine (now (message .entry))) r (now (out .exit)) ⌝ }
 {

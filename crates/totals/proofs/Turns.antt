@@ -1,26 +1,56 @@
 -- Single steps of the functions, over plain lists and numbers.
 --
 --   cost-in                what a word's symbol costs, from the symbol and the list of costs
+--   absent-bytes, present-bytes   the bytes of a margin
 --   report-bytes           the bytes of a report
-use mathlib.Core.Path.{_≡_, ap, _∙_}
+use mathlib.Core.Path.{_≡_, refl, sym, ap, _∙_}
 use mathlib.Core.List.{List, [], _∷_}
+use mathlib.Core.Option.{Option, none, some}
 use Prim.Native.Nat.{ℕ, _/_, _%_, _<_}
 use native.Mathlib.Omega.{arith}
+use lib.ListN.{getD}
 use Rattle.soft.specs.Column.{costOf, columnOf, symbols}
-use Rattle.soft.specs.Total.{symbolAt, costIn, bytesOf, reportOf}
+use Rattle.soft.specs.Total.{symbolAt, costIn, bytesOf, marginBytes, reportOf}
+use Rattle.totals.specs.declared.margin.Margin.{Margin}
+use Rattle.totals.specs.declared.margin.Margin.the-variants.{Absent, Of}
+use Rattle.totals.specs.Margin.{marginIs}
 
 -- what the symbol of a word costs at a place, read off a list of costs
 pub cost-in : (costs word : List ℕ) (p s r : ℕ) → s ≡ symbolAt word p → r ≡ costOf (columnOf symbols costs p) s → r ≡ costIn (columnOf symbols costs) word p
 cost-in costs word p s r e f = f ∙ ap (λ x. costOf (columnOf symbols costs p) x) e
 
--- the eight bytes of a report, each as the code divides it out of numbers that fit
-pub report-bytes : (total tests pinned changed : ℕ) → total < 4294967296 → tests < 65536 → pinned < 256 → changed < 256
-    → total / 16777216 ∷ total / 65536 % 256 ∷ total / 256 % 256 ∷ total % 256 ∷ tests / 256 ∷ tests % 256 ∷ pinned ∷ changed ∷ [] ≡ reportOf 1 total tests pinned changed
+-- the five bytes of a margin
+pub absent-bytes : {margin : Margin} → margin ≡ Absent → 0 ∷ 0 ∷ 0 ∷ 0 ∷ 0 ∷ [] ≡ marginBytes (marginIs margin)
+unfolding marginIs marginBytes bytesOf
+absent-bytes e = ap (λ d. marginBytes (marginIs d)) (sym e)
+
+pub present-bytes : {margin : Margin} {d : ℕ} → margin ≡ Of d → d < 4294967296
+    → 1 ∷ d / 16777216 ∷ d / 65536 % 256 ∷ d / 256 % 256 ∷ d % 256 ∷ [] ≡ marginBytes (marginIs margin)
+unfolding marginIs marginBytes bytesOf
+present-bytes {margin} {d} e h =
+    let e0 : d / 16777216 ≡ d / 256 / 256 / 256 % 256 = omega arith in
+    let e1 : d / 65536 % 256 ≡ d / 256 / 256 % 256 = omega arith in
+    let f : marginBytes (some d) ≡ marginBytes (marginIs margin) = ap (λ x. marginBytes (marginIs x)) (sym e) in
+    cc
+
+-- they are five
+margin-five : (margin : Option ℕ)
+    → let b = marginBytes margin in getD b 0 0 ∷ getD b 1 0 ∷ getD b 2 0 ∷ getD b 3 0 ∷ getD b 4 0 ∷ [] ≡ b
+unfolding marginBytes bytesOf
+margin-five none = refl
+margin-five (some d) = refl
+
+-- the bytes of a report, each as the code divides it out of numbers that fit
+pub report-bytes : (total tests pinned changed : ℕ) (margin : Option ℕ) {b : List ℕ} → b ≡ marginBytes margin
+    → total < 4294967296 → tests < 65536 → pinned < 256 → changed < 256
+    → total / 16777216 ∷ total / 65536 % 256 ∷ total / 256 % 256 ∷ total % 256 ∷ tests / 256 ∷ tests % 256 ∷ pinned ∷ changed ∷ getD b 0 0 ∷ getD b 1 0 ∷ getD b 2 0 ∷ getD b 3 0 ∷ getD b 4 0 ∷ []
+    ≡ reportOf 1 total tests pinned changed margin
 unfolding reportOf bytesOf
-report-bytes total tests pinned changed ht hs hp hc =
+report-bytes total tests pinned changed margin {b} r ht hs hp hc =
     let e0 : total / 16777216 ≡ total / 256 / 256 / 256 % 256 = omega arith in
     let e1 : total / 65536 % 256 ≡ total / 256 / 256 % 256 = omega arith in
     let e4 : tests / 256 ≡ tests / 256 % 256 = omega arith in
     let e6 : pinned ≡ pinned % 256 = omega arith in
     let e7 : changed ≡ changed % 256 = omega arith in
+    let f = margin-five margin in
     cc

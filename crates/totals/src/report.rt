@@ -1,12 +1,31 @@
-// The report's eight bytes.
+// The report's thirteen bytes.
+use crate::margin::Margin;
 ghost use mathlib.Core.Path.{_≡_};
-ghost use Rattle.soft.specs.Total.{reportOf};
+ghost use Rattle.soft.specs.Total.{marginBytes, reportOf};
+ghost use Rattle.totals.specs.Margin.{marginIs};
 
-pub const REPORT_BYTES: usize = 8;
+pub const REPORT_BYTES: usize = 13;
 
-pub fn report(total: u32, tests: u16, pinned: u8, changed: u8) -> [u8; REPORT_BYTES]
-    ensures { λ r. ⌜ r ≡ reportOf 1 total tests pinned changed ⌝ }
+// A byte of 1 and the margin, or zeros where it is absent: zero is a margin too.
+fn margin_bytes(margin: Margin) -> [u8; 5]
+    ensures { λ r. ⌜ r ≡ marginBytes (marginIs margin) ⌝ }
 {
+    let Margin::Of(difference) = margin else {
+        return [0, 0, 0, 0, 0];
+    };
+    [
+        1,
+        (difference / 16777216) as u8,
+        (difference / 65536 % 256) as u8,
+        (difference / 256 % 256) as u8,
+        (difference % 256) as u8,
+    ]
+}
+
+pub fn report(total: u32, tests: u16, pinned: u8, changed: u8, margin: Margin) -> [u8; REPORT_BYTES]
+    ensures { λ r. ⌜ r ≡ reportOf 1 total tests pinned changed (marginIs margin) ⌝ }
+{
+    let runner_up = margin_bytes(margin);
     [
         (total / 16777216) as u8,
         (total / 65536 % 256) as u8,
@@ -16,5 +35,10 @@ pub fn report(total: u32, tests: u16, pinned: u8, changed: u8) -> [u8; REPORT_BY
         (tests % 256) as u8,
         pinned,
         changed,
+        runner_up[0],
+        runner_up[1],
+        runner_up[2],
+        runner_up[3],
+        runner_up[4],
     ]
 }

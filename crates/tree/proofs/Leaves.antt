@@ -1,5 +1,5 @@
 -- A leaf: its candidate is the answer if it is within T of the test word, and otherwise there is none.
-use mathlib.Core.Path.{_≡_, refl, ap, _∙_}
+use mathlib.Core.Path.{_≡_, refl, sym, ap, _∙_}
 use mathlib.Core.List.{List}
 use Prim.Native.Nat.{ℕ, _<_, _≤_}
 use native.Mathlib.Omega.{arith}
@@ -10,9 +10,12 @@ use Rattle.soft.specs.Total.{everywhere, differing, totalOf}
 use Rattle.near.specs.Here.{repairable, reachOf, messageCost}
 use Rattle.near.specs.Near.{isSome}
 use Rattle.near.specs.Laws.{answer-one, tests-one}
+use Rattle.near.specs.Runner.{margin-one}
+use Rattle.totals.specs.declared.margin.Margin.the-variants.{Absent}
+use Rattle.totals.specs.Margin.{marginIs}
 use Rattle.answers.specs.declared.Answer.the-variants.{Near}
 use Rattle.answers.specs.declared.Found.{Found}
-use Rattle.answers.specs.Result.{nothingFound}
+use Rattle.answers.specs.Result.{totalIs, nothingFound}
 use Rattle.answers.specs.Nearest.{nearest-nothing, nearest-some}
 use Rattle.answers.specs.Answered.{Sound}
 use Rattle.candidate.specs.declared.Candidate.{Candidate}
@@ -34,13 +37,14 @@ module _ {k : ℕ} (rate : Ranged k) (columns : ℕ → List ℕ) (word row : Li
 
   module _ (total : ℕ) (t-is : total ≡ totalOf places columns (held .codeword)) where
     abbrev answered : Found
-    answered = record { answer = Near total; message = held .message; codeword = held .codeword; tests = 1 }
+    answered = record { answer = Near total Absent; message = held .message; codeword = held .codeword; tests = 1 }
 
     cost-is : total ≡ messageCost k columns (take k (held .message))
     unfolding Near.messageCost
     cost-is = t-is ∙ ap (totalOf places columns) (C .encoded)
 
     pub leaf-sound : Sound k columns answered
+    unfolding totalIs
     leaf-sound =
         record {
           nothing = λ e. let z : _≡_ {A = ℕ} 0 1 = cc in absurd (omega arith);
@@ -51,10 +55,12 @@ module _ {k : ℕ} (rate : Ranged k) (columns : ℕ → List ℕ) (word row : Li
         }
 
     pub leaf-some : d ≤ r → LeafOf k columns word row answered
+    unfolding marginIs
     leaf-some close =
         record {
           few = omega arith;
           finds = λ h.
               let c = candidate-near C word h (omega arith) in
-              nearest-some answered total refl (tests-one m16 everywhere (reachOf k) k word ∙ ap (λ o. bit (isSome o)) c) (answer-one m16 everywhere (reachOf k) (workable rate) (repairable (workable rate)) columns word ∙ c) cost-is;
+              nearest-some answered total Absent refl (tests-one m16 everywhere (reachOf k) k word ∙ ap (λ o. bit (isSome o)) c) (answer-one m16 everywhere (reachOf k) (workable rate) (repairable (workable rate)) columns word ∙ c) cost-is
+              (sym (margin-one m16 everywhere (reachOf k) (workable rate) (repairable (workable rate)) columns word c));
         }

@@ -34,6 +34,7 @@ use known::governs;
 use known::later;
 use known::tests_within;
 use rows::Row;
+use totals::margin::Margin;
 use totals::total::total;
 
 fn cost(costs: &[u16], codeword: Word) -> u32
@@ -42,7 +43,7 @@ fn cost(costs: &[u16], codeword: Word) -> u32
     total(costs, &codeword)
 }
 
-// One test word: what its row holds, if its codeword is within T of the word.
+// One test word: what its row holds, if its codeword is within T of the word. No other codeword is, so there is no runner-up.
 fn leaf(row: Row, word: Word, costs: &[u16], k: usize) -> Found
     requires { ⌜ Ranged k ⌝ }
     ensures { λ r.
@@ -57,6 +58,7 @@ fn leaf(row: Row, word: Word, costs: &[u16], k: usize) -> Found
     Found {
         answer: Answer::Near {
             total: cost(costs, codeword),
+            margin: Margin::Absent,
         },
         message,
         codeword,

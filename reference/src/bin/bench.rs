@@ -14,6 +14,7 @@ use std::sync::Mutex;
 use std::thread;
 use std::time::{Duration, Instant};
 
+use reference::decode::REPORT_BYTES;
 use reference::frames::RATES;
 use reference::measured::{cases, Case, Measured, Which, CALLS};
 use reference::proved::{PROVED, PROVED_TABLE};
@@ -87,7 +88,7 @@ impl Library {
             given,
         } = call;
         let mut buffer = vec![0; if *letter == b'E' { 64 } else { *rate as usize }];
-        let mut report = vec![0; if *letter == b'T' { 8 } else { 0 }];
+        let mut report = vec![0; if *letter == b'T' { REPORT_BYTES } else { 0 }];
         let number = match letter {
             b'E' => (self.coding.encode)(*rate, given, &mut buffer, 0),
             b'B' => (self.coding.read_back)(*rate, given, &mut buffer),

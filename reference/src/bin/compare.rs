@@ -13,7 +13,7 @@ use reference::frames::{frame, frame_s, Frame, Kind, RATES};
 use reference::nearest::Finder;
 use reference::random::Random;
 use reference::show::show;
-use reference::streams::{chosen_calls, compare_calls, compare_shows};
+use reference::streams::{chosen_calls, compare_calls, compare_shows, Shown};
 
 const USAGE: &str = "\
 compare calls LETTERS SEED COUNT            write the calls of COUNT frames
@@ -25,7 +25,8 @@ compare shows SEED COUNT PROGRAM ..         run a program on COUNT captures and 
 compare time COUNT                          decode COUNT frames of each sort and time them
 compare code SEED COUNT                     the proved encoding and reading back (feature proved)
 compare tables SEED COUNT                   the proved table decoding (feature proved)
-LETTERS are those of the calls wanted, of OCDRWXL.";
+LETTERS are those of the calls wanted, of OCDRWXL.
+The count of frames with a margin is printed; fewer than one in six are a failure.";
 
 fn main() -> ExitCode {
     let arguments: Vec<String> = std::env::args().skip(1).collect();
@@ -49,13 +50,19 @@ fn run(arguments: &[String]) -> Result<(), String> {
         ["run", letters, seed, count, _, ..] => {
             let tally = compare_calls(&arguments[4..], letters, number(seed)?, number(count)?)?;
             let calls = tally.calls();
-            output(format!("{count} frames, {calls} calls alike ({tally})\n").as_bytes())
+            output(format!("{count} frames, {calls} calls alike ({tally})\n").as_bytes())?;
+            if letters.contains('X') {
+                tally.margins.check(number(count)?)?;
+            }
+            Ok(())
         }
         ["example"] => output(&example()),
         ["show"] => output(show(&input()?).as_bytes()),
         ["shows", seed, count, _, ..] => {
-            let captures = compare_shows(&arguments[3..], number(seed)?, number(count)?)?;
-            output(format!("{captures} captures alike\n").as_bytes())
+            let shown = compare_shows(&arguments[3..], number(seed)?, number(count)?)?;
+            let Shown { captures, margins } = shown;
+            output(format!("{captures} captures alike ({margins})\n").as_bytes())?;
+            margins.check(captures)
         }
         ["time", count] => time(number(count)?),
         #[cfg(feature = "proved")]
@@ -133,6 +140,7 @@ fn time(count: u64) -> Result<(), String> {
 
 #[cfg(feature = "proved")]
 mod proved {
+    use reference::margins::Margins;
     use reference::proved::{PROVED, PROVED_TABLE};
     use reference::trials::{
         compare, encode_trial, read_back_trial, table_trial, Difference, Trial, REFERENCE,
@@ -142,22 +150,25 @@ mod proved {
     pub fn code(seed: u64, count: u64) -> Result<(), String> {
         let both = [&REFERENCE, &PROVED];
         report("encode", encode_trial, both, seed, count)?;
-        report("read back", read_back_trial, both, seed, count)
+        report("read back", read_back_trial, both, seed, count)?;
+        Ok(())
     }
 
     pub fn tables(seed: u64, count: u64) -> Result<(), String> {
         let both = [&REFERENCE_TABLE, &PROVED_TABLE];
-        report("decode table", table_trial, both, seed, count)
+        let margins = report("decode table", table_trial, both, seed, count)?;
+        super::output(format!("decode table: {margins}\n").as_bytes())?;
+        margins.check(count)
     }
 
-    /// Prints how often each number was returned.
+    /// Prints how often each number was returned; the margins are handed back.
     fn report<L: Sync>(
         name: &str,
         trial: Trial<L>,
         libraries: [&L; 2],
         seed: u64,
         count: u64,
-    ) -> Result<(), String> {
+    ) -> Result<Margins, String> {
         let tally = compare(trial, libraries, seed, count).map_err(|difference| {
             let Difference {
                 trial,
@@ -165,8 +176,12 @@ mod proved {
             } = difference;
             format!("{name}: trial {trial} of seed {seed}: expected {expected:x?}, got {got:x?}")
         })?;
-        let returned = tally.iter().enumerate().filter(|(_, times)| **times > 0);
-        let returned: Vec<String> = returned.map(|(n, times)| format!("{n}: {times}")).collect();
-        super::output(format!("{name}: {count} alike ({})\n", returned.join(", ")).as_bytes())
+        let returned = tally.numbers.iter().enumerate();
+        let returned: Vec<String> = returned
+            .filter(|(_, times)| **times > 0)
+            .map(|(n, times)| format!("{n}: {times}"))
+            .collect();
+        super::output(format!("{name}: {count} alike ({})\n", returned.join(", ")).as_bytes())?;
+        Ok(tally.margins)
     }
 }

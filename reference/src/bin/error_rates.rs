@@ -14,7 +14,7 @@ use std::thread;
 
 use reference::channel::Channel;
 use reference::code::Code;
-use reference::decode::table_of_columns;
+use reference::decode::{table_of_columns, REPORT_BYTES};
 use reference::frames::{random_codeword, RATES};
 use reference::measured::DOUBTS;
 use reference::plot::{draw, Curve};
@@ -173,7 +173,7 @@ fn one_frame(
     let columns = symbols.map(|symbol| channel.column(symbol, &mut random));
     let table = table_of_columns(&columns);
     let mut message = vec![0; code.symbols];
-    let mut report = [0; 8];
+    let mut report = [0; REPORT_BYTES];
     let number = PROVED_TABLE(rate, &table, doubt as u64, &mut message, &mut report);
     counts.frames += 1;
     if number != 0 {

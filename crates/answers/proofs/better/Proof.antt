@@ -1,6 +1,6 @@
 -- The cases of two answers.
 use mathlib.Core.Path.{refl, sym, _∙_}
-use Rattle.answers.proofs.Joining.{join-other, join-first, join-cheaper, join-dearer, join-before, join-after}
+use Rattle.answers.proofs.Joining.{join-other, join-first, join-cheaper, join-dearer, join-before, join-after, join-same}
 use borrow.Author.Needs.{needs}
 use Rattle.answers.proofs.better.Statement.{statement}
 use Rattle.answers.proofs.better.Tie as tie
@@ -24,22 +24,45 @@ enum-told-2 : tie.Need-enum-told-2
 enum-told-2 c = search needs
 
 returns-2 : tie.Need-returns-2
-returns-2 c = join-first _ _ _ _ _ (search needs) (search needs) refl refl refl refl
+returns-2 c = join-first _ _ _ _ _ _ (search needs) (search needs) refl refl refl refl
+
+sub-t17 : tie.Need-sub-t17
+sub-t17 c = search needs
+
+lesser-requires : tie.Need-lesser-requires
+lesser-requires c κs = search needs
 
 returns-3 : tie.Need-returns-3
-returns-3 c = join-cheaper _ _ _ _ _ (search needs) (search needs) _ refl (c .if1 .taken) refl refl refl
+returns-3 c = join-cheaper _ _ _ _ _ _ _ (c .before .before .before .before .before .before .first .given .1) (c .before .before .before .other .given .1) _ refl (c .before .if1 .taken) (c .lesser .ensures) refl refl refl
+
+lesser-requires-2 : tie.Need-lesser-requires-2
+lesser-requires-2 c κs = search needs
 
 returns-4 : tie.Need-returns-4
-returns-4 c = join-dearer _ _ _ _ _ (search needs) (search needs) _ refl (c .if2 .taken) refl refl refl
+returns-4 c = join-dearer _ _ _ _ _ _ _ (c .before .before .before .before .before .before .before .first .given .1) (c .before .before .before .before .other .given .1) _ refl (c .before .if2 .taken) (c .lesser2 .ensures) refl refl refl
 
 before-requires : tie.Need-before-requires
 before-requires c κs = search needs
 
 returns-5 : tie.Need-returns-5
-returns-5 c = join-before _ _ _ (c .before .before .before .before .before .before .before .before .first .given .0 .0) (c .before .before .before .before .before .other .given .0 .0) (search needs) (search needs) _ refl (search needs) (sym (c .before .before2 .ensures) ∙ c .if3 .taken) refl refl refl
+returns-5 c =
+    join-before _ _ _ _ _ _ _ (c .before .before .before .before .before .before .before .before .first .given .1) (c .before .before .before .before .before .other .given .1) _ refl (search needs) (sym (c .before .before2 .ensures) ∙ c .if3 .taken) refl refl refl
+
+before-requires-2 : tie.Need-before-requires-2
+before-requires-2 c κs = search needs
 
 returns-6 : tie.Need-returns-6
-returns-6 c = join-after _ _ _ (c .before .before .before .before .before .before .before .before .first .given .0 .0) (c .before .before .before .before .before .other .given .0 .0) (search needs) (search needs) _ refl (search needs) (sym (c .before .before2 .ensures) ∙ c .if3 .left) refl refl refl
+returns-6 c =
+    join-after _ _ _ _ _ _ _ (c .before .before .before .before .before .before .before .before .before .before .first .given .1) (c .before .before .before .before .before .before .before .other .given .1) _ refl (search needs) (sym (c .before .before .before .before2 .ensures) ∙ c .before .before .if3 .left)
+    (sym (c .before .before3 .ensures) ∙ c .if4 .taken) refl refl refl
+
+lesser-requires-3 : tie.Need-lesser-requires-3
+lesser-requires-3 c κs = search needs
+
+returns-7 : tie.Need-returns-7
+returns-7 c =
+    join-same _ _ _ _ _ _ _ (c .before .before .before .before .before .before .before .before .before .before .before .first .given .1) (c .before .before .before .before .before .before .before .before .other .given .1) _ refl (search needs) (sym (c .before .before .before .before .before2 .ensures) ∙ c .before .before .before .if3 .left)
+    (sym (c .before .before .before3 .ensures) ∙ c .before .if4 .left) (c .lesser3 .ensures) refl refl refl
 
 pub better-spec : {M : Type 1} → statement M
 better-spec =
@@ -52,8 +75,14 @@ better-spec =
     enum-known-other
     enum-told-2
     returns-2
+    sub-t17
+    lesser-requires
     returns-3
+    lesser-requires-2
     returns-4
     before-requires
     returns-5
-    returns-6)
+    before-requires-2
+    returns-6
+    lesser-requires-3
+    returns-7)

@@ -4,6 +4,7 @@ use native.Mathlib.Omega.{arith}
 use lib.ListN.{length}
 use Rattle.code.specs.Rates.{known-bounds}
 use Rattle.book.specs.Here.{reportLength}
+use Rattle.answers.specs.Result.{total-near}
 use Rattle.chase.specs.Laws.{nearest-call}
 use Rattle.decoding.proofs.Answered.{list-few, tests-few, answered-none, decoded-near}
 use borrow.Author.Needs.{needs}
@@ -14,7 +15,7 @@ use Rattle.decoding.proofs.decode.Tie as tie
 found-room : (c : tie.After-nearest) → length (c .nearest .result .message) ≡ 49
 found-room c = search needs
 
--- and the report has eight bytes
+-- and the report has its length
 report-room : (c : tie.After-report) → length (c .report .result) ≡ reportLength
 report-room c = search needs
 
@@ -75,7 +76,7 @@ returns-2 c =
     let near = nearest-call _ _ _ _ _ (c .before .before .before .before .before .before .before .before .before .before .before .before .before .before .before .before .before .before .before .before .before .nearest .ensures) in
     let answer = c .before .before .before .before .before .before .before .before .before .before .before .before .before .before .before .before .before .before .before .answer .given .1 in
     decoded-near _ _ _ _ (near .asked (given .asked)) _ _ answer (given .message-long) (found-room (c .before .before .before .before .before .before .before .before .before .before .before .before .before .before .before .before .before .before .before .before .before)) (known-bounds _ (given .asked .known) .1)
-    (c .before .before .before .before .before .before .before .before .before .before .before .before .before .before .copy .ensures) (near .encoded _ answer) (c .before .before .before .before .before .before .before .before .before .pinned .ensures) (c .before .before .before .before .before .before .before .changed .ensures) (c .before .before .before .before .before .report .ensures)
+    (c .before .before .before .before .before .before .before .before .before .before .before .before .before .before .copy .ensures) (near .encoded _ (total-near answer)) (c .before .before .before .before .before .before .before .before .before .pinned .ensures) (c .before .before .before .before .before .before .before .changed .ensures) (c .before .before .before .before .before .report .ensures)
     (given .report-long ∙ sym (report-room (c .before .before .before .before .before))) (c .before .before .copy2 .ensures)
 
 pub decode-spec : {M : Type 1} → statement M

@@ -51,7 +51,7 @@ returns-2 c =
     let l : length (c .before .before .before .before .before .before .before .args .doubtful) ≡ 8 = search needs in
     let h = c .before .before .before .before .before .before .before .pre in
     let g = c .before .before .before .before .before .enum-told2 .given in
-    governs-some _ _ _ _ _ _ _ _ _ _ (g .1) (rest-length _ _ _ l (h .1) (h .2)) (c .before .before .before .filled .ensures) (c .before .before .distance .ensures)
+    governs-some _ _ _ _ _ _ _ _ _ _ _ (g .1) (rest-length _ _ _ l (h .1) (h .2)) (c .before .before .before .filled .ensures) (c .before .before .distance .ensures)
     (c .before .reach .ensures) (c .least-distance .ensures)
 
 pub governs-spec : {M : Type 1} → statement M

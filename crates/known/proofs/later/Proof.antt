@@ -14,7 +14,7 @@ enum-told-2 : tie.Need-enum-told-2
 enum-told-2 c = search needs
 
 returns-2 : tie.Need-returns-2
-returns-2 c = later-some _ _ _ (c .enum-told2 .given .1)
+returns-2 c = later-some _ _ _ _ (c .enum-told2 .given .1)
 
 pub later-spec : {M : Type 1} → statement M
 later-spec = tie.close (tie.spec enum-told returns enum-told-2 returns-2)

@@ -1,9 +1,9 @@
--- Three numbers and then three more, one behind the other, four of them read from the report.
+-- Three numbers, three more and the margin, one behind the other, five of them read from the report.
 use mathlib.Core.Path.{_≡_, ap}
 use mathlib.Core.List.{List, _++_}
 use Prim.Native.Nat.{ℕ}
 use native.Mathlib.Omega.{arith}
-use Rattle.text.specs.Text.{space, newline, headingOf, numberLine}
+use Rattle.text.specs.Text.{space, headingOf, numberLine}
 use Rattle.text.specs.Appended.{Appended, appended-as, appended-both}
 use borrow.Author.Needs.{needs}
 use Rattle.text.proofs.put_heading.Statement.{statement}
@@ -44,20 +44,25 @@ byte-requires-2 c κs = search needs
 put-number-requires-3 : tie.Need-put-number-requires-3
 put-number-requires-3 c κs = search needs
 
+put-margin-requires : tie.Need-put-margin-requires
+put-margin-requires c κs = search needs
+
 same-length : tie.Need-same-length
 same-length c = search needs
 
 returns : tie.Need-returns
 unfolding headingOf
 returns c =
-    let e = c .before .before .before .before .before in
+    let f = c .before .before .before .before in
+    let e = f .before .before .before .before .before in
     let d = e .before .before .before .before .before in
     let b = d .before .before .before .before .before in
     let start = b .before .before .before .before .before .before in
     let cost = b .before .before .put-cost .ensures in
     let tests = d .before .before .put-number .ensures in
     let pinned = e .before .before .put-number2 .ensures in
-    let changed = c .before .before .put-number3 .ensures in
+    let changed = f .before .before .put-number3 .ensures in
+    let margin = c .before .before .put-margin .ensures in
     let first =
     appended-as
     (ap (λ x. numberLine (start .args .rate) space ++ numberLine (start .args .doubt) space ++ numberLine x space)
@@ -66,10 +71,12 @@ returns c =
     in (
       appended-both
           (appended-both
+          (appended-both
           (appended-both first (number-as space (d .before .before .before .before .tests-in .ensures) (tests .0)))
           (number-as space (e .before .before .before .before .byte .ensures .0) (pinned .0)))
-          (number-as newline (c .before .before .before .before .byte2 .ensures .0) (changed .0)),
-      omega (arith, cost .1, tests .1, pinned .1, changed .1),
+          (number-as space (f .before .before .before .before .byte2 .ensures .0) (changed .0)))
+          (margin .0),
+      omega (arith, cost .1, tests .1, pinned .1, changed .1, margin .1),
     )
 
 pub put-heading-spec : {M : Type 1} → statement M
@@ -86,5 +93,6 @@ put-heading-spec =
     array-read-byte-2
     byte-requires-2
     put-number-requires-3
+    put-margin-requires
     same-length
     returns)

@@ -1,0 +1,31 @@
+-- The margin to the runner-up, as the enum has it and as the theory has it.
+--
+--   marginIs d        the margin of the enum: none where it is absent
+--   marginFrom o      the enum's case of a margin; is-from, from-is: the two are inverse to each other
+--   margin-injective  so equal margins are the same case
+use mathlib.Core.Path.{_≡_, refl, sym, ap, _∙_}
+use mathlib.Core.Option.{Option, none, some}
+use Prim.Native.Nat.{ℕ}
+use Rattle.totals.specs.declared.margin.Margin.{Margin}
+use Rattle.totals.specs.declared.margin.Margin.the-variants.{Absent, Of}
+
+unfoldable pub marginIs : Margin → Option ℕ
+marginIs Absent = none
+marginIs (Of d) = some d
+
+unfoldable pub marginFrom : Option ℕ → Margin
+marginFrom none = Absent
+marginFrom (some d) = Of d
+
+pub is-from : (o : Option ℕ) → marginIs (marginFrom o) ≡ o
+unfolding marginIs marginFrom
+is-from none = refl
+is-from (some d) = refl
+
+pub from-is : (d : Margin) → marginFrom (marginIs d) ≡ d
+unfolding marginIs marginFrom
+from-is Absent = refl
+from-is (Of d) = refl
+
+pub margin-injective : {d e : Margin} → marginIs d ≡ marginIs e → d ≡ e
+margin-injective {d} {e} h = sym (from-is d) ∙ ap marginFrom h ∙ from-is e
