@@ -6,6 +6,7 @@
 --   reaches                   T = 6 at rate 39 and T = 1 at rate 49, with M = 44 and M = 54
 --   repairable                T wrong places can be repaired
 --   Places ps, Decided word ps ns   different places below 64, and the nodes of a word at all other places
+--   no-third-here             with at most ten doubtful places no three codewords are near
 use mathlib.Core.Bool.{Bool}
 use mathlib.Core.Path.{_≡_, refl}
 use mathlib.Core.List.{List}
@@ -13,7 +14,11 @@ use mathlib.Core.Option.{Option}
 use Prim.Native.Nat.{ℕ, _+_, _-_, _/_, _≤_}
 use native.Mathlib.Omega.{arith}
 use Rattle.hermitian.specs.Present.{genus}
+use Rattle.soft.specs.TestWord.{testWords}
 use Rattle.soft.specs.Total.{everywhere}
+use Rattle.lists.specs.Answers.{Found}
+use lib.ListN.{length}
+use mathlib.Core.Logic.{_≢_}
 use Rattle.family.specs.Member.{m16}
 use Rattle.family.specs.Nodes.{Node}
 use Rattle.near.specs.Near as Near
@@ -21,6 +26,7 @@ use Rattle.near.specs.Reach as Reach
 use Rattle.near.specs.Runner as Runner
 use Rattle.near.specs.Interpolated as Interpolated
 use Rattle.near.specs.Tree as Tree
+use Rattle.near.specs.Rivals as Rivals
 
 abbrev pub mOf : ℕ → ℕ
 mOf k = Near.mOf m16 k
@@ -85,3 +91,9 @@ Places ps = Tree.Places 64 ps
 
 abbrev pub Decided : List ℕ → List ℕ → List Node → Type 0
 Decided word ps ns = Tree.Decided m16 everywhere word ps ns
+
+-- with at most ten doubtful places no three codewords are near, at whatever rate
+pub no-third-here : {k : ℕ} → Workable k → (columns : ℕ → List ℕ) (doubtful : List ℕ) → length doubtful ≤ 10 → {m o q : List ℕ}
+    → Found 16 k (near k (testWords 64 columns doubtful)) m → Found 16 k (near k (testWords 64 columns doubtful)) o
+    → Found 16 k (near k (testWords 64 columns doubtful)) q → m ≢ o → o ≢ q → m ≢ q → ⊥
+no-third-here rate columns doubtful few = Rivals.no-third m16 rate columns doubtful (omega (arith, genus-4))

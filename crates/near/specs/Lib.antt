@@ -12,5 +12,6 @@ pub mod Left
 pub mod Flags
 pub mod Within
 pub mod Governing
+pub mod Rivals
 pub mod Here
 pub mod BenchSheet
