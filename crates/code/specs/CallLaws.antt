@@ -7,7 +7,6 @@ use mathlib.Core.Bool.{true}
 use mathlib.Core.Path.{_≡_}
 use mathlib.Core.List.{List}
 use Prim.Native.Nat.{ℕ}
-use native.Mathlib.Omega.{arith}
 use lib.ListN.{length}
 use Rattle.refusals.specs.Refusal.{accepted, noCodeword}
 use Rattle.lists.specs.Words.{Word}
@@ -15,12 +14,12 @@ use Rattle.family.specs.Member.{m16}
 use Rattle.family.specs.Calls.{outcome}
 use Rattle.family.specs.CallLaws as Family
 use Rattle.code.specs.Encoding.{encodeOf, knownRate}
-use Rattle.code.specs.Rates.{longest-is, known-small}
+use Rattle.code.specs.Rates.{known-few}
 use Rattle.code.specs.Calls.{readBackCall}
 
 module _ (k : ℕ) (known : knownRate k ≡ true) (buffer : List ℕ) (size : length buffer ≡ k) where
   pub codeword-read : (m : List ℕ) → Word 16 k m → readBackCall k (encodeOf k m) buffer ≡ outcome accepted m
-  codeword-read = Family.codeword-read m16 knownRate k known buffer size (omega (arith, longest-is, known-small k known))
+  codeword-read = Family.codeword-read m16 knownRate k known buffer size (known-few k known)
 
   pub other-refused : (word : List ℕ) → Word 16 64 word → ((m : List ℕ) → Word 16 k m → encodeOf k m ≡ word → ⊥)
       → readBackCall k word buffer ≡ outcome noCodeword buffer

@@ -5,7 +5,7 @@
 --   order-fits       the order of one of so many symbols is present, and below 64
 --   known-rates      39 or 49
 --   known-bounds     so between 39 and 49, which is all that most who ask want of it
---   known-small      and small enough to be read back
+--   known-small, known-few   and small enough to be read back
 use mathlib.Core.Bool.{Bool, true, false, _||_}
 use mathlib.Core.Path.{_≡_, refl, sym, subst}
 use mathlib.Core.Logic.{_⊎_, inl, inr, ⊎-elim}
@@ -49,3 +49,6 @@ module _ (k : ℕ) (known : knownRate k ≡ true) where
 
   pub known-small : k ≤ longest
   known-small = omega (arith, known-bounds)
+
+  pub known-few : k ≤ places m16 - genus 4
+  known-few = omega (arith, longest-is, known-small)

@@ -1,4 +1,2 @@
 pub mod Ranks
 pub mod Symbols
-pub mod Answers
-pub mod Codeword

@@ -10,7 +10,6 @@ use mathlib.Core.Option.{Option, some, none}
 use Prim.Native.Nat.{ℕ, _-_, _≤_}
 use native.Mathlib.Omega.{arith}
 use lib.ListN.{length}
-use borrow.Author.Tests.{eq-eqb}
 use Rattle.refusals.specs.Refusal.{accepted, unknownRate, wrongSize, noSymbol, noCodeword}
 use Rattle.lists.specs.Every.{T-true}
 use Rattle.lists.specs.Words.{Word, allBelow}
@@ -20,25 +19,20 @@ use Rattle.family.specs.Encoding.{encodeOf, readBackOf}
 use Rattle.family.specs.Calls.{Answered, outcome, checked, found, readBackSizes, readBackCall}
 use Rattle.family.specs.Evaluation.{encode-length, encode-symbols}
 use Rattle.family.specs.Laws.{read-encoded, read-accepted, read-none}
+use Rattle.family.specs.Answers.{last-check}
 
 module _ (𝓜 : Member) (known : ℕ → Bool) where
   module _ (k : ℕ) (rate : known k ≡ true) (buffer : List ℕ) (size : length buffer ≡ k) where
-    -- a word of symbols passes every check but the last
-    last-check : (word : List ℕ) → length word ≡ places 𝓜 → allBelow (symbols 𝓜) word ≡ true
-        → readBackCall 𝓜 known k word buffer ≡ found (readBackOf 𝓜 k word) buffer
-    unfolding readBackCall
-    last-check word long small = simp (rate, eq-eqb (length word) (places 𝓜) long, eq-eqb (length buffer) k size, small)
-
     pub codeword-read : k ≤ places 𝓜 - genus (𝓜 .w) → (m : List ℕ) → Word (symbols 𝓜) k m
         → readBackCall 𝓜 known k (encodeOf 𝓜 k m) buffer ≡ outcome accepted m
     codeword-read most m w =
-        last-check (encodeOf 𝓜 k m) (encode-length 𝓜 k m) (encode-symbols 𝓜 k m) ∙ ap (λ r. found r buffer) (read-encoded 𝓜 k most m w)
+        last-check 𝓜 known k (encodeOf 𝓜 k m) buffer rate (encode-length 𝓜 k m) size (encode-symbols 𝓜 k m) ∙ ap (λ r. found r buffer) (read-encoded 𝓜 k most m w)
 
     pub other-refused : (word : List ℕ) → Word (symbols 𝓜) (places 𝓜) word
         → ((m : List ℕ) → Word (symbols 𝓜) k m → encodeOf 𝓜 k m ≡ word → ⊥)
         → readBackCall 𝓜 known k word buffer ≡ outcome noCodeword buffer
     other-refused word w other =
-        last-check word (w .size) (T-true (allBelow (symbols 𝓜) word) (w .symbols)) ∙ ap (λ r. found r buffer) (read-none 𝓜 k word other)
+        last-check 𝓜 known k word buffer rate (w .size) size (T-true (allBelow (symbols 𝓜) word) (w .symbols)) ∙ ap (λ r. found r buffer) (read-none 𝓜 k word other)
 
   -- the call by what its four checks say
   abbrev checks : Bool → Bool → Bool → Option (List ℕ) → List ℕ → Answered

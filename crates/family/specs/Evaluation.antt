@@ -8,11 +8,14 @@
 --   valueBy f m          the sum of coefficient times monomial over the orders
 --   valueOf f p          so the value at place p of the function with coefficients f
 --   coefficientOf m o    the coefficient of order o in the function of message m: symbol t at the t-th present order
+--   coefficient-present, coefficient-missing   that of a present order, and of a missing one
 --   functionOf m         all of them
 --   function-value       its value is that of the message's first n − g symbols (document 01's sum over message symbols)
+--   function-codeword    so its values are their codeword
 --   encode-length        a codeword has n places,
 --   encode-at, encode-symbols   and an element at each
 --   encode-beyond        symbols that a message does not have add nothing: the codeword is the same for every k from its length on
+--   encode-over          and of a list of n bytes that it is written over nothing is left
 use mathlib.Core.Bool.{Bool, true, false}
 use mathlib.Core.Path.{_≡_, sym, ap, ap₂, _∙_, subst}
 use mathlib.Core.List.{List}
@@ -22,6 +25,7 @@ use lib.ListN.{length, getD, List·getD-eq-default}
 use borrow.Author.Tests.{le-leb, lt-leb}
 use Rattle.lists.specs.Listed.{listed, listed-length, listed-at, listed-ext}
 use Rattle.lists.specs.Every.{T-true}
+use Rattle.lists.specs.Over.{over, over-same}
 use Rattle.lists.specs.Words.{allBelow, allBelow-from}
 use Rattle.lists.specs.XorSum.{xorSum, xorSum-more, xorSum-below}
 use Rattle.algebra.specs.Field.{Field, zero-mul}
@@ -121,6 +125,10 @@ module _ (𝓜 : Member) where
       ∙ ap (λ k. sum (K gf) k (λ t. toF gf (getD m t 0) ⊗ Value.monomial (K gf) w (px 𝓜 p) (py 𝓜 p) (orderOf w t))) rank-places
       ∙ sym (toF-valueAt 𝓜 (places 𝓜 - genus w) m p))
 
+  pub function-codeword : (m : List ℕ) → listed (places 𝓜) (valueOf (functionOf m)) ≡ encodeOf 𝓜 (places 𝓜 - genus w) m
+  unfolding encodeOf
+  function-codeword m = listed-ext (places 𝓜) _ _ (λ p _. function-value m p)
+
   pub encode-length : (k : ℕ) (m : List ℕ) → length (encodeOf 𝓜 k m) ≡ places 𝓜
   unfolding encodeOf
   encode-length k m = listed-length (places 𝓜) (valueAt 𝓜 k m)
@@ -145,3 +153,6 @@ module _ (𝓜 : Member) where
   pub encode-beyond : (k n : ℕ) (m : List ℕ) → length m ≤ k → length m ≤ n → encodeOf 𝓜 k m ≡ encodeOf 𝓜 n m
   unfolding encodeOf
   encode-beyond k n m h l = listed-ext (places 𝓜) _ _ (λ p _. value-beyond k m p h ∙ sym (value-beyond n m p l))
+
+  pub encode-over : (k n : ℕ) (m l : List ℕ) → length m ≤ k → length m ≤ n → length l ≡ places 𝓜 → over (encodeOf 𝓜 k m) l ≡ encodeOf 𝓜 n m
+  encode-over k n m l h g e = over-same _ l (e ∙ sym (encode-length k m)) ∙ encode-beyond k n m h g

@@ -8,6 +8,7 @@
 --   momentRow v b      the moments with y^b by the power of x; momentsOf v for each b below w
 --   momentSymbol ms i j    the same coefficient from a table of moments; symbol-in: it is so from the word's own
 --   extract-word       they are symbols: a word of k elements
+--   extract-take       the first k of a longer message so read
 --   extract-encode     what was encoded is read again (k up to n − g, where no power of x is above q − 1)
 use mathlib.Core.Path.{_≡_, sym, ap, ap₂, _∙_, subst}
 use mathlib.Core.Logic.{_≢_}
@@ -16,8 +17,8 @@ use Prim.Native.Nat.{ℕ, zero, suc, _+_, _-_, _*_, _%_, _<_, _≤_}
 use native.Mathlib.Decide.{ℕ-discrete}
 use native.Mathlib.Omega.{arith}
 use lib.Bits.{bitXor}
-use lib.ListN.{getD}
-use Rattle.lists.specs.Listed.{listed, listed-length, listed-at, listed-ext, listed-getD}
+use lib.ListN.{getD, take}
+use Rattle.lists.specs.Listed.{listed, listed-length, listed-at, listed-ext, listed-getD, take-listed}
 use Rattle.lists.specs.Words.{Word, allBelow-at, allBelow-from}
 use Rattle.lists.specs.XorSum.{xorSum, xorSum-below}
 use Rattle.algebra.specs.Field.{Field, mul-zero, zero-mul, one-mul, mul-one, mul-assoc, mul-comm, mul-swap}
@@ -254,6 +255,10 @@ module _ (𝓜 : Member) where
         size = listed-length k _;
         symbols = allBelow-from (size gf) _ (λ t h. subst (λ x. x < size gf) (sym (listed-at k t _ 0 (omega (arith, listed-length k (messageAt v))))) (extractedAt-lt v (orderOf w t)));
       }
+
+  pub extract-take : (k n : ℕ) (v : List ℕ) → k ≤ n → take k (extractOf n v) ≡ extractOf k v
+  unfolding extractOf
+  extract-take k n v h = take-listed 0 k n (messageAt v) h
 
   pub extract-encode : (k : ℕ) (m : List ℕ) → k ≤ places 𝓜 - genus w → Word (size gf) k m → extractOf k (encodeOf 𝓜 k m) ≡ m
   unfolding extractOf messageAt

@@ -8,4 +8,5 @@ pub mod Extraction
 pub mod Laws
 pub mod Nodes
 pub mod Calls
+pub mod Answers
 pub mod CallLaws

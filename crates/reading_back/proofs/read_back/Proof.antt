@@ -8,11 +8,12 @@ use borrow.Author.Tests.{not-true, not-false}
 use Rattle.lists.specs.Over.{over-same}
 use Rattle.code.specs.Encoding.{knownRate, encodeOf}
 use Rattle.family.specs.Evaluation.{encode-length, encode-beyond}
+use Rattle.family.specs.Extraction.{extract-word, extract-take}
+use Rattle.family.specs.Answers.{read-rate, read-word, read-buffer, read-symbol, read-refused, read-done}
 use Rattle.code.specs.Extraction.{extractOf}
 use Rattle.family.specs.Calls.{outcome}
 use denote.Ref.{now}
-use Rattle.code.specs.Rates.{longest, known-small}
-use Rattle.reading_back.proofs.Answers.{read-rate, read-word, read-buffer, read-symbol, read-refused, read-done, extract-take, extract-length}
+use Rattle.code.specs.Rates.{longest, known-small, known-few}
 use borrow.Author.Needs.{needs}
 use Rattle.reading_back.proofs.read_back.Statement.{statement}
 use Rattle.reading_back.proofs.read_back.Tie as tie
@@ -29,15 +30,15 @@ few : (c : tie.Else4) → c .before .before .before .before .before .before .bef
 few c = known-small _ (known (c .before .before .before .before))
 
 found-length : (c : tie.After-extracted) → length (c .extracted .result) ≡ longest
-found-length c = ap length (c .extracted .ensures) ∙ extract-length longest _
+found-length c = ap length (c .extracted .ensures) ∙ extract-word m16 longest _ .size
 
 -- what is lent to the encoder is the message of this rate
 prefix : (c : tie.After-extracted)
     → take (c .before .before .before .before .before .before .before .before .before .args .rate) (c .extracted .result) ≡ extractOf (c .before .before .before .before .before .before .before .before .before .args .rate) (now (c .before .before .before .before .before .before .before .before .before .args .word))
-prefix c = ap (take (c .before .before .before .before .before .before .before .before .before .args .rate)) (c .extracted .ensures) ∙ extract-take _ _ (few (c .before))
+prefix c = ap (take (c .before .before .before .before .before .before .before .before .before .args .rate)) (c .extracted .ensures) ∙ extract-take m16 _ longest _ (few (c .before))
 
 prefix-length : (c : tie.After-extracted) → length (take (c .before .before .before .before .before .before .before .before .before .args .rate) (c .extracted .result)) ≡ c .before .before .before .before .before .before .before .before .before .args .rate
-prefix-length c = ap length (prefix c) ∙ extract-length _ _
+prefix-length c = ap length (prefix c) ∙ extract-word m16 _ _ .size
 
 again : (c : tie.After-codeword-of)
     → c .codeword-of .result ≡ encodeOf (c .before .before .before .before .before .before .before .before .before .before .before .args .rate) (extractOf (c .before .before .before .before .before .before .before .before .before .before .before .args .rate) (now (c .before .before .before .before .before .before .before .before .before .before .before .args .word)))
@@ -46,19 +47,19 @@ again c =
     c .codeword-of .ensures ∙ encode-beyond m16 longest _ _ (omega (arith, few (c .before .before .before))) (omega arith) ∙ ap (encodeOf _) (prefix (c .before .before))
 
 returns : tie.Need-returns
-returns c = read-rate _ _ _ (sym (c .before .known-rate .ensures) ∙ not-true _ (c .if1 .taken))
+returns c = read-rate m16 knownRate _ _ _ (sym (c .before .known-rate .ensures) ∙ not-true _ (c .if1 .taken))
 
 returns-2 : tie.Need-returns-2
-returns-2 c = read-word _ _ _ (known (c .before)) (c .if2 .taken)
+returns-2 c = read-word m16 knownRate _ _ _ (known (c .before)) (c .if2 .taken)
 
 returns-3 : tie.Need-returns-3
-returns-3 c = read-buffer _ _ _ (known (c .before .before)) (c .before .if2 .left) (c .if3 .taken)
+returns-3 c = read-buffer m16 knownRate _ _ _ (known (c .before .before)) (c .before .if2 .left) (c .if3 .taken)
 
 symbols-only-requires : tie.Need-symbols-only-requires
 symbols-only-requires c κs = search needs
 
 returns-4 : tie.Need-returns-4
-returns-4 c = read-symbol _ _ _ (known (c .before .before .before .before)) (c .before .before .before .if2 .left) (c .before .before .if3 .left) (sym (c .before .symbols-only .ensures) ∙ not-true _ (c .if4 .taken))
+returns-4 c = read-symbol m16 knownRate _ _ _ (known (c .before .before .before .before)) (c .before .before .before .if2 .left) (c .before .before .if3 .left) (sym (c .before .symbols-only .ensures) ∙ not-true _ (c .if4 .taken))
 
 extracted-requires : tie.Need-extracted-requires
 extracted-requires c κs = search needs
@@ -80,7 +81,8 @@ same-requires c κs = ap length (again (c .before)) ∙ encode-length m16 _ _ �
 
 returns-5 : tie.Need-returns-5
 returns-5 c =
-    read-refused _ _ _ (known (c .before .before .before .before .before .before .before .before .before .before)) (c .before .before .before .before .before .before .before .before .before .if2 .left) (c .before .before .before .before .before .before .before .before .if3 .left) (sym (c .before .before .before .before .before .before .before .symbols-only .ensures) ∙ not-false _ (c .before .before .before .before .before .before .if4 .left))
+    read-refused m16 knownRate _ _ _ (known (c .before .before .before .before .before .before .before .before .before .before)) (c .before .before .before .before .before .before .before .before .before .if2 .left) (c .before .before .before .before .before .before .before .before .if3 .left) (sym (c .before .before .before .before .before .before .before .symbols-only .ensures) ∙ not-false _ (c .before .before .before .before .before .before .if4 .left))
+    (known-few _ (known (c .before .before .before .before .before .before .before .before .before .before)))
     (λ e. absurd (false≢true (sym (not-true _ (c .if5 .taken)) ∙ c .before .same .ensures .1 (again (c .before .before .before) ∙ e))))
 
 array-share-prefix-found-2 : tie.Need-array-share-prefix-found-2
@@ -99,7 +101,8 @@ returns-6 : tie.Need-returns-6
 returns-6 c =
     ap (outcome 0)
     (c .before .before .copy .ensures ∙ over-same _ _ (c .before .before .before .before .before .before .before .before .before .before .before .before .before .if3 .left ∙ sym (prefix-length (c .before .before .before .before .before .before .before .before .before .before))) ∙ prefix (c .before .before .before .before .before .before .before .before .before .before))
-    ∙ read-done _ _ _ (known (c .before .before .before .before .before .before .before .before .before .before .before .before .before .before .before)) (c .before .before .before .before .before .before .before .before .before .before .before .before .before .before .if2 .left) (c .before .before .before .before .before .before .before .before .before .before .before .before .before .if3 .left) (sym (c .before .before .before .before .before .before .before .before .before .before .before .before .symbols-only .ensures) ∙ not-false _ (c .before .before .before .before .before .before .before .before .before .before .before .if4 .left))
+    ∙ read-done m16 knownRate _ _ _ (known (c .before .before .before .before .before .before .before .before .before .before .before .before .before .before .before)) (c .before .before .before .before .before .before .before .before .before .before .before .before .before .before .if2 .left) (c .before .before .before .before .before .before .before .before .before .before .before .before .before .if3 .left) (sym (c .before .before .before .before .before .before .before .before .before .before .before .before .symbols-only .ensures) ∙ not-false _ (c .before .before .before .before .before .before .before .before .before .before .before .if4 .left))
+    (known-few _ (known (c .before .before .before .before .before .before .before .before .before .before .before .before .before .before .before)))
     (sym (again (c .before .before .before .before .before .before .before .before)) ∙ c .before .before .before .before .before .before .same .ensures .0 (not-false _ (c .before .before .before .before .before .if5 .left)))
 
 pub read-back-spec : {M : Type 1} → statement M
