@@ -135,10 +135,12 @@ rank-rows w (suc q) h =
     ap (rank w) (suc-mul q w) ∙ rank-row w q w h (omega arith) ∙ omega (arith, rank-rows w q (omega arith), genus-suc (suc q))
 
 -- a present order in row q has the present orders of q rows below it, and its rest
-pub rank-present : (w o : ℕ) → Present w o → o / w < w → rank w o ≡ genus (suc (o / w)) + o % w
-rank-present w o p h =
-    let e : min (o % w) (suc (o / w)) ≡ o % w = omega arith in
-    ap (rank w) (sym (div-add-mod' o w)) ∙ rank-row w (o / w) (o % w) h (omega arith) ∙ omega (arith, rank-rows w (o / w) (omega arith))
+pub rank-present : (w q o : ℕ) → Present w o → q < w → o / w ≡ q → rank w o ≡ genus (suc q) + (o - q * w)
+rank-present w q o p h e =
+    let f : o / w * w ≡ q * w = ap (λ x. x * w) e in
+    let g : q * w + o % w ≡ o = omega (arith, div-add-mod' o w) in
+    let m : min (o % w) (suc q) ≡ o % w = omega arith in
+    ap (rank w) (sym g) ∙ rank-row w q (o % w) h (omega arith) ∙ omega (arith, rank-rows w q (omega arith))
 
 module _ (w : ℕ) (two : 2 ≤ w) where
   rank-start : rank w (w * (w - 1)) ≡ genus w

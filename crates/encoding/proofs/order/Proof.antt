@@ -1,8 +1,9 @@
 -- `order` meets its contract: the table of the first orders is computed, and from symbol 6 on the order is 6 more.
+use mathlib.Core.Path.{sym}
+use lib.Dec.{lit≤}
 use Rattle.lists.specs.Listed.{listed, listed-at}
 use Rattle.hermitian.specs.Present.{genus}
-use Rattle.hermitian.specs.Orders.{orderOf, presents, isPresent}
-use Rattle.encoding.proofs.Ranks.{order-large}
+use Rattle.hermitian.specs.Orders.{orderOf, orderOf-large, presents, isPresent}
 use borrow.Author.Needs.{needs}
 use Rattle.encoding.proofs.order.Statement.{statement}
 use Rattle.encoding.proofs.order.Tie as tie
@@ -11,7 +12,8 @@ add-result : tie.Need-add-result
 add-result c = search needs
 
 returns : tie.Need-returns
-returns c = order-large _ (c .if1 .taken)
+unfolding genus
+returns c = sym (orderOf-large 4 (lit≤ tt) _ (c .if1 .taken))
 
 mul-result : tie.Need-mul-result
 mul-result c = search needs

@@ -3,6 +3,7 @@ use mathlib.Core.Path.{_≡_, refl}
 use Prim.Native.Nat.{_-_}
 use lib.ListN.{replicate}
 use Rattle.lists.specs.Filled.{Filled, filled-start, filled-turn, filled-end}
+use Rattle.family.specs.Member.{m16}
 use Rattle.code.specs.Extraction.{messageAt, momentsOf, extractOf}
 use Rattle.reading_back.proofs.Turns.{message-entry}
 use Rattle.code.specs.Rates.{order-fits}
@@ -41,7 +42,7 @@ loop-less c = search needs
 loop-again : tie.Need-loop-again Inv-loop μ-loop
 loop-again c =
     let inv = c .before .before .before .loop .inv in
-    (inv .0, filled-turn 0 (inv .1) _ (search needs) (message-entry _ _ (c .before .before .loop-test .taken) (inv .0) (c .before .order .ensures) (c .symbol .ensures)))
+    (inv .0, filled-turn 0 (inv .1) _ (search needs) (message-entry m16 _ _ (c .before .before .loop-test .taken) (inv .0) (c .before .order .ensures) (c .symbol .ensures)))
 
 returns : tie.Need-returns Inv-loop μ-loop
 unfolding Extraction.extractOf

@@ -4,6 +4,7 @@ use Prim.Native.Nat.{_-_, _<_}
 use native.Mathlib.Nat.{mod-eq-of-lt}
 use lib.ListN.{length}
 use Rattle.curve.specs.Curve.{yOf}
+use Rattle.family.specs.Member.{m16}
 use Rattle.code.specs.Extraction.{fibreTerm, fibreSum}
 use Rattle.reading_back.proofs.Turns.{fibre-entry}
 use Rattle.lists.specs.Summed.{Summed, summed-start, summed-turn, summed-end}
@@ -46,7 +47,7 @@ loop-less : tie.Need-loop-less Inv-loop μ-loop
 loop-less c = search needs
 
 loop-again : tie.Need-loop-again Inv-loop μ-loop
-loop-again c = (search needs, search needs, summed-turn (c .before .before .before .before .before .loop .inv .2) (c .before .before .before .before .loop-test .taken) (fibre-entry _ _ _ _ (c .before .before .y-at .ensures ∙ ap yOf (mod-eq-of-lt (search needs))) (c .before .power .ensures) (c .product .ensures)))
+loop-again c = (search needs, search needs, summed-turn (c .before .before .before .before .before .loop .inv .2) (c .before .before .before .before .loop-test .taken) (fibre-entry m16 _ _ _ _ (c .before .before .y-at .ensures ∙ ap yOf (mod-eq-of-lt (search needs))) (c .before .power .ensures) (c .product .ensures)))
 
 returns : tie.Need-returns Inv-loop μ-loop
 unfolding Extraction.fibreSum

@@ -1,18 +1,19 @@
 -- `moment_row` meets its contract: each turn adds the part of one x.
 use Prim.Native.Nat.{_-_}
+use Rattle.family.specs.Member.{m16}
 use Rattle.reading_back.proofs.Turns.{Row, row-start, row-turn, row-end}
 use borrow.Author.Needs.{needs}
 use Rattle.reading_back.proofs.moment_row.Statement.{statement}
 use Rattle.reading_back.proofs.moment_row.Tie as tie
 
 abbrev Inv-loop : tie.InvT-loop
-Inv-loop word b row₀ x₀ row x = Row word b x row
+Inv-loop word b row₀ x₀ row x = Row m16 word b x row
 
 abbrev μ-loop : tie.MeasureT-loop
 μ-loop word b row₀ x₀ row x = 16 - x
 
 loop-holds : tie.Need-loop-holds Inv-loop μ-loop
-loop-holds c = row-start _ _ (search needs)
+loop-holds c = row-start m16 _ _ (search needs)
 
 fibre-sum-requires : tie.Need-fibre-sum-requires Inv-loop μ-loop
 fibre-sum-requires c κs = search needs
@@ -34,11 +35,11 @@ loop-less c = search needs
 
 loop-again : tie.Need-loop-again Inv-loop μ-loop
 loop-again c =
-    row-turn (c .before .before .before .before .loop .inv) (c .before .before .before .loop-test .taken) (c .before .before .fibre-sum .ensures)
+    row-turn m16 (c .before .before .before .before .loop .inv) (c .before .before .before .loop-test .taken) (c .before .before .fibre-sum .ensures)
     (c .before .powers .ensures) (c .times-plus .ensures)
 
 returns : tie.Need-returns Inv-loop μ-loop
-returns c = row-end (c .before .loop .inv) (c .loop-test .left)
+returns c = row-end m16 (c .before .loop .inv) (c .loop-test .left)
 
 pub moment-row-spec : {M : Type 1} → statement M
 moment-row-spec =

@@ -5,14 +5,13 @@ use Prim.Native.Nat.{_-_}
 use lib.ListN.{length, replicate}
 use Rattle.lists.specs.Filled.{Filled, filled-start, filled-turn, filled-end}
 use Rattle.code.specs.Extraction.{momentRow, momentsOf}
-use Rattle.reading_back.proofs.Turns.{blank16}
 use borrow.Author.Needs.{needs}
 use Rattle.reading_back.proofs.moments.Statement.{statement}
 use Rattle.reading_back.proofs.moments.Tie as tie
 use Rattle.family.specs.Extraction as Extraction
 
 abbrev Inv-loop : tie.InvT-loop
-Inv-loop word rows₀ b₀ rows b = (length word ≡ 64) × Filled (replicate 4 blank16) (momentRow word) b rows
+Inv-loop word rows₀ b₀ rows b = (length word ≡ 64) × Filled (replicate 4 (replicate 16 0)) (momentRow word) b rows
 
 abbrev μ-loop : tie.MeasureT-loop
 μ-loop word rows₀ b₀ rows b = 4 - b

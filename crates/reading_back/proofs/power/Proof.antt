@@ -2,6 +2,7 @@
 use mathlib.Core.Path.{_≡_, ap, _∙_}
 use Prim.Native.Nat.{_≤_, _-_}
 use native.Mathlib.Nat.{le-antisymm}
+use Rattle.galois.specs.Gf16.{gf16}
 use Rattle.curve.specs.Curve.{power}
 use Rattle.reading_back.proofs.Turns.{power-start, power-turn}
 use borrow.Author.Needs.{needs}
@@ -15,7 +16,7 @@ abbrev μ-loop : tie.MeasureT-loop
 μ-loop a n out₀ i₀ out i = n - i
 
 loop-holds : tie.Need-loop-holds Inv-loop μ-loop
-loop-holds c = (search needs, power-start _)
+loop-holds c = (search needs, power-start gf16 _)
 
 product-requires : tie.Need-product-requires Inv-loop μ-loop
 product-requires c κs = search needs
@@ -27,7 +28,7 @@ loop-less : tie.Need-loop-less Inv-loop μ-loop
 loop-less c = search needs
 
 loop-again : tie.Need-loop-again Inv-loop μ-loop
-loop-again c = (search needs, power-turn _ _ (c .before .before .loop .inv .1) (c .product .ensures))
+loop-again c = (search needs, power-turn gf16 _ _ (c .before .before .loop .inv .1) (c .product .ensures))
 
 returns : tie.Need-returns Inv-loop μ-loop
 returns c = c .before .loop .inv .1 ∙ ap (power _) (le-antisymm (c .before .loop .inv .0) (c .loop-test .left))

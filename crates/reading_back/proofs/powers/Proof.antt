@@ -1,15 +1,18 @@
 -- `powers` meets its contract: each power comes from the one before it.
 use mathlib.Core.Path.{refl}
 use Prim.Native.Nat.{_≤_, _-_}
+use native.Mathlib.Omega.{arith}
+use lib.ListN.{replicate}
 use Rattle.lists.specs.Filled.{Filled, filled-end}
+use Rattle.galois.specs.Gf16.{gf16}
 use Rattle.curve.specs.Curve.{power}
-use Rattle.reading_back.proofs.Turns.{blank16, powers-start, powers-turn}
+use Rattle.reading_back.proofs.Turns.{powers-start, powers-turn}
 use borrow.Author.Needs.{needs}
 use Rattle.reading_back.proofs.powers.Statement.{statement}
 use Rattle.reading_back.proofs.powers.Tie as tie
 
 abbrev Inv-loop : tie.InvT-loop
-Inv-loop x out₀ i₀ out i = (1 ≤ i) × Filled blank16 (power x) i out
+Inv-loop x out₀ i₀ out i = (1 ≤ i) × Filled (replicate 16 0) (power x) i out
 
 abbrev μ-loop : tie.MeasureT-loop
 μ-loop x out₀ i₀ out i = 16 - i
@@ -18,7 +21,7 @@ array-write-out : tie.Need-array-write-out Inv-loop μ-loop
 array-write-out c = search needs
 
 loop-holds : tie.Need-loop-holds Inv-loop μ-loop
-loop-holds c = (search needs, powers-start _)
+loop-holds c = (search needs, powers-start gf16 _ _ (omega arith))
 
 sub-product : tie.Need-sub-product Inv-loop μ-loop
 sub-product c = search needs
@@ -39,7 +42,7 @@ loop-less : tie.Need-loop-less Inv-loop μ-loop
 loop-less c = search needs
 
 loop-again : tie.Need-loop-again Inv-loop μ-loop
-loop-again c = (search needs, powers-turn _ _ (c .before .before .loop .inv .1) (c .before .before .loop .inv .0) (c .before .loop-test .taken) (c .product .ensures))
+loop-again c = (search needs, powers-turn gf16 _ _ (c .before .before .loop .inv .1) (c .before .before .loop .inv .0) (c .before .loop-test .taken) (c .product .ensures))
 
 returns : tie.Need-returns Inv-loop μ-loop
 returns c = filled-end 0 (c .before .loop .inv .1) 16 refl (c .loop-test .left)

@@ -1,16 +1,17 @@
 -- `times_plus` meets its contract: the loop stores the product and sum of each lane.
 use mathlib.Core.Path.{refl}
 use Prim.Native.Nat.{_-_}
+use lib.ListN.{replicate}
 use Rattle.lists.specs.Filled.{Filled, filled-start, filled-turn, filled-end}
+use Rattle.galois.specs.Gf16.{gf16}
 use Rattle.reading_back.specs.Lanes.{timesPlus}
-use Rattle.reading_back.proofs.Turns.{blank16}
 use Rattle.reading_back.proofs.Turns.{times-entry}
 use borrow.Author.Needs.{needs}
 use Rattle.reading_back.proofs.times_plus.Statement.{statement}
 use Rattle.reading_back.proofs.times_plus.Tie as tie
 
 abbrev Inv-loop : tie.InvT-loop
-Inv-loop factors values more out₀ lane₀ out lane = Filled blank16 (timesPlus factors values more) lane out
+Inv-loop factors values more out₀ lane₀ out lane = Filled (replicate 16 0) (timesPlus factors values more) lane out
 
 abbrev μ-loop : tie.MeasureT-loop
 μ-loop factors values more out₀ lane₀ out lane = 16 - lane
@@ -40,7 +41,7 @@ loop-less : tie.Need-loop-less Inv-loop μ-loop
 loop-less c = search needs
 
 loop-again : tie.Need-loop-again Inv-loop μ-loop
-loop-again c = filled-turn 0 (c .before .before .loop .inv) _ (search needs) (times-entry _ _ _ _ (c .product .ensures))
+loop-again c = filled-turn 0 (c .before .before .loop .inv) _ (search needs) (times-entry gf16 _ _ _ _ (c .product .ensures))
 
 returns : tie.Need-returns Inv-loop μ-loop
 returns c = filled-end 0 (c .before .loop .inv) 16 refl (c .loop-test .left)
