@@ -3,7 +3,7 @@
 --   Member              the field and w; w·w elements; w points with each x; the sums of powers that reading back needs
 --   symbols, places     how many elements the field has, and how many places: w for each x
 --   px p, py p          the point of a place, in the field
---   tested              a member from its tests
+--   Tests, tested       the tests of a member, each computed once, and the member that they make
 --   m16                 document 01's: GF(16) with w = 4
 use mathlib.Core.Bool.{Bool}
 use mathlib.Core.Path.{_≡_, refl}
@@ -43,7 +43,7 @@ module _ (𝓜 : Member) where
   abbrev pub py : ℕ → GF (𝓜 .gf)
   py p = toF (𝓜 .gf) (yOf (𝓜 .gf) (𝓜 .w) p)
 
--- the tests: each computed once
+-- ---- a member by its tests
 module _ (gf : Gf) (w : ℕ) where
   unfoldable pub isFull : ℕ → Bool
   isFull x = eqb (length (fibre gf w x)) w
@@ -63,36 +63,29 @@ module _ (gf : Gf) (w : ℕ) where
 pub element-sums : (gf : Gf) → T (sumsPass gf (listed (size gf) (λ k. k)) (size gf - 1)) → PowerSums (K gf) (size gf) (toF gf) (size gf - 1)
 element-sums gf t = sums-pass gf (size gf) (λ k. k) (size gf - 1) (omega (arith, one-lt gf)) t
 
+pub record Tests (gf : Gf) (w : ℕ) : Type 0 where
+  pub wide : 2 ≤ w
+  pub square : w * w ≡ size gf
+  pub full : T (every (size gf) (isFull gf w))
+  pub x-sums : T (sumsPass gf (listed (size gf) (λ k. k)) (size gf - 1))
+  pub y-sums : T (every (size gf) (fibreSums gf w))
+
+abbrev pub tested : (gf : Gf) (w : ℕ) → Tests gf w → Member
+tested gf w t =
+    record {
+      gf = gf;
+      w = w;
+      wide = t .wide;
+      square = t .square;
+      fibres = full-fibre gf w (t .full);
+      x-sums = element-sums gf (t .x-sums);
+      y-sums = fibre-sums gf w (t .wide) (t .full) (t .y-sums);
+    }
+
 -- ---- GF(16) with w = 4
-full-16 : T (every 16 (isFull gf16 4))
-unfolding every isFull fibre kept isOnCurve Binary.power Binary.times Binary.shiftAdd Binary.xtime
-full-16 = tt
-
-x-sums-16 : T (sumsPass gf16 (listed 16 (λ k. k)) 15)
-unfolding listed sumsPass sumsFrom sumIs xorOf each one Binary.times Binary.shiftAdd Binary.xtime
-x-sums-16 = tt
-
-y-sums-16 : T (every 16 (fibreSums gf16 4))
-unfolding every fibreSums fibre kept isOnCurve Binary.power sumsPass sumsFrom sumIs xorOf each one Binary.times Binary.shiftAdd Binary.xtime
-y-sums-16 = tt
-
-pub fibres-16 : (x : ℕ) → x < 16 → length (fibre gf16 4 x) ≡ 4
-fibres-16 = full-fibre gf16 4 full-16
-
-pub element-sums-16 : PowerSums (K gf16) 16 (toF gf16) 15
-element-sums-16 = element-sums gf16 x-sums-16
-
-pub fibre-sums-16 : (x : ℕ) → x < 16 → PowerSums (K gf16) 4 (λ r. toF gf16 (getD (fibre gf16 4 x) r 0)) 3
-fibre-sums-16 = fibre-sums gf16 4 (lit≤ tt) full-16 y-sums-16
+pub tests-16 : Tests gf16 4
+unfolding every isFull fibreSums fibre kept isOnCurve listed sumsPass sumsFrom sumIs xorOf each one Binary.power Binary.times Binary.shiftAdd Binary.xtime
+tests-16 = record { wide = lit≤ tt; square = refl; full = tt; x-sums = tt; y-sums = tt }
 
 abbrev pub m16 : Member
-m16 =
-    record {
-      gf = gf16;
-      w = 4;
-      wide = lit≤ tt;
-      square = refl;
-      fibres = fibres-16;
-      x-sums = element-sums-16;
-      y-sums = fibre-sums-16;
-    }
+m16 = tested gf16 4 tests-16
