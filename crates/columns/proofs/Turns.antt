@@ -1,7 +1,7 @@
--- Single steps of the functions, over plain lists and numbers.
+-- Single steps of the functions, over plain lists and numbers, for any number of symbols.
 --
---   bestBut-turn, bestBut-small   the best symbol so far, one symbol more; in a column of sixteen it is below 16
---   best-of, second-of, gap-fits, gap-of   best, second and gap of a column of sixteen
+--   bestBut-turn, bestBut-small   the best symbol so far, one symbol more; of n symbols it is one of them
+--   best-of, second-of, gap-fits, gap-of   best, second and gap of a column of n costs
 --   pair-missing           two bytes past the end
 --   column-missing, cost-missing   a place past the last costs
 use mathlib.Core.Path.{_≡_, sym, ap, ap₂, _∙_, subst, subst₂}
@@ -9,8 +9,8 @@ use mathlib.Core.List.{List}
 use Prim.Native.Nat.{ℕ, _+_, _-_, _*_, _≤_, _<_}
 use native.Mathlib.Numerals.{add-one}
 use native.Mathlib.Omega.{arith}
-use lib.ListN.{length, replicate, List·getD-eq-default}
-use Rattle.lists.specs.Listed.{listed, listed-ext}
+use lib.ListN.{length, replicate, getD-replicate, length-replicate, List·getD-eq-default}
+use Rattle.lists.specs.Listed.{listed-by}
 use Rattle.soft.specs.Column.{costOf, pairAt, costAt, columnOf, bestBut, betterIn, bestOf, secondOf, gapOf}
 use Rattle.soft.specs.ColumnLaws.{bestBut-suc, bestBut-below, best-least, second-below, cost-column}
 
@@ -18,22 +18,22 @@ pub bestBut-turn : (column : List ℕ) (b n held r : ℕ) → held ≡ bestBut c
 bestBut-turn column b n held r e f =
     f ∙ ap (λ h. betterIn column b h n) e ∙ sym (bestBut-suc column b n) ∙ ap (λ k. bestBut column b k) (sym (add-one n))
 
--- in a column of sixteen costs
-module _ (column : List ℕ) (r : ℕ) (l : length column ≡ 16) where
-  pub best-of : r ≡ bestBut column 16 16 → r ≡ bestOf column
+pub bestBut-small : {n : ℕ} (column : List ℕ) (b r : ℕ) → 1 < n → r ≡ bestBut column b n → r < n
+bestBut-small {n} column b r two e = subst (λ s. s < n) (sym e) (bestBut-below column b n n (omega arith) two)
+
+-- in a column of n costs
+module _ {n : ℕ} (column : List ℕ) (r : ℕ) (l : length column ≡ n) where
+  pub best-of : r ≡ bestBut column n n → r ≡ bestOf column
   unfolding bestOf
-  best-of e = e ∙ ap (λ n. bestBut column n n) (sym l)
+  best-of e = e ∙ ap (λ k. bestBut column k k) (sym l)
 
-  pub second-of : (b : ℕ) → b ≡ bestOf column → r ≡ bestBut column b 16 → r ≡ secondOf column
+  pub second-of : (b : ℕ) → b ≡ bestOf column → r ≡ bestBut column b n → r ≡ secondOf column
   unfolding secondOf
-  second-of b f e = e ∙ ap₂ (λ x n. bestBut column x n) f (sym l)
+  second-of b f e = e ∙ ap₂ (λ x k. bestBut column x k) f (sym l)
 
-pub bestBut-small : (column : List ℕ) (b r : ℕ) → r ≡ bestBut column b 16 → r < 16
-bestBut-small column b r e = subst (λ s. s < 16) (sym e) (bestBut-below column b 16 16 (omega arith) (omega arith))
-
-module _ (column : List ℕ) (r s : ℕ) (l : length column ≡ 16) (best : r ≡ bestBut column 16 16) (second : s ≡ bestBut column r 16) where
-  pub gap-fits : costOf column r ≤ costOf column s
-  gap-fits =
+module _ {n : ℕ} (column : List ℕ) (r s : ℕ) (l : length column ≡ n) (best : r ≡ bestBut column n n) (second : s ≡ bestBut column r n) where
+  pub gap-fits : 1 < n → costOf column r ≤ costOf column s
+  gap-fits two =
       subst₂ (λ x y. costOf column x ≤ costOf column y) (sym (best-of column r l best)) (sym (second-of column s l r (best-of column r l best) second))
       (best-least column (omega arith) (secondOf column) (second-below column (omega arith)))
 
@@ -48,10 +48,11 @@ pair-missing bytes i h =
     sym (ap₂ (λ x y. x * 256 + y) (List·getD-eq-default bytes 0 h) (List·getD-eq-default bytes 0 (omega arith)))
 
 -- a place past the last costs
-module _ (costs : List ℕ) (p : ℕ) (h : length costs < p * 16) where
-  pub column-missing : replicate 16 0 ≡ columnOf 16 costs p
-  unfolding columnOf listed
-  column-missing = listed-ext 16 (λ _. 0) (costAt 16 costs p) (λ s l. sym (List·getD-eq-default costs 0 (omega arith)))
+module _ (q : ℕ) (costs : List ℕ) (p : ℕ) (h : length costs < p * q) where
+  pub column-missing : replicate q 0 ≡ columnOf q costs p
+  unfolding columnOf
+  column-missing =
+      listed-by 0 q _ (costAt q costs p) (length-replicate q 0) (λ s l. getD-replicate q s 0 0 l ∙ sym (List·getD-eq-default costs 0 (omega arith)))
 
-  pub cost-missing : (s : ℕ) → s < 16 → 0 ≡ costOf (columnOf 16 costs p) s
-  cost-missing s l = sym (cost-column 16 costs p s l ∙ List·getD-eq-default costs 0 (omega arith))
+  pub cost-missing : (s : ℕ) → s < q → 0 ≡ costOf (columnOf q costs p) s
+  cost-missing s l = sym (cost-column q costs p s l ∙ List·getD-eq-default costs 0 (omega arith))

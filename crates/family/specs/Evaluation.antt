@@ -5,7 +5,7 @@
 --   monomialAt p o       the monomial of order o at place p, and 0 for a missing order
 --   rank-places          n − g orders below n, the number of places, are present;
 --   order-below          so the orders of n − g message symbols are below n
---   valueBy f m          the sum of coefficient times monomial over the orders
+--   valueBy f m          the sum of coefficient times monomial over the orders: an element (valueBy-below), either of both first (valueBy-comm)
 --   valueOf f p          so the value at place p of the function with coefficients f
 --   coefficientOf m o    the coefficient of order o in the function of message m: symbol t at the t-th present order
 --   coefficient-present, coefficient-missing   that of a present order, and of a missing one
@@ -27,7 +27,7 @@ use Rattle.lists.specs.Listed.{listed, listed-length, listed-at, listed-ext}
 use Rattle.lists.specs.Every.{T-true}
 use Rattle.lists.specs.Over.{over, over-same}
 use Rattle.lists.specs.Words.{allBelow, allBelow-from}
-use Rattle.lists.specs.XorSum.{xorSum, xorSum-more, xorSum-below}
+use Rattle.lists.specs.XorSum.{xorSum, xorSum-ext, xorSum-more, xorSum-below}
 use Rattle.algebra.specs.Field.{Field, zero-mul}
 use Rattle.algebra.specs.Sum.{sum, sum-ext}
 use Rattle.galois.specs.BinaryField.{GF, K, size, times, times-comm, times-zero, times-lt, toF, toF-times, toF-zero, toF-injective, toF-xorSum}
@@ -87,7 +87,15 @@ module _ (𝓜 : Member) where
   unfolding coefficientOf
   coefficient-missing m o h = present-no o _ h
 
-  -- a sum of products of the field is an element
+  -- sums of products of the field are elements
+  pub valueBy-below : (f m : List ℕ) → valueBy f m < size gf
+  unfolding valueBy valueTerm
+  valueBy-below f m = xorSum-below (gf .bits) (places 𝓜) _ (λ o l. times-lt gf _ _)
+
+  pub valueBy-comm : (f m : List ℕ) → valueBy f m ≡ valueBy m f
+  unfolding valueBy valueTerm
+  valueBy-comm f m = xorSum-ext (places 𝓜) _ _ (λ o l. times-comm gf _ _)
+
   value-below : (k : ℕ) (m : List ℕ) (p : ℕ) → valueAt 𝓜 k m p < size gf
   unfolding valueAt term
   value-below k m p = xorSum-below (gf .bits) k (term 𝓜 m p) (λ t l. times-lt gf (getD m t 0) (monomial 𝓜 (orderOf w t) p))
@@ -117,7 +125,7 @@ module _ (𝓜 : Member) where
   pub function-value : (m : List ℕ) (p : ℕ) → valueOf (functionOf m) p ≡ valueAt 𝓜 (places 𝓜 - genus w) m p
   unfolding valueOf valueBy valueTerm functionOf
   function-value m p =
-      toF-injective gf _ _ (xorSum-below (gf .bits) (places 𝓜) _ (λ o l. times-lt gf _ _)) (value-below (places 𝓜 - genus w) m p)
+      toF-injective gf _ _ (valueBy-below (functionOf m) (listed (places 𝓜) (monomialAt p))) (value-below (places 𝓜 - genus w) m p)
       (toF-xorSum gf (places 𝓜) _
       ∙ sum-ext (K gf) (places 𝓜) _ _ (λ o l.
       ap (toF gf) (ap₂ (times gf) (listed-at (places 𝓜) o (coefficientOf m) 0 l) (listed-at (places 𝓜) o (monomialAt p) 0 l)) ∙ in-ring m p o l)

@@ -14,21 +14,21 @@ best-but-requires-2 : tie.Need-best-but-requires-2
 best-but-requires-2 c κs = search needs
 
 mul-result : tie.Need-mul-result
-mul-result c = omega (arith, bestBut-small _ _ _ (c .best-but2 .ensures))
+mul-result c = omega (arith, bestBut-small _ _ _ (omega arith) (c .best-but2 .ensures))
 
 array-read-result : tie.Need-array-read-result
-array-read-result c = bestBut-small _ _ _ (c .best-but2 .ensures)
+array-read-result c = bestBut-small _ _ _ (omega arith) (c .best-but2 .ensures)
 
 mul-result-2 : tie.Need-mul-result-2
-mul-result-2 c = omega (arith, bestBut-small _ _ _ (c .before .best-but .ensures))
+mul-result-2 c = omega (arith, bestBut-small _ _ _ (omega arith) (c .before .best-but .ensures))
 
 array-read-result-2 : tie.Need-array-read-result-2
-array-read-result-2 c = bestBut-small _ _ _ (c .before .best-but .ensures)
+array-read-result-2 c = bestBut-small _ _ _ (omega arith) (c .before .best-but .ensures)
 
 sub-result : tie.Need-sub-result
 sub-result c =
     let l : length (c .before .before .args .t1) ≡ 16 = search needs in
-    gap-fits _ _ _ l (c .before .best-but .ensures) (c .best-but2 .ensures)
+    gap-fits _ _ _ l (c .before .best-but .ensures) (c .best-but2 .ensures) (omega arith)
 
 returns : tie.Need-returns
 returns c =

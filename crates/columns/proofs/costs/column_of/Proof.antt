@@ -18,7 +18,7 @@ abbrev μ-loop : tie.MeasureT-loop
 μ-loop costs place out₀ s₀ out s = 16 - s
 
 returns : tie.Need-returns Inv-loop μ-loop
-returns c = column-missing (c .before .before .args .costs .now) (c .before .before .args .place) (omega arith)
+returns c = column-missing 16 (c .before .before .args .costs .now) (c .before .before .args .place) (omega arith)
 
 loop-holds : tie.Need-loop-holds Inv-loop μ-loop
 loop-holds c = (omega arith, listed-start _ _)

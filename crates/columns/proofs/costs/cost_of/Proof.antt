@@ -11,7 +11,7 @@ returns : tie.Need-returns
 returns c = sym (cost-none 16 (c .before .before .args .costs .now) (c .before .before .args .place) (c .before .before .args .symbol) (omega arith))
 
 returns-2 : tie.Need-returns-2
-returns-2 c = cost-missing (c .before .before .before .args .costs .now) (c .before .before .before .args .place) (omega arith) (c .before .before .before .args .symbol) (omega arith)
+returns-2 c = cost-missing 16 (c .before .before .before .args .costs .now) (c .before .before .before .args .place) (omega arith) (c .before .before .before .args .symbol) (omega arith)
 
 mul-number-at : tie.Need-mul-number-at
 mul-number-at c = search needs

@@ -1,16 +1,17 @@
 -- `monomials_in` meets its contract: the loop stores the number that each digit shows.
 use mathlib.Core.Path.{_≡_, refl}
 use Prim.Native.Nat.{_-_, _*_, _%_}
+use lib.ListN.{replicate}
 use Rattle.lists.specs.Filled.{Filled, filled-start, filled-turn, filled-end}
 use Rattle.evaluation.specs.Table.{entryIn}
-use Rattle.evaluation.proofs.Evaluating.{blank, blank-length, entry-is}
+use Rattle.evaluation.proofs.Evaluating.{entry-is}
 use borrow.Author.Needs.{needs}
 use Rattle.evaluation.proofs.monomials.monomials_in.Statement.{statement}
 use Rattle.evaluation.proofs.monomials.monomials_in.Tie as tie
 
 abbrev Inv-loop : tie.InvT-loop
 Inv-loop table place first out₀ order₀ out order =
-    (first ≡ place % 64 * 64) × Filled blank (entryIn table (place % 64)) order out
+    (first ≡ place % 64 * 64) × Filled (replicate 64 0) (entryIn table (place % 64)) order out
 
 abbrev μ-loop : tie.MeasureT-loop
 μ-loop table place first out₀ order₀ out order = 64 - order
@@ -42,7 +43,7 @@ loop-again c =
     (i .0, filled-turn 0 (i .1) _ (search needs) (entry-is _ _ _ (i .0) (c .digit .ensures)))
 
 returns : tie.Need-returns Inv-loop μ-loop
-returns c = filled-end 0 (c .before .loop .inv .1) 64 blank-length (c .loop-test .left)
+returns c = filled-end 0 (c .before .loop .inv .1) 64 refl (c .loop-test .left)
 
 pub monomials-in-spec : {M : Type 1} → statement M
 monomials-in-spec =

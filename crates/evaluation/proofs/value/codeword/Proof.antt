@@ -1,17 +1,18 @@
 -- `codeword` meets its contract: the loop stores the value at each place.
-use mathlib.Core.Path.{_≡_}
+use mathlib.Core.Path.{_≡_, refl}
 use Prim.Native.Nat.{_-_}
+use lib.ListN.{replicate}
 use Rattle.lists.specs.Filled.{Filled, filled-start, filled-turn, filled-end}
 use Rattle.code.specs.Evaluation.{valueOf}
 use Rattle.evaluation.specs.Table.{monomialTable}
-use Rattle.evaluation.proofs.Evaluating.{blank, blank-length, value-at}
+use Rattle.evaluation.proofs.Evaluating.{value-at}
 use borrow.Author.Needs.{needs}
 use Rattle.evaluation.proofs.value.codeword.Statement.{statement}
 use Rattle.evaluation.proofs.value.codeword.Tie as tie
 
 abbrev Inv-loop : tie.InvT-loop
 Inv-loop function monomials out₀ place₀ out place =
-    (monomials ≡ monomialTable) × Filled blank (valueOf function) place out
+    (monomials ≡ monomialTable) × Filled (replicate 64 0) (valueOf function) place out
 
 abbrev μ-loop : tie.MeasureT-loop
 μ-loop function monomials out₀ place₀ out place = 64 - place
@@ -46,7 +47,7 @@ loop-again c =
     (i .0, filled-turn 0 (i .1) _ (search needs) (value-at _ _ (search needs) (i .0) (c .before .monomials-in .ensures) (c .value .ensures)))
 
 returns : tie.Need-returns Inv-loop μ-loop
-returns c = filled-end 0 (c .before .loop .inv .1) 64 blank-length (c .loop-test .left)
+returns c = filled-end 0 (c .before .loop .inv .1) 64 refl (c .loop-test .left)
 
 pub codeword-spec : {M : Type 1} → statement M
 codeword-spec =
