@@ -18,11 +18,10 @@ use Rattle.interpolant.specs.Reading.{reading-size, reading-plain, reading-z, m
 use Rattle.book.specs.Model.{modem64}
 use Rattle.book.specs.Book.{Book, taken}
 use Rattle.book.specs.Writing.{Filled}
-use Rattle.book.specs.Columns.{taken-alike, columns-alike}
+use Rattle.book.specs.Columns.{taken-alike, columns-alike, Agree}
 use Rattle.book.specs.Reading.{readingLength, highestOrder, isSettled, settledAt, settledBelow, settledOf, readOf}
 use Rattle.book.specs.ReadingLaws.{settled-few, read-accepted}
 use Rattle.book.specs.OpeningLaws.{Rate, rate-orders}
-use Rattle.book.specs.Sentences.{Agree}
 use Rattle.book.specs.Here.{places, columnsOf}
 
 -- ---- 'the 82 bytes of the least Q for the row's settled places'

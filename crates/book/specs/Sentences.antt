@@ -13,8 +13,7 @@
 --   closing-none-near    with none missing it says 'none near' exactly when no codeword is near
 --   closing-answer       otherwise it gives the answer
 --   Closes book T c, closes   the three together
---   Agree a b            equal rates, equal lists, and rows that agree as sets: each place has the same column in both, or none in either
---   closing-alike        such books close alike
+--   closing-alike        books that agree close alike
 --   margin-alike         and have the same margins: they do not depend on the order of arrival
 --   deliver-kept, deliver-held   a refused delivery leaves the book as it was, and none changes its rate or its list
 use mathlib.Core.Bool.{Bool, true, false}
@@ -43,20 +42,15 @@ use Rattle.near.specs.Near.{reachOf, nearTo, near, messageCost, answerOf}
 use Rattle.near.specs.Laws.{near-member, member-near, near-answers}
 use Rattle.near.specs.Runner.{margin-absent, margin-some}
 use Rattle.book.specs.Model.{Model, places, width}
-use Rattle.book.specs.Book.{Book, newBook, columnIn, taken, someMissing, Outcome}
+use Rattle.book.specs.Book.{Book, newBook, taken, someMissing, Outcome}
 use Rattle.book.specs.Opening.{fitDoubt, refusedOpening, openOf}
 use Rattle.book.specs.Delivery.{withEntry, deliverOf}
-use Rattle.book.specs.Columns.{columnsOf, missing-alike, columns-alike}
+use Rattle.book.specs.Columns.{columnsOf, missing-alike, columns-alike, Agree}
 use Rattle.book.specs.Entries.{Missing, missing-there, missing-none}
 use Rattle.book.specs.Closing.{reportLength, Closed, refusedClosing, marginFor, reportFor, decodeOf, closingFits, closeOf}
 use Rattle.book.specs.ClosingLaws.{refused-number, fits-both, fits-of, close-size, close-missing, close-decoded, decode-none, decode-some}
 use Rattle.book.specs.RowLaws.{Proper, columns-wide, deliver-above, deliver-taken, deliver-accepted, open-accepted, open-refused-rate, open-refused-list}
 use Rattle.book.specs.OpeningLaws.{Known, DoubtfulList, list-fits, fits-list}
-
-pub record Agree (a b : Book) : Type 0 where
-  pub same-rate : a .rate ≡ b .rate
-  pub same-list : a .doubtful ≡ b .doubtful
-  pub same-columns : (p : ℕ) → columnIn (a .row) p ≡ columnIn (b .row) p
 
 module _ (𝓓 : Model) where
   open Model 𝓓 using (member, known)

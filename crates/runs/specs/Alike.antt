@@ -17,13 +17,13 @@ use Rattle.lists.specs.Distinct.{among}
 use Rattle.lists.specs.Block.{block}
 use Rattle.book.specs.Model.{modem64}
 use Rattle.book.specs.Book.{Book, columnIn}
-use Rattle.book.specs.Columns.{column-free}
+use Rattle.book.specs.Columns.{column-free, Agree}
 use Rattle.book.specs.RowLaws.{none-above}
 use Rattle.book.specs.Writing.{Filled}
 use Rattle.book.specs.Closing.{Closed}
 use Rattle.book.specs.AnyCalls.{Answer}
 use Rattle.book.specs.Calls.{Call, reading, closing, answer}
-use Rattle.book.specs.Sentences.{Agree, closing-alike}
+use Rattle.book.specs.Sentences.{closing-alike}
 use Rattle.book.specs.Here.{places, width}
 use Rattle.book.specs.ReadingSentences.{reading-alike}
 use Rattle.session.specs.declared.Session.{Session}
