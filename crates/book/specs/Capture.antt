@@ -4,15 +4,15 @@
 --   bodyLength d     2,114 + d: the bytes that follow the two bytes of length, where d places are doubtful
 --   captureLength d  2,117 + d: all of them
 --   costBytes        two bytes a cost, high byte first
---   rowBytes         64 records of a place and its 32 cost bytes, in the row's order
---   captureOf        version 1, length, rate, d, the d doubtful places, the records
+--   rowBytes         a record for each entry, its place and its 32 cost bytes
+--   captureOf        version 1, length, rate, d, the d doubtful places, the 64 records in rising place order
 --   recordsOf n      n records from their bytes
 use mathlib.Core.List.{List, [], _∷_, _++_}
 use Prim.Native.Nat.{ℕ, zero, suc, _+_, _/_, _%_}
 use lib.ListN.{length, getD, take, drop}
 use Rattle.soft.specs.Column.{costsFrom}
 use Rattle.book.specs.Book.{Entry, Book}
-use Rattle.book.specs.Here.{width}
+use Rattle.book.specs.Here.{width, inPlaceOrder}
 
 abbrev pub recordLength : ℕ
 recordLength = 33
@@ -38,7 +38,7 @@ captureOf book =
     ∷ bodyLength (length (book .doubtful)) % 256
     ∷ book .rate
     ∷ length (book .doubtful)
-    ∷ (book .doubtful ++ rowBytes (book .row))
+    ∷ (book .doubtful ++ rowBytes (inPlaceOrder (book .row)))
 
 unfoldable pub recordsOf : ℕ → List ℕ → List Entry
 recordsOf zero bytes = []

@@ -1,7 +1,7 @@
--- What follows of captures: their bytes as parts, and the two round trips.
+-- What follows of the bytes of a capture's costs and records. (The two round trips stand in RoundTrip.)
 --
 --   cost-bytes-append, row-bytes-append           the bytes of one list after another
---   cost-bytes-length, row-bytes-length, capture-length   how many there are
+--   cost-bytes-length, row-bytes-length           how many there are
 --   costs-bytes, bytes-costs     costs written and read are the costs; bytes read and written are the bytes
 --   records-row, row-records     the same of records
 use mathlib.Core.Bool.{true}

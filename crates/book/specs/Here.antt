@@ -4,7 +4,8 @@
 --   reportLength, tableLength   the report's 13 bytes and the table's 2,048
 --   pinnedIn, changedIn, markIn, marginIn   the report's bytes 6, 7 and 8, and the number in its last four: pinned-byte, changed-byte, mark-byte, margin-bytes
 --
--- All others mean what they mean in Book, Opening, Delivery, Columns, Entries, RowLaws, OpeningLaws, Closing, Table, Sentences, Costs, Report and Repairs.
+-- All others mean what they mean in Book, Opening, Delivery, Columns, Entries, RowLaws, OpeningLaws, PlaceOrder, Closing, Table, Sentences, Costs, Report and
+-- Repairs.
 use mathlib.Core.Bool.{Bool}
 use mathlib.Core.Path.{_≡_}
 use mathlib.Core.List.{List}
@@ -22,6 +23,7 @@ use Rattle.book.specs.Columns as Columns
 use Rattle.book.specs.Entries as Entries
 use Rattle.book.specs.RowLaws as RowLaws
 use Rattle.book.specs.OpeningLaws as OpeningLaws
+use Rattle.book.specs.PlaceOrder as PlaceOrder
 use Rattle.book.specs.Closing as Closing
 use Rattle.book.specs.Closing.{Closed}
 use Rattle.book.specs.Table as Table
@@ -81,6 +83,12 @@ wide row = RowLaws.wide modem64 row
 
 abbrev pub Proper : Book → Type 0
 Proper book = RowLaws.Proper modem64 book
+
+abbrev pub inPlaceOrder : List Entry → List Entry
+inPlaceOrder row = PlaceOrder.inPlaceOrder modem64 row
+
+abbrev pub ordered : Book → Book
+ordered book = PlaceOrder.ordered modem64 book
 
 abbrev pub IsColumn : List ℕ → Type 0
 IsColumn column = Costs.IsColumn modem64 column

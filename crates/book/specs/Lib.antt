@@ -7,7 +7,9 @@ pub mod Columns
 pub mod RowLaws
 pub mod Entries
 pub mod OpeningLaws
+pub mod PlaceOrder
 pub mod RowDelivery
+pub mod AlikeDelivery
 pub mod Closing
 pub mod ClosingLaws
 pub mod Table
@@ -29,5 +31,6 @@ pub mod ReadingLaws
 pub mod ReadingSentences
 pub mod AnyCalls
 pub mod Calls
+pub mod AlikeCalls
 pub mod CallLaws
 pub mod Captured

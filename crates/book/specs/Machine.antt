@@ -6,11 +6,13 @@
 --   part-held            a part of the book that no call changes is as it was
 --   Each Fits calls      each of the calls fits
 --   Run Step s calls given t   the calls, each a step from the session that the one before it left, are given these answers, and the session t is left
---   AsBook Good bookOf answer after s call a t   the answer is that of the book of s, and t is good and stands for the book after the call
+--   Likeness Same answer after   books that are the same in the sense of Same answer every call alike, and are the same after it
+--   answers-same, after-same   so they answer every list of calls alike, and are the same after it
+--   AsBook Good bookOf Same answer after s call a t   the answer is that of the book of s, and t is good and stands for the book after the call
 --   every-run            if every step from a good session is so, then every run is, with its lists of calls and of answers
---   one-end              so the calls determine the session left, if its book determines a good session
+--   one-end              so the calls determine the session left, if its book, up to Same, determines a good session
 --   some-run             and if every fitting call has a step from every good session, then every list of them has a run
-use mathlib.Core.Path.{_≡_, refl, sym, ap, ap₂, _∙_}
+use mathlib.Core.Path.{_≡_, refl, ap₂, _∙_}
 use mathlib.Core.List.{List, [], _∷_}
 
 unfoldable pub answersBy : {B C A : Type 0} → (B → C → A) → (B → C → B) → B → List C → List A
@@ -41,31 +43,53 @@ pub data Run {S C A : Type 0} (Step : S → C → A → S → Type 0) : S → Li
   next : {s t u : S} {call : C} {a : A} {calls : List C} {given : List A} → Step s call a t → Run Step t calls given u
       → Run Step s (call ∷ calls) (a ∷ given) u
 
-pub record AsBook {S B C A : Type 0} (Good : S → Type 0) (bookOf : S → B) (answer : B → C → A) (after : B → C → B) (s : S) (call : C) (a : A) (t : S)
-    : Type 0 where
+pub record Likeness {B C A : Type 0} (Same : B → B → Type 0) (answer : B → C → A) (after : B → C → B) : Type 0 where
+  pub same-refl : (a : B) → Same a a
+  pub same-sym : {a b : B} → Same a b → Same b a
+  pub same-trans : {a b c : B} → Same a b → Same b c → Same a c
+  pub same-answer : {a b : B} → Same a b → (call : C) → answer a call ≡ answer b call
+  pub same-after : {a b : B} → Same a b → (call : C) → Same (after a call) (after b call)
+
+module _ {B C A : Type 0} {Same : B → B → Type 0} {answer : B → C → A} {after : B → C → B} (likeness : Likeness Same answer after) where
+  pub answers-same : {a b : B} → Same a b → (calls : List C) → answersBy answer after a calls ≡ answersBy answer after b calls
+  unfolding answersBy
+  answers-same same [] = refl
+  answers-same same (call ∷ calls) =
+      ap₂ (λ (x : A) l. x ∷ l) (likeness .same-answer same call) (answers-same (likeness .same-after same call) calls)
+
+  pub after-same : {a b : B} → Same a b → (calls : List C) → Same (afterBy after a calls) (afterBy after b calls)
+  unfolding afterBy
+  after-same same [] = same
+  after-same same (call ∷ calls) = after-same (likeness .same-after same call) calls
+
+pub record AsBook {S B C A : Type 0} (Good : S → Type 0) (bookOf : S → B) (Same : B → B → Type 0) (answer : B → C → A) (after : B → C → B) (s : S)
+    (call : C) (a : A) (t : S) : Type 0 where
   pub answered : a ≡ answer (bookOf s) call
   pub good : Good t
-  pub book : bookOf t ≡ after (bookOf s) call
+  pub book : Same (bookOf t) (after (bookOf s) call)
 
-module _ {S B C A : Type 0} {Step : S → C → A → S → Type 0} {Good : S → Type 0} {bookOf : S → B} {answer : B → C → A} {after : B → C → B}
-    (faithful : (s : S) (call : C) (a : A) (t : S) → Step s call a t → Good s → AsBook Good bookOf answer after s call a t) where
+module _ {S B C A : Type 0} {Step : S → C → A → S → Type 0} {Good : S → Type 0} {bookOf : S → B} {Same : B → B → Type 0} {answer : B → C → A}
+    {after : B → C → B} (likeness : Likeness Same answer after)
+    (faithful : (s : S) (call : C) (a : A) (t : S) → Step s call a t → Good s → AsBook Good bookOf Same answer after s call a t) where
   pub every-run : {s t : S} {calls : List C} {given : List A} → Run Step s calls given t → Good s
-      → AsBook Good bookOf (answersBy answer after) (afterBy after) s calls given t
+      → AsBook Good bookOf Same (answersBy answer after) (afterBy after) s calls given t
   unfolding answersBy afterBy
-  every-run done good = record { answered = refl; good = good; book = refl }
+  every-run {s} done good = record { answered = refl; good = good; book = likeness .same-refl (bookOf s) }
   every-run (next {calls = calls} step run) good =
       let f = faithful _ _ _ _ step good in
       let r = every-run run (f .good) in
       record {
-        answered = ap₂ (λ (a : A) l. a ∷ l) (f .answered) (r .answered ∙ ap (λ b. answersBy answer after b calls) (f .book));
+        answered = ap₂ (λ (a : A) l. a ∷ l) (f .answered) (r .answered ∙ answers-same likeness (f .book) calls);
         good = r .good;
-        book = r .book ∙ ap (λ b. afterBy after b calls) (f .book);
+        book = likeness .same-trans (r .book) (after-same likeness (f .book) calls);
       }
 
-  pub one-end : ((t u : S) → Good t → Good u → bookOf t ≡ bookOf u → t ≡ u)
+  pub one-end : ((t u : S) → Good t → Good u → Same (bookOf t) (bookOf u) → t ≡ u)
       → {s t u : S} {calls : List C} {given other : List A} → Good s → Run Step s calls given t → Run Step s calls other u → t ≡ u
   one-end one {s} {t} {u} good a b =
-      let x = every-run a good in let y = every-run b good in one t u (x .good) (y .good) (x .book ∙ sym (y .book))
+      let x = every-run a good in
+      let y = every-run b good in
+      one t u (x .good) (y .good) (likeness .same-trans (x .book) (likeness .same-sym (y .book)))
 
   pub some-run : {Fits : C → Type 0} → ((s : S) (call : C) → Good s → Fits call → (a : A) × (t : S) × Step s call a t)
       → {calls : List C} → Each Fits calls → (s : S) → Good s → (given : List A) × (t : S) × Run Step s calls given t

@@ -4,6 +4,7 @@
 --   DoubtfulList list    at most as many places as the largest doubt, all of them the modem's, strictly rising: each smaller than the next
 --   list-fits, fits-list the lists that pass the test
 --   list-short           they are no longer than the largest doubt
+--   below-of             a list each of whose entries is below n passes the test for that
 --
 -- Of the modem of 64 places:
 --
@@ -53,7 +54,7 @@ rising-from n (p ∷ list) e =
     go first rest zero l = first (le-of-suc-le-suc l)
     go first rest (suc i) l = rest i (le-of-suc-le-suc l)
 
-below-of : (n : ℕ) (list : List ℕ) → ((i : ℕ) → i < length list → getD list i 0 < n) → below n list ≡ true
+pub below-of : (n : ℕ) (list : List ℕ) → ((i : ℕ) → i < length list → getD list i 0 < n) → below n list ≡ true
 unfolding below
 below-of n [] h = refl
 below-of n (p ∷ list) h =

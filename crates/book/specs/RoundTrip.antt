@@ -1,67 +1,60 @@
 -- The two round trips of a capture.
 --
---   full-row             a proper book with no place missing has 64 entries
---   capture-length       and its capture has 2,117 + d bytes
+--   capture-length, written-order   the capture of a proper book has 2,117 + d bytes, and its records are in place order
 --   write-size, write-missing, write-accepted   the three cases of writing
+--   write-whole          where it is accepted, the buffer has the right size and no place is missing
 --   size-range, version-one, length-right, none-missing   what the checks of an accepted capture say
---   open-written         its capture opens as that book: the same rate, list and row
---   write-then-open      so writing, where it is accepted, and then opening gives the book again
---   written-opened       the capture of the book that an accepted capture opens as is that capture
---   open-then-write      so opening an accepted capture and then writing gives its bytes again
+--   open-written         the capture of a proper book opens as that book with its row in place order: the same rate, list and columns
+--   write-then-open      so writing, where it is accepted, and then opening gives the book with its row in place order
+--   written-opened       the capture of the book that an accepted capture opens as is that capture exactly if its records are in place order
+--   open-then-write      opening an accepted capture and then writing into a buffer of its size gives the capture of that book
 use mathlib.Core.Bool.{Bool, true, false, not}
-use mathlib.Core.Path.{_≡_, refl, sym, ap, ap₂, _∙_}
+use mathlib.Core.Path.{_≡_, refl, sym, ap, ap₂, _∙_, subst}
 use mathlib.Core.List.{List, [], _∷_, _++_}
+use mathlib.Core.Logic.{_↔_}
 use Prim.Native.Nat.{ℕ, suc, _+_, _/_, _%_, _<_, _≤_}
 use native.Mathlib.Omega.{arith}
 use lib.Dec.{eqb, leb}
 use lib.ListN.{length, getD, drop, length-append, length-drop, take-append-drop}
 use lib.Seq.{take-at, drop-at, length-take-le, drop-drop}
-use borrow.Author.Tests.{eqb-true, eqb-false, eq-eqb, ne-eqb, le-leb, leb-true, not-false}
+use borrow.Author.Tests.{eqb-true, eqb-false, eq-eqb, ne-eqb, le-leb, leb-true}
 use Rattle.refusals.specs.Refusal.{accepted, wrongSize, placeMissing}
-use Rattle.lists.specs.Distinct.{below, below-drop, below-at, distinct-bound, and-left, and-right, and-both}
+use Rattle.lists.specs.Distinct.{below, below-drop, below-at, and-left, and-right, and-both}
 use Rattle.book.specs.Model.{modem64}
 use Rattle.book.specs.Book.{Book, newBook, Outcome}
 use Rattle.book.specs.Capture.{bodyLength, captureLength, rowBytes, recordsOf, captureOf}
 use Rattle.book.specs.Writing.{Filled, writeOf}
 use Rattle.book.specs.CaptureOpening.{rateIn, doubtIn, listIn, recordsIn, sizeFits, versionFits, lengthIn, lengthFits, openWith, openCaptureOf}
-use Rattle.book.specs.RowLaws.{placesOf, places-length, missing-count}
+use Rattle.book.specs.RowLaws.{missing-count}
 use Rattle.book.specs.CaptureCases.{open-checked, open-with, bookIn, Fit, capture-fit}
 use Rattle.book.specs.CaptureLaws.{row-bytes-length, records-row, row-records, records-length}
 use Rattle.book.specs.OpeningLaws.{list-short}
-use Rattle.book.specs.Here.{places, someMissing, Proper}
+use Rattle.book.specs.PlaceOrder.{InPlaceOrder, order-length, order-wide, order-rises, order-proper, order-same}
+use Rattle.book.specs.PlaceOrder as Ordering
+use Rattle.book.specs.Here.{places, someMissing, Proper, inPlaceOrder, ordered}
 use Rattle.book.specs.RowDelivery.{extended, row-delivered}
 
 -- ---- writing, then opening
 
--- a proper book with no place missing has 64 entries
-pub full-row : (book : Book) → Proper book → someMissing (book .row) ≡ false → length (book .row) ≡ places
-full-row book proper m =
-    let a : length (placesOf (book .row)) ≤ places = distinct-bound places (placesOf (book .row)) (proper .apart) (proper .in-range) in
-    let b : places ≤ length (book .row) =
-    leb-true places (length (book .row))
-    (not-false (leb places (length (book .row))) (sym (missing-count modem64 (book .row) (proper .in-range) (proper .apart)) ∙ m)) in
-    omega (arith, places-length (book .row))
-
-pub capture-length : (book : Book) → Proper book → someMissing (book .row) ≡ false
-    → length (captureOf book) ≡ captureLength (length (book .doubtful))
+pub capture-length : (book : Book) → Proper book → length (captureOf book) ≡ captureLength (length (book .doubtful))
 unfolding captureOf
-capture-length book proper m =
+capture-length book proper =
     omega (
       arith,
-      length-append (book .doubtful) (rowBytes (book .row)),
-      row-bytes-length (book .row) (proper .all-wide),
-      full-row book proper m,
+      length-append (book .doubtful) (rowBytes (inPlaceOrder (book .row))),
+      row-bytes-length (inPlaceOrder (book .row)) (order-wide modem64 (book .row) (proper .all-wide)),
+      order-length modem64 (book .row),
     )
 
 -- what lies behind the five bytes of the head and the list
 behind : (v h l r e : ℕ) (rest : List ℕ) → drop (5 + e) (v ∷ h ∷ l ∷ r ∷ e ∷ rest) ≡ drop e rest
 behind v h l r e rest = let q : 5 + e ≡ suc (suc (suc (suc (suc e)))) = omega arith in rw q
 
-module _ (book : Book) (proper : Proper book) (m : someMissing (book .row) ≡ false) where
+module _ (book : Book) (proper : Proper book) where
   written-size : sizeFits (captureOf book) ≡ true
   unfolding sizeFits
   written-size =
-      let a : length (captureOf book) ≡ captureLength (length (book .doubtful)) = capture-length book proper m in
+      let a : length (captureOf book) ≡ captureLength (length (book .doubtful)) = capture-length book proper in
       let b : length (book .doubtful) ≤ 8 = list-short modem64 (book .doubtful) (proper .list-fit) in
       and-both (leb 2117 (length (captureOf book))) (leb (length (captureOf book)) 2125)
       (le-leb 2117 (length (captureOf book)) (omega arith)) (le-leb (length (captureOf book)) 2125 (omega arith))
@@ -73,7 +66,7 @@ module _ (book : Book) (proper : Proper book) (m : someMissing (book .row) ≡ f
   written-length : lengthFits (captureOf book) ≡ true
   unfolding lengthFits captureOf
   written-length =
-      let a : length (captureOf book) ≡ captureLength (length (book .doubtful)) = capture-length book proper m in
+      let a : length (captureOf book) ≡ captureLength (length (book .doubtful)) = capture-length book proper in
       and-both (eqb (lengthIn (captureOf book) + 3) (length (captureOf book)))
       (eqb (lengthIn (captureOf book)) (bodyLength (length (book .doubtful))))
       (eq-eqb (lengthIn (captureOf book) + 3) (length (captureOf book)) (omega arith))
@@ -81,29 +74,35 @@ module _ (book : Book) (proper : Proper book) (m : someMissing (book .row) ≡ f
 
   written-list : listIn (captureOf book) ≡ book .doubtful
   unfolding captureOf
-  written-list = take-at (book .doubtful) (rowBytes (book .row)) (length (book .doubtful)) refl
+  written-list = take-at (book .doubtful) (rowBytes (inPlaceOrder (book .row))) (length (book .doubtful)) refl
 
-  written-records : recordsIn (captureOf book) ≡ book .row
+  written-records : recordsIn (captureOf book) ≡ inPlaceOrder (book .row)
   unfolding captureOf
   written-records =
+      let bytes : List ℕ = rowBytes (inPlaceOrder (book .row)) in
       ap (recordsOf places)
       (behind 1 (bodyLength (length (book .doubtful)) / 256) (bodyLength (length (book .doubtful)) % 256) (book .rate)
-      (length (book .doubtful)) (book .doubtful ++ rowBytes (book .row))
-      ∙ drop-at (book .doubtful) (rowBytes (book .row)) (length (book .doubtful)) refl)
-      ∙ ap (λ n. recordsOf n (rowBytes (book .row))) (sym (full-row book proper m)) ∙ records-row (book .row) (proper .all-wide)
+      (length (book .doubtful)) (book .doubtful ++ bytes)
+      ∙ drop-at (book .doubtful) bytes (length (book .doubtful)) refl)
+      ∙ ap (λ n. recordsOf n bytes) (sym (order-length modem64 (book .row)))
+      ∙ records-row (inPlaceOrder (book .row)) (order-wide modem64 (book .row) (proper .all-wide))
+
+  pub written-order : InPlaceOrder (recordsIn (captureOf book))
+  written-order = subst InPlaceOrder (sym written-records) (order-rises modem64 (book .row))
 
   written-rate : rateIn (captureOf book) ≡ book .rate
   unfolding captureOf
   written-rate = refl
 
-  pub open-written : openCaptureOf (captureOf book) ≡ record { number = accepted; book = book }
-  unfolding extended newBook
+  pub open-written : openCaptureOf (captureOf book) ≡ record { number = accepted; book = ordered book }
+  unfolding extended newBook Ordering.ordered
   open-written =
+      let sorted = order-proper modem64 book proper in
       open-checked (captureOf book) written-size written-version written-length
       ∙ ap₂ (λ r (l : List ℕ). openWith r l (recordsIn (captureOf book))) written-rate written-list
       ∙ ap (openWith (book .rate) (book .doubtful)) written-records
-      ∙ open-with (book .rate) (book .doubtful) (book .row) (proper .rate-known) (proper .list-fit)
-      ∙ row-delivered modem64 (newBook (book .rate) (book .doubtful)) (book .row) (proper .in-range) (proper .apart)
+      ∙ open-with (book .rate) (book .doubtful) (inPlaceOrder (book .row)) (proper .rate-known) (proper .list-fit)
+      ∙ row-delivered modem64 (newBook (book .rate) (book .doubtful)) (inPlaceOrder (book .row)) (sorted .in-range) (sorted .apart)
 
 -- ---- the three cases of writing
 
@@ -122,22 +121,24 @@ module _ (book : Book) (out : List ℕ) where
   unfolding writeOf
   write-accepted h m = rw (eq-eqb (length out) (captureLength (length (book .doubtful))) h, m)
 
-  pub write-then-open : Proper book → writeOf book out .number ≡ accepted
-      → openCaptureOf (writeOf book out .bytes) ≡ record { number = accepted; book = book }
-  write-then-open proper n =
-      go (eqb (length out) (captureLength (length (book .doubtful)))) refl (someMissing (book .row)) refl
+  pub write-whole : writeOf book out .number ≡ accepted
+      → (length out ≡ captureLength (length (book .doubtful))) × (someMissing (book .row) ≡ false)
+  write-whole n = go (eqb (length out) (captureLength (length (book .doubtful)))) refl (someMissing (book .row)) refl
     where
-      go : (a : Bool) → eqb (length out) (captureLength (length (book .doubtful))) ≡ a → (b : Bool) → someMissing (book .row) ≡ b
-          → openCaptureOf (writeOf book out .bytes) ≡ record { number = accepted; book = book }
-      go false e b m =
-          absurd
-          (omega (arith, sym (ap (λ (f : Filled). f .number) (write-size (eqb-false (length out) (captureLength (length (book .doubtful))) e))) ∙ n))
-      go true e true m =
-          absurd
-          (omega (arith, sym (ap (λ (f : Filled). f .number) (write-missing (eqb-true (length out) (captureLength (length (book .doubtful))) e) m)) ∙ n))
-      go true e false m =
-          ap (λ (f : Filled). openCaptureOf (f .bytes)) (write-accepted (eqb-true (length out) (captureLength (length (book .doubtful))) e) m)
-          ∙ open-written book proper m
+      size : ℕ
+      size = captureLength (length (book .doubtful))
+
+      go : (a : Bool) → eqb (length out) size ≡ a → (b : Bool) → someMissing (book .row) ≡ b
+          → (length out ≡ captureLength (length (book .doubtful))) × (someMissing (book .row) ≡ false)
+      go false e b m = absurd (omega (arith, sym (ap (λ (f : Filled). f .number) (write-size (eqb-false (length out) size e))) ∙ n))
+      go true e true m = absurd (omega (arith, sym (ap (λ (f : Filled). f .number) (write-missing (eqb-true (length out) size e) m)) ∙ n))
+      go true e false m = (eqb-true (length out) size e, m)
+
+  pub write-then-open : Proper book → writeOf book out .number ≡ accepted
+      → openCaptureOf (writeOf book out .bytes) ≡ record { number = accepted; book = ordered book }
+  write-then-open proper n =
+      let w = write-whole n in
+      ap (λ (f : Filled). openCaptureOf (f .bytes)) (write-accepted (w .0) (w .1)) ∙ open-written book proper
 
 -- ---- opening, then writing
 
@@ -192,9 +193,9 @@ module _ (bytes : List ℕ) (b : below 256 bytes ≡ true) (fit : Fit bytes) whe
       row-records places (drop (5 + doubtIn bytes) bytes) (length-drop (5 + doubtIn bytes) bytes ∙ omega arith)
       (below-drop 256 (5 + doubtIn bytes) bytes b)
 
-  all-bytes : captureOf (bookIn bytes) ≡ bytes
+  all-bytes : inPlaceOrder (recordsIn bytes) ≡ recordsIn bytes → captureOf (bookIn bytes) ≡ bytes
   unfolding captureOf bookIn
-  all-bytes =
+  all-bytes same =
       let s = size-range bytes (fit .size-fits) in
       let r = length-right bytes (fit .length-fits) in
       let n : length (listIn bytes) ≡ doubtIn bytes = list-long in
@@ -203,17 +204,28 @@ module _ (bytes : List ℕ) (b : below 256 bytes ≡ true) (fit : Fit bytes) whe
       (ap₂ (λ x (l : List ℕ). x ∷ l) (omega arith)
       (ap₂ (λ x (l : List ℕ). x ∷ l) (omega arith)
       (ap₂ (λ x (l : List ℕ). rateIn bytes ∷ x ∷ l) n
-      (ap (λ (l : List ℕ). listIn bytes ++ l) (rest-bytes ∙ sym (drop-drop (doubtIn bytes) 5 bytes))
+      (ap (λ (l : List ℕ). listIn bytes ++ l) (ap rowBytes same ∙ rest-bytes ∙ sym (drop-drop (doubtIn bytes) 5 bytes))
       ∙ take-append-drop (doubtIn bytes) (drop 5 bytes)))))
       ∙ sym (head bytes (omega arith))
 
--- the capture of the book that an accepted capture opens as is that capture
+  order-bytes : InPlaceOrder (recordsIn bytes) → captureOf (bookIn bytes) ≡ bytes
+  unfolding bookIn
+  order-bytes order =
+      all-bytes
+      (order-same modem64 (recordsIn bytes) (fit .proper .in-range) (records-length places (drop (5 + doubtIn bytes) bytes)) order)
+
+-- 'writing what was read from an accepted capture returns it unchanged exactly if it is in place order'
 pub written-opened : (bytes : List ℕ) → below 256 bytes ≡ true → openCaptureOf bytes .number ≡ accepted
-    → captureOf (openCaptureOf bytes .book) ≡ bytes
-written-opened bytes b n = let fit = capture-fit bytes n in ap (λ (o : Outcome). captureOf (o .book)) (fit .opens) ∙ all-bytes bytes b fit
+    → (captureOf (openCaptureOf bytes .book) ≡ bytes) ↔ InPlaceOrder (recordsIn bytes)
+written-opened bytes b n =
+    let fit = capture-fit bytes n in
+    let opened : captureOf (openCaptureOf bytes .book) ≡ captureOf (bookIn bytes) = ap (λ (o : Outcome). captureOf (o .book)) (fit .opens) in (
+      λ e. subst (λ (l : List ℕ). InPlaceOrder (recordsIn l)) (sym opened ∙ e) (written-order (bookIn bytes) (fit .proper)),
+      λ order. opened ∙ order-bytes bytes b fit order,
+    )
 
 pub open-then-write : (bytes out : List ℕ) → below 256 bytes ≡ true → openCaptureOf bytes .number ≡ accepted → length out ≡ length bytes
-    → writeOf (openCaptureOf bytes .book) out ≡ record { number = accepted; bytes = bytes }
+    → writeOf (openCaptureOf bytes .book) out ≡ record { number = accepted; bytes = captureOf (openCaptureOf bytes .book) }
 unfolding bookIn
 open-then-write bytes out b n e =
     let fit = capture-fit bytes n in
@@ -221,4 +233,4 @@ open-then-write bytes out b n e =
     let m : length (listIn bytes) ≡ doubtIn bytes = list-long bytes b fit in
     ap (λ (o : Outcome). writeOf (o .book) out) (fit .opens)
     ∙ write-accepted (bookIn bytes) out (omega arith) (none-missing bytes fit)
-    ∙ ap (λ (l : List ℕ). record { number = accepted; bytes = l }) (all-bytes bytes b fit)
+    ∙ ap (λ (o : Outcome). record { number = accepted; bytes = captureOf (o .book) }) (sym (fit .opens))

@@ -3,12 +3,11 @@
 --   headLength d             5 + d: the bytes before the records, where d places are doubtful
 --   headBytes rate list      version, length, rate, d and the d doubtful places
 --   recordBytes p column     a place and its 32 cost bytes
---   wrapped arrival          the places modulo 64: no session from opening has one above 63
---   rowOf arrival costs n    the first n of them, with their columns in the table
+--   rowOf costs n            the places below n, rising, with their columns in the table
 --   Writing s before r after   writing the session s into a buffer: of a good session the number and the buffer afterwards are the book's; whatever
 --                            the session, a refused call leaves the buffer as it was, and the buffer keeps its length
 use mathlib.Core.Path.{_≡_}
-use mathlib.Core.List.{List, _∷_, map}
+use mathlib.Core.List.{List, _∷_}
 use Prim.Native.Nat.{ℕ, _+_, _/_, _%_}
 use lib.ListN.{length}
 use Rattle.refusals.specs.Refusal.{accepted}
@@ -16,7 +15,6 @@ use Rattle.lists.specs.Listed.{listed}
 use Rattle.book.specs.Book.{Entry}
 use Rattle.book.specs.Capture.{bodyLength, costBytes}
 use Rattle.book.specs.Writing.{writeOf}
-use Rattle.book.specs.Here.{places}
 use Rattle.session.specs.declared.Session.{Session}
 use Rattle.session.specs.View.{entryAt, bookOf, Good}
 
@@ -29,11 +27,8 @@ headBytes rate list = 1 ∷ bodyLength (length list) / 256 ∷ bodyLength (lengt
 unfoldable pub recordBytes : ℕ → List ℕ → List ℕ
 recordBytes p column = p ∷ costBytes column
 
-unfoldable pub wrapped : List ℕ → List ℕ
-wrapped arrival = map (λ p. p % places) arrival
-
-unfoldable pub rowOf : List ℕ → List ℕ → ℕ → List Entry
-rowOf arrival costs n = listed n (entryAt (wrapped arrival) costs)
+unfoldable pub rowOf : List ℕ → ℕ → List Entry
+rowOf costs n = listed n (entryAt costs)
 
 pub record Writing (s : Session) (before : List ℕ) (r : ℕ) (after : List ℕ) : Type 0 where
   pub number : Good s → r ≡ writeOf (bookOf s) before .number

@@ -1,20 +1,28 @@
 -- What the contracts of writing and of opening a capture say together, of whatever code meets them.
 --
---   write-then-open      writing a good session, where it is accepted, and then opening what was written gives that session: the same rate, list
---                        and columns, accepted in the same order
---   open-then-write      opening an accepted capture and then writing into a buffer of its size gives its bytes again
+--   write-then-open      writing a good session, where it is accepted, and then opening what was written gives that session
+--   open-then-write      opening an accepted capture and then writing into a buffer of its size is accepted, and gives its bytes again exactly if its
+--                        records are in place order
 --   refused-fresh        a refused opening hands back a new session of rate 39 with an empty doubtful list
 use mathlib.Core.Bool.{true}
 use mathlib.Core.Path.{_≡_, sym, ap, _∙_}
 use mathlib.Core.List.{List, []}
+use mathlib.Core.Logic.{_↔_}
 use Prim.Native.Nat.{ℕ}
 use lib.ListN.{length}
 use Rattle.refusals.specs.Refusal.{accepted}
 use Rattle.lists.specs.Distinct.{below}
-use Rattle.book.specs.Book.{Book, Outcome}
+use Rattle.book.specs.Model.{modem64}
+use Rattle.book.specs.Book.{Outcome}
+use Rattle.book.specs.Columns.{agree-sym, agree-trans, agree-path}
+use Rattle.book.specs.Capture.{captureOf}
 use Rattle.book.specs.Writing.{Filled, writeOf}
-use Rattle.book.specs.CaptureOpening.{openCaptureOf}
+use Rattle.book.specs.CaptureOpening.{recordsIn, openCaptureOf}
 use Rattle.book.specs.CaptureCases.{capture-refused}
+use Rattle.book.specs.PlaceOrder.{InPlaceOrder, order-agree}
+use Rattle.book.specs.RoundTrip.{write-whole, written-opened}
+use Rattle.book.specs.AlikeCalls.{writing-alike}
+use Rattle.book.specs.Here.{ordered}
 use Rattle.session.specs.declared.Session.{Session}
 use Rattle.session.specs.declared.Opened.{Opened}
 use Rattle.session.specs.View.{newSession, bookOf, Good}
@@ -26,27 +34,35 @@ pub write-then-open : (s : Session) (before after : List ℕ) (r : ℕ) (o : Ope
     → Opening (openCaptureOf after) o → (o .refusal ≡ accepted) × (o .session ≡ s)
 write-then-open s before after r o good w n d = (
   d .number ∙ ap (λ (x : Outcome). x .number) again,
-  one-session (o .session) s (d .good) good (d .book ∙ ap (λ (x : Outcome). x .book) again),
+  one-session (o .session) s (d .good) good
+      (agree-trans (d .book)
+      (agree-trans (agree-path (ap (λ (x : Outcome). x .book) again))
+      (order-agree modem64 (bookOf s) (good-proper s good) (write-whole (bookOf s) before written .1)))),
 )
   where
-    again : openCaptureOf after ≡ record { number = accepted; book = bookOf s }
-    again =
-        ap openCaptureOf (w .bytes good)
-        ∙ Rattle.book.specs.RoundTrip.write-then-open (bookOf s) before (good-proper s good) (sym (w .number good) ∙ n)
+    written : writeOf (bookOf s) before .number ≡ accepted
+    written = sym (w .number good) ∙ n
+
+    again : openCaptureOf after ≡ record { number = accepted; book = ordered (bookOf s) }
+    again = ap openCaptureOf (w .bytes good) ∙ Rattle.book.specs.RoundTrip.write-then-open (bookOf s) before (good-proper s good) written
 
 pub open-then-write : (bytes before after : List ℕ) (r : ℕ) (o : Opened) → below 256 bytes ≡ true → Opening (openCaptureOf bytes) o
-    → o .refusal ≡ accepted → length before ≡ length bytes → Writing (o .session) before r after → (r ≡ accepted) × (after ≡ bytes)
+    → o .refusal ≡ accepted → length before ≡ length bytes → Writing (o .session) before r after
+    → (r ≡ accepted) × ((after ≡ bytes) ↔ InPlaceOrder (recordsIn bytes))
 open-then-write bytes before after r o b d n e w =
-    (w .number (d .good) ∙ ap (λ (f : Filled). f .number) again, w .bytes (d .good) ∙ ap (λ (f : Filled). f .bytes) again)
-  where
-    again : writeOf (bookOf (o .session)) before ≡ record { number = accepted; bytes = bytes }
-    again =
-        ap (λ (x : Book). writeOf x before) (d .book)
-        ∙ Rattle.book.specs.RoundTrip.open-then-write bytes before b (sym (d .number) ∙ n) e
+    let opened : openCaptureOf bytes .number ≡ accepted = sym (d .number) ∙ n in
+    let again : writeOf (bookOf (o .session)) before ≡ record { number = accepted; bytes = captureOf (openCaptureOf bytes .book) } =
+    writing-alike (d .book) before ∙ Rattle.book.specs.RoundTrip.open-then-write bytes before b opened e in
+    let written : after ≡ captureOf (openCaptureOf bytes .book) = w .bytes (d .good) ∙ ap (λ (f : Filled). f .bytes) again in
+    let order = written-opened bytes b opened in (
+      w .number (d .good) ∙ ap (λ (f : Filled). f .number) again,
+      (λ same. order .0 (sym written ∙ same), λ rises. written ∙ order .1 rises),
+    )
 
 pub refused-fresh : (bytes : List ℕ) (o : Opened) → Opening (openCaptureOf bytes) o → (o .refusal ≡ accepted → ⊥) → o .session ≡ newSession 39 []
 unfolding refusedWith
 refused-fresh bytes o d n =
     let k : ℕ = openCaptureOf bytes .number in
     one-session (o .session) (newSession 39 []) (d .good) (refused-opens k .good)
-    (d .book ∙ ap (λ (x : Outcome). x .book) (capture-refused bytes (λ e. n (d .number ∙ e))) ∙ sym (refused-opens k .book))
+    (agree-trans (d .book)
+    (agree-trans (agree-path (ap (λ (x : Outcome). x .book) (capture-refused bytes (λ e. n (d .number ∙ e))))) (agree-sym (refused-opens k .book))))

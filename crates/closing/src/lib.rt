@@ -1,6 +1,5 @@
 // Closing a session: document 01's checks in their order, and then decoding by the session's table and doubtful list.
 // It knows of no codeword: what is near is `decoding`'s.
-use columns::costs::PLACES;
 use decoding::decode;
 use doubt::MOST_DOUBT;
 use refusals::ACCEPTED;
@@ -22,7 +21,8 @@ pub fn close(session: Session, message: &mut [u8], report: &mut [u8]) -> u8
     if report.len() != REPORT_BYTES {
         return WRONG_SIZE;
     }
-    if session.taken < PLACES {
+    let taken = session.taken;
+    if !session::all_taken(taken) {
         return PLACE_MISSING;
     }
     let doubt = session.doubt;

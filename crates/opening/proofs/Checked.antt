@@ -1,6 +1,6 @@
 -- The checks of an opening of a capture: each return of the code is a case of it.
 use mathlib.Core.Bool.{true, _&&_, and-false}
-use mathlib.Core.Path.{_≡_, sym, ap, ap₂, _∙_, subst}
+use mathlib.Core.Path.{_≡_, sym, ap, _∙_, subst}
 use mathlib.Core.List.{List}
 use Prim.Native.Nat.{ℕ, _+_, _-_, _<_, _≤_}
 use native.Mathlib.Omega.{arith}
@@ -9,16 +9,19 @@ use lib.ListN.{length, getD, take, drop}
 use borrow.Author.Tests.{le-leb, lt-leb, eq-eqb, ne-eqb}
 use Rattle.refusals.specs.Refusal.{accepted, wrongVersion, wrongLength}
 use Rattle.lists.specs.Distinct.{and-both}
-use Rattle.book.specs.Book.{Book, Outcome}
+use Rattle.book.specs.Model.{modem64}
+use Rattle.book.specs.Columns.{agree-sym}
 use Rattle.book.specs.Capture.{bodyLength, recordsOf}
 use Rattle.book.specs.CaptureOpening.{rateIn, doubtIn, recordsIn, sizeFits, versionFits, lengthIn, lengthFits, openWith, openCaptureOf}
 use Rattle.book.specs.CaptureCases.{open-size, open-version, open-length, open-checked, with-on, with-refused}
+use Rattle.book.specs.AlikeDelivery.{agreed-path, agreed-trans, row-alike}
 use Rattle.book.specs.Here.{places, deliverRow}
 use Rattle.session.specs.declared.Opened.{Opened}
 use Rattle.session.specs.View.{bookOf}
 use Rattle.session.specs.Calls.{refusedWith, openedOf, Opening}
 use Rattle.session.specs.Laws.{refused-opens, opens}
 use Rattle.capture.specs.Rest.{rest-whole}
+use Rattle.opening.proofs.Delivering.{opening-agreed}
 
 module _ (bytes : List ℕ) where
   pub too-short : length bytes < 2117 → Opening (openCaptureOf bytes) (refusedWith wrongLength)
@@ -87,9 +90,9 @@ module _ (bytes : List ℕ) where
             → Opening (deliverRow (bookOf (openedOf (rateIn bytes) list .session)) (recordsOf places rest)) r
             → Opening (openCaptureOf bytes) r
         delivering rest r n e d =
-            let q : rest ≡ drop (5 + doubtIn bytes) bytes =
-            e ∙ rest-whole (5 + doubtIn bytes) bytes in
-            subst (λ (o : Outcome). Opening o r)
-            (ap₂ (λ (b : Book) (l : List ℕ). deliverRow b (recordsOf places l)) (opens (rateIn bytes) list .book) q
-            ∙ sym (checked ∙ with-on (rateIn bytes) list (recordsIn bytes) (sym (opens (rateIn bytes) list .number) ∙ n)))
-            d
+            let q : rest ≡ drop (5 + doubtIn bytes) bytes = e ∙ rest-whole (5 + doubtIn bytes) bytes in
+            let o = opens (rateIn bytes) list in
+            opening-agreed
+            (agreed-trans (agreed-path (checked ∙ with-on (rateIn bytes) list (recordsIn bytes) (sym (o .number) ∙ n)))
+            (row-alike modem64 (agree-sym (o .book)) (recordsIn bytes)))
+            (subst (λ (l : List ℕ). Opening (deliverRow (bookOf (openedOf (rateIn bytes) list .session)) (recordsOf places l)) r) q d)

@@ -1,4 +1,4 @@
--- The loop that delivers the records of a capture: what is left to deliver answers as the whole row does.
+-- The loop that delivers the records of a capture: the outcome of what is left to deliver agrees with that of the whole row.
 use mathlib.Core.Path.{_≡_, refl, sym, ap, ap₂, _∙_}
 use mathlib.Core.List.{List, [], _∷_}
 use Prim.Native.Nat.{ℕ, suc, _+_, _-_, _*_, _<_, _≤_}
@@ -9,10 +9,13 @@ use Rattle.refusals.specs.Refusal.{accepted}
 use Rattle.book.specs.Model.{modem64}
 use Rattle.book.specs.Book.{Entry, Outcome}
 use Rattle.book.specs.Capture.{recordLength, recordsOf}
-use Rattle.book.specs.Here.{places, width, deliverRow}
+use Rattle.book.specs.Here.{places, width, refusedOpening, deliverRow}
+use Rattle.book.specs.Columns.{agree-refl, agree-sym, agree-trans}
 use Rattle.book.specs.RowDelivery.{row-none, row-on, row-refused}
+use Rattle.book.specs.AlikeDelivery.{Agreed, agreed-path, agreed-trans, row-alike}
 use Rattle.soft.specs.Column.{costsFrom}
 use Rattle.session.specs.declared.Session.{Session}
+use Rattle.session.specs.declared.Opened.{Opened}
 use Rattle.session.specs.declared.Delivered.{Delivered}
 use Rattle.session.specs.View.{bookOf, Good}
 use Rattle.session.specs.Calls.{refusedWith, Opening, Delivery}
@@ -48,8 +51,13 @@ whole start records = deliverRow (bookOf start) (recordsOf places records)
 abbrev left : Session → List ℕ → ℕ → Outcome
 left current records i = deliverRow (bookOf current) (recordsOf (places - i) (drop (recordLength * i) records))
 
+-- an opening by an outcome that agrees with another is one by that
+pub opening-agreed : {o q : Outcome} {r : Opened} → Agreed o q → Opening q r → Opening o r
+opening-agreed a d =
+    record { number = d .number ∙ sym (a .same-number); book = agree-trans (d .book) (agree-sym (a .same-book)); good = d .good }
+
 module _ (start current : Session) (records column : List ℕ) (i : ℕ) (r : Delivered) (h : i < places) (good : Good current)
-    (same : whole start records ≡ left current records i)
+    (same : Agreed (whole start records) (left current records i))
     (read : column ≡ costsFrom width (take (recordLength * i + recordLength - (recordLength * i + 1)) (drop (recordLength * i + 1) records)))
     (d : Delivery current (getD records (recordLength * i) 0) column r) where
   entry : Entry
@@ -58,28 +66,35 @@ module _ (start current : Session) (records column : List ℕ) (i : ℕ) (r : De
   rest : List Entry
   rest = recordsOf (places - (i + 1)) (drop (recordLength * (i + 1)) records)
 
-  next : whole start records ≡ deliverRow (bookOf current) (entry ∷ rest)
+  next : Agreed (whole start records) (deliverRow (bookOf current) (entry ∷ rest))
   unfolding entry rest
   next =
-      same
-      ∙ ap (deliverRow (bookOf current))
+      agreed-trans same
+      (agreed-path
+      (ap (deliverRow (bookOf current))
       (record-step records i h
-      ∙ ap (λ (c : List ℕ). record { place = getD records (recordLength * i) 0; column = c } ∷ rest) (sym read))
+      ∙ ap (λ (c : List ℕ). record { place = getD records (recordLength * i) 0; column = c } ∷ rest) (sym read))))
 
-  pub turn : r .refusal ≡ accepted → whole start records ≡ left (r .session) records (i + 1)
+  pub turn : r .refusal ≡ accepted → Agreed (whole start records) (left (r .session) records (i + 1))
   unfolding entry rest
   turn n =
-      next ∙ row-on modem64 (bookOf current) entry rest (sym (d .number good) ∙ n)
-      ∙ ap (λ b. deliverRow b rest) (sym (d .book good))
+      agreed-trans next
+      (agreed-trans (agreed-path (row-on modem64 (bookOf current) entry rest (sym (d .number good) ∙ n)))
+      (row-alike modem64 (agree-sym (d .book good)) rest))
 
   pub stop : (r .refusal ≡ accepted → ⊥) → Opening (whole start records) (refusedWith (r .refusal))
   unfolding entry rest
   stop n =
-      rw (next, row-refused modem64 (bookOf current) entry rest (λ e. n (d .number good ∙ e)), ← d .number good) (refused-opens (r .refusal))
+      opening-agreed
+      (agreed-trans next
+      (agreed-path (row-refused modem64 (bookOf current) entry rest (λ e. n (d .number good ∙ e)) ∙ ap refusedOpening (sym (d .number good)))))
+      (refused-opens (r .refusal))
 
-pub finish : (start current : Session) (records : List ℕ) (i : ℕ) → places ≤ i → Good current → whole start records ≡ left current records i
+pub finish : (start current : Session) (records : List ℕ) (i : ℕ) → places ≤ i → Good current
+    → Agreed (whole start records) (left current records i)
     → Opening (whole start records) (record { refusal = accepted; session = current })
 finish start current records i h good same =
     let n : places - i ≡ 0 = omega arith in
-    rw (same, n, no-records-left (drop (recordLength * i) records), row-none modem64 (bookOf current))
-    (record { number = refl; book = refl; good = good })
+    opening-agreed same
+    (rw (n, no-records-left (drop (recordLength * i) records), row-none modem64 (bookOf current))
+    (record { number = refl; book = agree-refl (bookOf current); good = good }))

@@ -24,19 +24,19 @@ use Rattle.book.specs.Reading.{isSettled, settledAt, settledBelow, settledOf}
 use Rattle.book.specs.Here.{places}
 use Rattle.session.specs.declared.Session.{Session}
 use Rattle.session.specs.View.{bookOf, Good}
-use Rattle.session.specs.Table.{settled-arrived, settled-table}
-use Rattle.reading.specs.Flags.{flagOf}
+use Rattle.session.specs.Table.{settled-taken, settled-table}
+use Rattle.reading.specs.Flags.{flagOf, flagAt}
 
-module _ (arrived doubtful : List ℕ) (p : ℕ) where
-  pub flag-away : among p arrived ≡ false → 0 ≡ flagOf arrived doubtful p
+module _ (there : Bool) (doubtful : List ℕ) (p : ℕ) where
+  pub flag-away : there ≡ false → 0 ≡ flagOf there doubtful p
   unfolding flagOf
   flag-away e = rw e
 
-  pub flag-doubtful : among p arrived ≡ true → among p doubtful ≡ true → 0 ≡ flagOf arrived doubtful p
+  pub flag-doubtful : there ≡ true → among p doubtful ≡ true → 0 ≡ flagOf there doubtful p
   unfolding flagOf
   flag-doubtful e d = rw (e, d)
 
-  pub flag-settled : among p arrived ≡ true → among p doubtful ≡ false → 1 ≡ flagOf arrived doubtful p
+  pub flag-settled : there ≡ true → among p doubtful ≡ false → 1 ≡ flagOf there doubtful p
   unfolding flagOf
   flag-settled e d = rw (e, d)
 
@@ -45,14 +45,14 @@ bit-one true = refl
 bit-one false = refl
 
 module _ (s : Session) (good : Good s) (word flags : List ℕ) (w : word ≡ bestWord places (columnOf symbols (s .costs)))
-    (f : flags ≡ listed places (flagOf (take (s .taken) (s .arrival)) (take (s .doubt) (s .doubtful)))) where
+    (f : flags ≡ listed places (flagAt (s .taken) (take (s .doubt) (s .doubtful)))) where
   flagged : (p : ℕ) → p < places → eqb (getD flags p 0) 1 ≡ isSettled (bookOf s) p
-  unfolding flagOf
+  unfolding flagOf flagAt
   flagged p h =
       ap (λ x. eqb x 1)
-      (ap (λ (l : List ℕ). getD l p 0) f ∙ listed-at places p (flagOf (take (s .taken) (s .arrival)) (take (s .doubt) (s .doubtful))) 0 h)
-      ∙ bit-one (among p (take (s .taken) (s .arrival)) && not (among p (take (s .doubt) (s .doubtful))))
-      ∙ sym (settled-arrived s good p)
+      (ap (λ (l : List ℕ). getD l p 0) f ∙ listed-at places p (flagAt (s .taken) (take (s .doubt) (s .doubtful))) 0 h)
+      ∙ bit-one (getD (s .taken) p false && not (among p (take (s .doubt) (s .doubtful))))
+      ∙ sym (settled-taken s good p)
 
   noded : (p : ℕ) → p < places → node p (getD word p 0) ≡ settledAt (bookOf s) p
   noded p h =

@@ -4,13 +4,12 @@ ghost use mathlib.Core.Path.{_≡_};
 ghost use Rattle.lists.specs.Listed.{listed};
 ghost use Rattle.book.specs.Here.{places};
 ghost use Rattle.session.specs.Answering.{Reading};
-ghost use Rattle.reading.specs.Flags.{flagOf};
+ghost use Rattle.reading.specs.Flags.{flagOf, flagAt};
 use doubt::MOST_DOUBT;
 use interpolation::PLACES;
 use interpolation::READING;
 use lists::copy;
 use refusals::ACCEPTED;
-use refusals::PLACE_TAKEN;
 use refusals::UNKNOWN_RATE;
 use refusals::WRONG_DOUBT;
 use refusals::WRONG_SIZE;
@@ -20,10 +19,10 @@ use session::Session;
 const M_ABOVE_RATE: usize = 5;
 
 // 1 for a settled place that is taken, else 0.
-fn flag(arrived: &[u8], doubtful: &[u8], place: usize) -> u8
-    ensures { λ r. ⌜ r ≡ flagOf (now (arrived .entry)) (now (doubtful .entry)) place ⌝ }
+fn flag(there: bool, doubtful: &[u8], place: usize) -> u8
+    ensures { λ r. ⌜ r ≡ flagOf there (now (doubtful .entry)) place ⌝ }
 {
-    if !session::is_among(place, arrived) {
+    if !there {
         return 0;
     }
     if session::is_among(place, doubtful) {
@@ -32,13 +31,13 @@ fn flag(arrived: &[u8], doubtful: &[u8], place: usize) -> u8
     1
 }
 
-fn flags(arrived: &[u8], doubtful: &[u8]) -> [u8; PLACES]
-    ensures { λ r. ⌜ r ≡ listed places (flagOf (now (arrived .entry)) (now (doubtful .entry))) ⌝ }
+fn flags(taken: [bool; PLACES], doubtful: &[u8]) -> [u8; PLACES]
+    ensures { λ r. ⌜ r ≡ listed places (flagAt taken (now (doubtful .entry))) ⌝ }
 {
     let mut out = [0u8; PLACES];
     let mut place = 0;
     while place < PLACES {
-        out[place] = flag(arrived, doubtful, place);
+        out[place] = flag(taken[place], doubtful, place);
         place += 1;
     }
     out
@@ -55,19 +54,15 @@ pub fn read_interpolant(session: Session, out: &mut [u8]) -> u8
     if !encoding::known_rate(rate) {
         return UNKNOWN_RATE;
     }
-    let taken = session.taken;
-    if PLACES < taken {
-        return PLACE_TAKEN;
-    }
     let doubt = session.doubt;
     if MOST_DOUBT < doubt {
         return WRONG_DOUBT;
     }
-    let arrival = session.arrival;
+    let taken = session.taken;
     let doubtful = session.doubtful;
     let costs = session.costs;
     let word = columns::word::best_word(&costs);
-    let settled = flags(&arrival[..taken], &doubtful[..doubt]);
+    let settled = flags(taken, &doubtful[..doubt]);
     let bytes = interpolation::reading::reading(word, settled, rate + M_ABOVE_RATE);
     copy(&bytes, out);
     ACCEPTED

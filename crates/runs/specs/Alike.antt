@@ -1,35 +1,32 @@
--- 'Two sessions so reached that agree in rate, doubtful list, places taken and the columns held for these read and close alike.'
+-- 'Two sessions so reached that agree in rate, doubtful list, places taken and the columns held for these read, write and close alike', in whichever order
+-- their places arrived.
 --
 --   Reached t            the session t is left by a list of calls from a session that an accepted opening returned; reached-good: such a session is good
 --   SameHeld s t         they agree in rate, doubtful list, places taken and the columns held for these
 --   held-agree           so their books agree
---   Alike s t            they read and close alike: the same lent buffers get the same numbers and bytes from either
+--   Alike s t            they read, write and close alike: the same lent buffers get the same numbers and bytes from either
 --   alike                so do two sessions so reached that hold the same
 use mathlib.Core.Bool.{Bool, true, false}
 use mathlib.Core.Path.{_≡_, refl, sym, ap, _∙_}
-use mathlib.Core.List.{List, []}
+use mathlib.Core.List.{List}
 use mathlib.Core.Option.{some, none}
 use Prim.Native.Nat.{ℕ, _<_}
 use native.Mathlib.Decide.{decLt}
 use native.Mathlib.Omega.{arith}
-use lib.ListN.{take}
-use Rattle.lists.specs.Distinct.{among}
+use lib.ListN.{take, getD}
 use Rattle.lists.specs.Block.{block}
 use Rattle.book.specs.Model.{modem64}
 use Rattle.book.specs.Book.{Book, columnIn}
 use Rattle.book.specs.Columns.{column-free, Agree}
 use Rattle.book.specs.RowLaws.{none-above}
-use Rattle.book.specs.Writing.{Filled}
-use Rattle.book.specs.Closing.{Closed}
 use Rattle.book.specs.AnyCalls.{Answer}
-use Rattle.book.specs.Calls.{Call, reading, closing, answer}
-use Rattle.book.specs.Sentences.{closing-alike}
+use Rattle.book.specs.Calls.{Call, reading, writing, closing}
+use Rattle.book.specs.AlikeCalls.{answer-alike}
 use Rattle.book.specs.Here.{places, width}
-use Rattle.book.specs.ReadingSentences.{reading-alike}
 use Rattle.session.specs.declared.Session.{Session}
 use Rattle.session.specs.View.{bookOf, Good}
 use Rattle.session.specs.Laws.{book-taken, column-there, good-proper}
-use Rattle.runs.specs.Step.{Step, answerWith}
+use Rattle.runs.specs.Step.{Step}
 use Rattle.runs.specs.Runs.{Run, run-good}
 use Rattle.runs.specs.Follows.{Start, start-good}
 
@@ -42,10 +39,10 @@ reached-good (reached start run) = run-good run (start-good start)
 pub record SameHeld (s t : Session) : Type 0 where
   pub same-rate : s .rate ≡ t .rate
   pub same-list : take (s .doubt) (s .doubtful) ≡ take (t .doubt) (t .doubtful)
-  pub same-taken : (p : ℕ) → p < places → among p (take (s .taken) (s .arrival)) ≡ among p (take (t .taken) (t .arrival))
-  pub same-columns : (p : ℕ) → p < places → among p (take (s .taken) (s .arrival)) ≡ true → block width p (s .costs) ≡ block width p (t .costs)
+  pub same-taken : (p : ℕ) → p < places → getD (s .taken) p false ≡ getD (t .taken) p false
+  pub same-columns : (p : ℕ) → p < places → getD (s .taken) p false ≡ true → block width p (s .costs) ≡ block width p (t .costs)
 
-free : (s : Session) → Good s → (p : ℕ) → among p (take (s .taken) (s .arrival)) ≡ false → columnIn (bookOf s .row) p ≡ none
+free : (s : Session) → Good s → (p : ℕ) → getD (s .taken) p false ≡ false → columnIn (bookOf s .row) p ≡ none
 free s good p e = column-free (bookOf s .row) p (book-taken s good p ∙ e)
 
 pub held-agree : {s t : Session} → Good s → Good t → SameHeld s t → Agree (bookOf s) (bookOf t)
@@ -54,11 +51,10 @@ held-agree {s} {t} a b same =
     record {
       same-rate = same .same-rate;
       same-list = same .same-list;
-      same-columns = λ p. go p (decLt p places) (among p (take (s .taken) (s .arrival))) refl;
+      same-columns = λ p. go p (decLt p places) (getD (s .taken) p false) refl;
     }
   where
-    go : (p : ℕ) → Dec (p < places) → (x : Bool) → among p (take (s .taken) (s .arrival)) ≡ x
-        → columnIn (bookOf s .row) p ≡ columnIn (bookOf t .row) p
+    go : (p : ℕ) → Dec (p < places) → (x : Bool) → getD (s .taken) p false ≡ x → columnIn (bookOf s .row) p ≡ columnIn (bookOf t .row) p
     go p (yes h) true e =
         column-there s a p e ∙ ap some (same .same-columns p h e) ∙ sym (column-there t b p (sym (same .same-taken p h) ∙ e))
     go p (yes h) false e = free s a p e ∙ sym (free t b p (sym (same .same-taken p h) ∙ e))
@@ -67,18 +63,16 @@ held-agree {s} {t} a b same =
 
 pub record Alike (s t : Session) : Type 0 where
   pub read-alike : {out : List ℕ} {a b : Answer} {u v : Session} → Step s (reading out) a u → Step t (reading out) b v → a ≡ b
+  pub write-alike : {out : List ℕ} {a b : Answer} {u v : Session} → Step s (writing out) a u → Step t (writing out) b v → a ≡ b
   pub close-alike : {message report : List ℕ} {a b : Answer} {u v : Session} → Step s (closing message report) a u
       → Step t (closing message report) b v → a ≡ b
 
 good-alike : {s t : Session} → Good s → Good t → Agree (bookOf s) (bookOf t) → Alike s t
-unfolding answer
-good-alike {s} {t} a b same =
+good-alike a b same =
     record {
-      read-alike = λ {out} x y.
-          x .answered a ∙ ap (λ (f : Filled). answerWith (f .number) (f .bytes) []) (reading-alike same out) ∙ sym (y .answered b);
-      close-alike = λ {message} {report} x y.
-          x .answered a ∙ ap (λ (c : Closed). answerWith (c .number) (c .message) (c .report)) (closing-alike modem64 same message report)
-          ∙ sym (y .answered b);
+      read-alike = λ {out} x y. x .answered a ∙ answer-alike same (reading out) ∙ sym (y .answered b);
+      write-alike = λ {out} x y. x .answered a ∙ answer-alike same (writing out) ∙ sym (y .answered b);
+      close-alike = λ {message} {report} x y. x .answered a ∙ answer-alike same (closing message report) ∙ sym (y .answered b);
     }
 
 pub alike : {s t : Session} → Reached s → Reached t → SameHeld s t → Alike s t

@@ -7,18 +7,22 @@
 --
 -- It speaks of runs, whose steps are what the contract of `step` says of every call that it makes (Step, Stepping), and of openings (Start), which are what
 -- the contracts of `open` and `open_capture` say. A book with its reach T is one of rate 39 with T = 6 or of rate 49 with T = 1.
+use mathlib.Core.Bool.{true}
 use mathlib.Core.Path.{_≡_}
 use mathlib.Core.List.{List}
 use mathlib.Core.Logic.{_↔_, _≢_, _⊎_}
 use Prim.Native.Nat.{ℕ}
 use lib.ListN.{length}
 use Rattle.refusals.specs.Refusal.{accepted, placeMissing, noneNear}
+use Rattle.lists.specs.Distinct.{below}
 use Rattle.book.specs.Book.{Book}
+use Rattle.book.specs.Columns.{Agree}
+use Rattle.book.specs.PlaceOrder.{InPlaceOrder}
 use Rattle.book.specs.Delivery.{withEntry}
-use Rattle.book.specs.CaptureOpening.{openCaptureOf}
+use Rattle.book.specs.CaptureOpening.{recordsIn, openCaptureOf}
 use Rattle.book.specs.OpeningLaws.{Rate}
 use Rattle.book.specs.AnyCalls.{Answer}
-use Rattle.book.specs.Calls.{Call, deliver, closing, firstLent, secondLent, answer, after, answers, afterAll}
+use Rattle.book.specs.Calls.{Call, deliver, writing, closing, firstLent, secondLent, answer, after, answers, afterAll}
 use Rattle.book.specs.Here.{openOf, reportLength, Missing, DoubtfulList, IsNear, IsAnswer, Closes}
 use Rattle.book.specs.CallLaws as laws
 use Rattle.book.specs.CallLaws.{AllFit}
@@ -29,6 +33,7 @@ use Rattle.session.specs.Calls.{Opening}
 use Rattle.runs.specs.Step.{Step}
 use Rattle.runs.specs.Runs.{Run}
 use Rattle.runs.specs.Follows.{closedBy, Start, opening-accepted, start-follows, CaptureStarts, capture-starts}
+use Rattle.runs.specs.Shown.{run-writes, capture-written}
 use Rattle.runs.specs.Alike as agreeing
 use Rattle.runs.specs.Alike.{Reached, SameHeld, Alike}
 
@@ -44,9 +49,9 @@ pub record Demand3 : Type 0 where
   -- whatever order, each answer and each lent buffer afterwards are those of document 01's book.'
   pub answered : {T : ℕ} {book : Book} {s t : Session} {calls : List Call} {given : List Answer} → Start T book s → Run s calls given t
       → given ≡ answers book calls
-  -- so is the session left: it is good and stands for the book after the calls, and the calls determine it
+  -- so is the session left: it is good, its book agrees with the book after the calls, and the calls determine it
   pub left : {T : ℕ} {book : Book} {s t : Session} {calls : List Call} {given : List Answer} → Start T book s → Run s calls given t
-      → Good t × (bookOf t ≡ afterAll book calls)
+      → Good t × Agree (bookOf t) (afterAll book calls)
   pub one-left : {T : ℕ} {book : Book} {s t u : Session} {calls : List Call} {given other : List Answer} → Start T book s → Run s calls given t
       → Run s calls other u → t ≡ u
   -- and every list of calls can be made
@@ -70,8 +75,16 @@ pub record Demand3 : Type 0 where
       ⊎ ((p : ℕ) × (column : List ℕ) × (call ≡ deliver p column) × (answer book call .number ≡ accepted) × (after book call ≡ withEntry book p column))
   pub refused-kept : (book : Book) (call : Call) → answer book call .number ≢ accepted
       → (answer book call .first ≡ firstLent call) × (answer book call .second ≡ secondLent call)
-  -- 'Two sessions so reached that agree in rate, doubtful list, places taken and the columns held for these read and close alike.'
+  -- 'Two sessions so reached that agree in rate, doubtful list, places taken and the columns held for these read, write and close alike', in whichever
+  -- order their places arrived
   pub alike : {s t : Session} → Reached s → Reached t → SameHeld s t → Alike s t
+  -- document 02: 'The writer shall put records in rising place order'
+  pub in-order : {T : ℕ} {book : Book} {s t : Session} {calls : List Call} {given : List Answer} → Start T book s → Run s calls given t
+      → {out : List ℕ} {a : Answer} {u : Session} → Step t (writing out) a u → a .number ≡ accepted → InPlaceOrder (recordsIn (a .first))
+  -- 'and writing what was read from an accepted capture returns it unchanged exactly if it is in place order'
+  pub unchanged : {bytes out : List ℕ} {r : Opened} {a : Answer} {u : Session} → below 256 bytes ≡ true → Opening (openCaptureOf bytes) r
+      → r .refusal ≡ accepted → Step (r .session) (writing out) a u → length out ≡ length bytes
+      → (a .number ≡ accepted) × ((a .first ≡ bytes) ↔ InPlaceOrder (recordsIn bytes))
 
 closes-after : {T : ℕ} {book : Book} {calls : List Call} {a : Answer} → ClosedAfter T book calls a → Closes (afterAll book calls) T (closedBy a)
 closes-after (closed-after start run step long whole-report) = start-follows start .closed run step long whole-report
@@ -91,4 +104,6 @@ whole =
       only-delivery = laws.only-delivery;
       refused-kept = laws.refused-lent;
       alike = λ x y same. agreeing.alike x y same;
+      in-order = λ start run step n. run-writes start run step n;
+      unchanged = λ small opened n step long. capture-written small opened n step long;
     }

@@ -2,9 +2,9 @@
 --
 --   closedBy a           an answer to closing: its number, and the message and the report afterwards
 --   Follows T s book     in every run from the session s each answer and each lent buffer afterwards are those of the book; the session left is good
---                        and stands for the book after the calls, and the calls determine it; closing after the calls, into buffers of the right
+--                        and its book agrees with the book after the calls, and the calls determine it; closing after the calls, into buffers of the right
 --                        sizes, is early, 'none near' or the answer as document 01 says; and every list of calls has a run
---   good-follows         a good session follows its book
+--   good-follows         a good session follows every book that agrees with its own
 --   opening-accepted     an opening with a rate and a doubtful list accepts
 --   captureBook bytes    the book that opening with a capture's rate and list and then delivering its records in their order gives
 --   new-rate             the rate of a new book
@@ -20,11 +20,13 @@ use lib.ListN.{length}
 use Rattle.refusals.specs.Refusal.{accepted}
 use Rattle.book.specs.Model.{modem64}
 use Rattle.book.specs.Book.{Book, newBook, Outcome}
+use Rattle.book.specs.Columns.{Agree, agree-path, agree-trans}
 use Rattle.book.specs.CaptureOpening.{rateIn, listIn, recordsIn, openCaptureOf}
 use Rattle.book.specs.Closing.{Closed}
 use Rattle.book.specs.OpeningLaws.{Rate, rate-is, known-rate}
 use Rattle.book.specs.AnyCalls.{Answer}
 use Rattle.book.specs.Calls.{Call, closing, answer, answers, afterAll}
+use Rattle.book.specs.AlikeCalls.{answer-alike, answers-alike, afterAll-alike}
 use Rattle.book.specs.Sentences.{opening-accepts, opening-only, closes}
 use Rattle.book.specs.Here.{openOf, reportLength, DoubtfulList, Closes}
 use Rattle.book.specs.CallLaws.{rate-held, AllFit}
@@ -41,32 +43,33 @@ closedBy a = record { number = a .number; message = a .first; report = a .second
 
 pub record Follows (T : ℕ) (s : Session) (book : Book) : Type 0 where
   pub answered : {calls : List Call} {given : List Answer} {t : Session} → Run s calls given t → given ≡ answers book calls
-  pub left : {calls : List Call} {given : List Answer} {t : Session} → Run s calls given t → Good t × (bookOf t ≡ afterAll book calls)
+  pub left : {calls : List Call} {given : List Answer} {t : Session} → Run s calls given t → Good t × Agree (bookOf t) (afterAll book calls)
   pub one-left : {calls : List Call} {given other : List Answer} {t u : Session} → Run s calls given t → Run s calls other u → t ≡ u
   pub closed : {calls : List Call} {given : List Answer} {t : Session} → Run s calls given t
       → {message report : List ℕ} {a : Answer} {u : Session} → Step t (closing message report) a u
       → length message ≡ book .rate → length report ≡ reportLength → Closes (afterAll book calls) T (closedBy a)
   pub not-empty : {calls : List Call} → AllFit calls → (given : List Answer) × (t : Session) × Run s calls given t
 
-module _ {T : ℕ} (s : Session) (good : Good s) (rate : Rate (bookOf s .rate) T) where
+module _ {T : ℕ} {s : Session} {book : Book} (good : Good s) (same : Agree (bookOf s) book) (rate : Rate (book .rate) T) where
+  left-after : {calls : List Call} {given : List Answer} {t : Session} → Run s calls given t → Agree (bookOf t) (afterAll book calls)
+  left-after {calls} run = agree-trans (run-book run good) (afterAll-alike same calls)
+
   closed-after : {calls : List Call} {given : List Answer} {t : Session} → Run s calls given t
       → {message report : List ℕ} {a : Answer} {u : Session} → Step t (closing message report) a u
-      → length message ≡ bookOf s .rate → length report ≡ reportLength → Closes (afterAll (bookOf s) calls) T (closedBy a)
+      → length message ≡ afterAll book calls .rate → length report ≡ reportLength → Closes (afterAll book calls) T (closedBy a)
   unfolding answer
-  closed-after {calls} {given} {t} run {message} {report} {a} step long whole-report =
-      let e : bookOf t ≡ afterAll (bookOf s) calls = run-book run good in
-      let r : bookOf t .rate ≡ bookOf s .rate = ap (λ (b : Book). b .rate) e ∙ rate-held (bookOf s) calls in
-      subst (λ (b : Book). Closes b T (closedBy a)) e
-      (subst (λ (x : Answer). Closes (bookOf t) T (closedBy x)) (sym (step .answered (run-good run good)))
-      (closes modem64 (rate-is (subst (λ k. Rate k T) (sym r) rate)) message report (long ∙ sym r) whole-report))
+  closed-after {calls} run {message} {report} step long whole-report =
+      subst (λ (x : Answer). Closes (afterAll book calls) T (closedBy x))
+      (sym (step .answered (run-good run good) ∙ answer-alike (left-after run) (closing message report)))
+      (closes modem64 (rate-is (subst (λ k. Rate k T) (sym (rate-held book calls)) rate)) message report long whole-report)
 
-  pub good-follows : Follows T s (bookOf s)
+  pub good-follows : Follows T s book
   good-follows =
       record {
-        answered = λ run. every-run run good;
-        left = λ run. (run-good run good, run-book run good);
+        answered = λ {calls} run. every-run run good ∙ answers-alike same calls;
+        left = λ run. (run-good run good, left-after run);
         one-left = λ a b. one-end good a b;
-        closed = λ run step long whole-report. closed-after run step long whole-report;
+        closed = λ {calls} run step long whole-report. closed-after run step (long ∙ sym (rate-held book calls)) whole-report;
         not-empty = λ fit. some-run fit s good;
       }
 
@@ -93,9 +96,10 @@ pub start-good : {T : ℕ} {book : Book} {s : Session} → Start T book s → Go
 start-good (by-opening known fit opened) = opened .good
 start-good (by-capture bytes known opened n) = opened .good
 
-start-book : {T : ℕ} {book : Book} {s : Session} → Start T book s → bookOf s ≡ book
-start-book (by-opening known fit opened) = opened .book ∙ ap (λ (x : Outcome). x .book) (opening-accepts modem64 (rate-is known) fit)
-start-book (by-capture bytes known opened n) = opened .book ∙ capture-opens bytes (sym (opened .number) ∙ n) .delivered
+start-agree : {T : ℕ} {book : Book} {s : Session} → Start T book s → Agree (bookOf s) book
+start-agree (by-opening known fit opened) =
+    agree-trans (opened .book) (agree-path (ap (λ (x : Outcome). x .book) (opening-accepts modem64 (rate-is known) fit)))
+start-agree (by-capture bytes known opened n) = agree-trans (opened .book) (agree-path (capture-opens bytes (sym (opened .number) ∙ n) .delivered))
 
 start-rate : {T : ℕ} {book : Book} {s : Session} → Start T book s → Rate (book .rate) T
 start-rate (by-opening {rate = rate} {T = T} {list = list} known fit opened) = subst (λ k. Rate k T) (sym (new-rate rate list)) known
@@ -104,9 +108,7 @@ start-rate (by-capture {T = T} bytes known opened n) =
     (sym (rate-held (newBook (rateIn bytes) (listIn bytes)) (deliveries (recordsIn bytes)) ∙ new-rate (rateIn bytes) (listIn bytes))) known
 
 pub start-follows : {T : ℕ} {book : Book} {s : Session} → Start T book s → Follows T s book
-start-follows {T} {book} {s} start =
-    let e : bookOf s ≡ book = start-book start in
-    subst (Follows T s) e (good-follows s (start-good start) (subst (λ (b : Book). Rate (b .rate) T) (sym e) (start-rate start)))
+start-follows start = good-follows (start-good start) (start-agree start) (start-rate start)
 
 pub record CaptureStarts (bytes : List ℕ) (r : Opened) : Type 0 where
   pub reach : ℕ

@@ -3,7 +3,7 @@
 --   Run s calls given t     the calls are given these answers from the session s, and the session t is left
 --   faithful             steps from good sessions answer and leave as the book says
 --   every-run            from a good session the answers of every run are the book's
---   run-good, run-book   the session left is good, and its book is the book after the calls
+--   run-good, run-book   the session left is good, and its book agrees with the book after the calls
 --   one-end              so the calls determine the session left
 --   some-step, some-run  every call whose column is one, and every list of them, can be made on every good session: the theorems are not empty
 --
@@ -15,11 +15,11 @@ use mathlib.Core.List.{List}
 use Prim.Native.Nat.{ℕ, _<_}
 use native.Mathlib.Decide.{decLt, ℕ-discrete}
 use native.Mathlib.Omega.{arith}
-use lib.ListN.{length, take}
-use Rattle.lists.specs.Distinct.{among}
+use lib.ListN.{length, getD}
 use Rattle.book.specs.Machine as machine
 use Rattle.book.specs.Model.{modem64}
 use Rattle.book.specs.Book.{Book}
+use Rattle.book.specs.Columns.{Agree}
 use Rattle.book.specs.ReadingLaws.{read-sized}
 use Rattle.book.specs.Writing.{Filled, writeOf}
 use Rattle.book.specs.Capture.{captureLength}
@@ -27,44 +27,44 @@ use Rattle.book.specs.RoundTrip.{capture-length, write-size, write-missing, wri
 use Rattle.book.specs.ClosingLaws.{close-sized}
 use Rattle.book.specs.AnyCalls.{Answer}
 use Rattle.book.specs.Calls.{Call, deliver, reading, writing, closing, firstLent, secondLent, answer, after, answers, afterAll}
+use Rattle.book.specs.AlikeCalls.{likeness}
 use Rattle.book.specs.Here.{places, width, someMissing, Proper}
 use Rattle.book.specs.CallLaws.{refused-lent, Fits, AllFit}
 use Rattle.session.specs.declared.Session.{Session}
 use Rattle.session.specs.declared.Delivered.{Delivered}
 use Rattle.session.specs.View.{bookOf, Good}
 use Rattle.session.specs.Calls.{Delivery}
-use Rattle.session.specs.Laws.{delivery-above, delivery-taken, delivery-accepted, full-taken, one-session, good-proper}
+use Rattle.session.specs.Laws.{delivery-above, delivery-taken, delivery-accepted, one-session, good-proper}
 use Rattle.runs.specs.Step.{Step, kept-step, delivery-step}
 
 abbrev pub Run : Session → List Call → List Answer → Session → Type 0
 Run = machine.Run Step
 
-pub faithful : (s : Session) (call : Call) (a : Answer) (t : Session) → Step s call a t → Good s → machine.AsBook Good bookOf answer after s call a t
+pub faithful : (s : Session) (call : Call) (a : Answer) (t : Session) → Step s call a t → Good s → machine.AsBook Good bookOf Agree answer after s call a t
 faithful s call a t step good = record { answered = step .answered good; good = step .good good; book = step .book good }
 
 pub every-run : {s t : Session} {calls : List Call} {given : List Answer} → Run s calls given t → Good s → given ≡ answers (bookOf s) calls
-every-run run good = machine.every-run faithful run good .answered
+every-run run good = machine.every-run likeness faithful run good .answered
 
 pub run-good : {s t : Session} {calls : List Call} {given : List Answer} → Run s calls given t → Good s → Good t
-run-good run good = machine.every-run faithful run good .good
+run-good run good = machine.every-run likeness faithful run good .good
 
-pub run-book : {s t : Session} {calls : List Call} {given : List Answer} → Run s calls given t → Good s → bookOf t ≡ afterAll (bookOf s) calls
-run-book run good = machine.every-run faithful run good .book
+pub run-book : {s t : Session} {calls : List Call} {given : List Answer} → Run s calls given t → Good s
+    → Agree (bookOf t) (afterAll (bookOf s) calls)
+run-book run good = machine.every-run likeness faithful run good .book
 
 pub one-end : {s t u : Session} {calls : List Call} {given other : List Answer} → Good s → Run s calls given t → Run s calls other u → t ≡ u
-one-end = machine.one-end faithful one-session
+one-end = machine.one-end likeness faithful one-session
 
 -- ---- every list of calls has a run
 
-some-delivery : (s : Session) (p : ℕ) (column : List ℕ) → Good s → length column ≡ width → (r : Delivered) × Delivery s p column r
-some-delivery s p column good long = go (decLt p places) (among p (take (s .taken) (s .arrival))) refl (decLt (s .taken) places)
+some-delivery : (s : Session) (p : ℕ) (column : List ℕ) → length column ≡ width → (r : Delivered) × Delivery s p column r
+some-delivery s p column long = go (decLt p places) (getD (s .taken) p false) refl
   where
-    go : Dec (p < places) → (b : Bool) → among p (take (s .taken) (s .arrival)) ≡ b → Dec (s .taken < places)
-        → (r : Delivered) × Delivery s p column r
-    go (yes h) true e d = (_, delivery-taken s p column h (λ g. e))
-    go (yes h) false e (yes l) = (_, delivery-accepted s p column h l e long)
-    go (yes h) false e (no l) = (_, delivery-taken s p column h (λ g. full-taken s p column g h (omega arith)))
-    go (no h) b e d = (_, delivery-above s p column (omega arith))
+    go : Dec (p < places) → (b : Bool) → getD (s .taken) p false ≡ b → (r : Delivered) × Delivery s p column r
+    go (yes h) true e = (_, delivery-taken s p column h e)
+    go (yes h) false e = (_, delivery-accepted s p column h e long)
+    go (no h) b e = (_, delivery-above s p column (omega arith))
 
 -- the capture of a proper book fills the buffer that it was asked into
 write-sized : (book : Book) (out : List ℕ) → Proper book → length (writeOf book out .bytes) ≡ length out
@@ -73,7 +73,7 @@ write-sized book out proper = go (ℕ-discrete (length out) (captureLength (leng
     go : Dec (length out ≡ captureLength (length (book .doubtful))) → (b : Bool) → someMissing (book .row) ≡ b
         → length (writeOf book out .bytes) ≡ length out
     go (yes h) true m = ap (λ (f : Filled). length (f .bytes)) (write-missing book out h m)
-    go (yes h) false m = ap (λ (f : Filled). length (f .bytes)) (write-accepted book out h m) ∙ capture-length book proper m ∙ sym h
+    go (yes h) false m = ap (λ (f : Filled). length (f .bytes)) (write-accepted book out h m) ∙ capture-length book proper ∙ sym h
     go (no h) b m = ap (λ (f : Filled). length (f .bytes)) (write-size book out h)
 
 -- no call changes the length of a buffer
@@ -92,10 +92,10 @@ some-kept s call good same =
 
 pub some-step : (s : Session) (call : Call) → Good s → Fits call → (a : Answer) × (t : Session) × Step s call a t
 unfolding after
-some-step s (deliver p column) good fits = let d = some-delivery s p column good (fits .whole) in (_, d .0 .session, delivery-step (d .1))
+some-step s (deliver p column) good fits = let d = some-delivery s p column (fits .whole) in (_, d .0 .session, delivery-step (d .1))
 some-step s (reading out) good u = (_, s, some-kept s (reading out) good refl)
 some-step s (writing out) good u = (_, s, some-kept s (writing out) good refl)
 some-step s (closing message report) good u = (_, s, some-kept s (closing message report) good refl)
 
 pub some-run : {calls : List Call} → AllFit calls → (s : Session) → Good s → (given : List Answer) × (t : Session) × Run s calls given t
-some-run = machine.some-run faithful some-step
+some-run = machine.some-run likeness faithful some-step

@@ -1,27 +1,36 @@
--- What the bytes of a reading and of a report hold, after every list of calls.
+-- What the bytes of a reading, of a report and of a capture hold, after every list of calls.
 --
 --   step-reads, step-shows   of a good session: an accepted reading shows the least Q (Reads), and an accepted closing the numbers of its answer
---                        (ReportedIn), both of the session's book
+--                        (ReportedIn), both of every book that agrees with the session's
 --   run-reads            after every run from an opened session, reading into 82 bytes shows the least Q of the book that the calls leave
 --   run-shows            after every run of fitting calls, from one whose row has columns of costs of 0 to 65535, an accepted closing shows its numbers
 --   opened-shows, capture-shows   so of one opened with a rate and a list, and of one opened by an accepted capture
+--   step-writes, run-writes   an accepted writing gives a capture whose records are in place order: of a good session, and after every run
+--   capture-written      writing a session that an accepted capture opened, into a buffer of the capture's size, is accepted, and gives that capture
+--                        exactly if its records are in place order
 use mathlib.Core.Bool.{true}
 use mathlib.Core.Path.{_≡_, sym, ap, _∙_, subst}
 use mathlib.Core.List.{List}
+use mathlib.Core.Logic.{_↔_}
 use Prim.Native.Nat.{ℕ}
 use lib.ListN.{length}
 use Rattle.lists.specs.Distinct.{below}
 use Rattle.refusals.specs.Refusal.{accepted}
 use Rattle.book.specs.Model.{modem64}
 use Rattle.book.specs.Book.{Book, newBook}
-use Rattle.book.specs.CaptureOpening.{rateIn, openCaptureOf}
+use Rattle.book.specs.Columns.{Agree}
+use Rattle.book.specs.PlaceOrder.{InPlaceOrder}
+use Rattle.book.specs.Writing.{Filled}
+use Rattle.book.specs.CaptureOpening.{rateIn, recordsIn, openCaptureOf}
 use Rattle.book.specs.Reading.{readingLength}
 use Rattle.book.specs.OpeningLaws.{list-short, Rate, known-rate}
 use Rattle.book.specs.AnyCalls.{Answer}
-use Rattle.book.specs.Calls.{Call, reading, closing, answer, afterAll}
+use Rattle.book.specs.Calls.{Call, reading, writing, closing, answer, afterAll}
+use Rattle.book.specs.AlikeCalls.{answer-alike}
 use Rattle.book.specs.Costs.{new-costs}
 use Rattle.book.specs.Report.{closing-shows}
-use Rattle.book.specs.Here.{openOf, DoubtfulList, RowColumns, ReportedIn}
+use Rattle.book.specs.RoundTrip.{write-whole, write-accepted, written-order, written-opened, open-then-write}
+use Rattle.book.specs.Here.{openOf, fitDoubt, DoubtfulList, RowColumns, ReportedIn}
 use Rattle.book.specs.ReadingSentences.{Reads, reading-least}
 use Rattle.book.specs.Captured.{capture-opens, capture-costs}
 use Rattle.book.specs.CallLaws.{AllFit, after-costs}
@@ -34,40 +43,52 @@ use Rattle.runs.specs.Step.{Step}
 use Rattle.runs.specs.Runs.{Run}
 use Rattle.runs.specs.Follows.{closedBy, captureBook, Start, by-opening, by-capture, start-follows}
 
-module _ {t : Session} (good : Good t) where
+module _ {t : Session} {book : Book} (good : Good t) (same : Agree (bookOf t) book) where
   pub step-reads : {out : List ℕ} {a : Answer} {u : Session} → Step t (reading out) a u → length out ≡ readingLength
-      → (a .number ≡ accepted) × Reads (bookOf t) (a .first)
+      → (a .number ≡ accepted) × Reads book (a .first)
   unfolding answer
-  step-reads {out} {a} step long =
-      subst (λ (x : Answer). (x .number ≡ accepted) × Reads (bookOf t) (x .first)) (sym (step .answered good))
-      (reading-least (bookOf t) (known-rate (bookOf t .rate) (good-proper t good .rate-known) .1) out long)
+  step-reads {out} step long =
+      let rate = known-rate (bookOf t .rate) (good-proper t good .rate-known) in
+      subst (λ (x : Answer). (x .number ≡ accepted) × Reads book (x .first)) (sym (step .answered good ∙ answer-alike same (reading out)))
+      (reading-least book (subst (λ k. Rate k (rate .0)) (same .same-rate) (rate .1)) out long)
 
-  pub step-shows : {message report : List ℕ} {a : Answer} {u : Session} → RowColumns (bookOf t .row) → Step t (closing message report) a u
-      → a .number ≡ accepted → ReportedIn (bookOf t) (closedBy a)
+  pub step-shows : {message report : List ℕ} {a : Answer} {u : Session} → RowColumns (book .row) → Step t (closing message report) a u
+      → a .number ≡ accepted → ReportedIn book (closedBy a)
   unfolding answer
-  step-shows {message} {report} {a} all step n =
-      let e = step .answered good in
-      subst (λ (x : Answer). ReportedIn (bookOf t) (closedBy x)) (sym e)
-      (closing-shows modem64 (bookOf t) message report all (list-short modem64 (bookOf t .doubtful) (good-proper t good .list-fit))
-      (sym (ap (λ (x : Answer). x .number) e) ∙ n))
+  step-shows {message} {report} all step n =
+      let e = step .answered good ∙ answer-alike same (closing message report) in
+      let fit : fitDoubt (book .doubtful) ≡ true = subst (λ l. fitDoubt l ≡ true) (same .same-list) (good-proper t good .list-fit) in
+      subst (λ (x : Answer). ReportedIn book (closedBy x)) (sym e)
+      (closing-shows modem64 book message report all (list-short modem64 (book .doubtful) fit) (sym (ap (λ (x : Answer). x .number) e) ∙ n))
+
+pub step-writes : {t : Session} → Good t → {out : List ℕ} {a : Answer} {u : Session} → Step t (writing out) a u → a .number ≡ accepted
+    → InPlaceOrder (recordsIn (a .first))
+unfolding answer
+step-writes {t} good {out} {a} step n =
+    let e = step .answered good in
+    let w = write-whole (bookOf t) out (sym (ap (λ (x : Answer). x .number) e) ∙ n) in
+    subst (λ l. InPlaceOrder (recordsIn l))
+    (sym (ap (λ (x : Answer). x .first) e ∙ ap (λ (f : Filled). f .bytes) (write-accepted (bookOf t) out (w .0) (w .1))))
+    (written-order (bookOf t) (good-proper t good))
 
 module _ {T : ℕ} {book : Book} {s : Session} (start : Start T book s) {calls : List Call} {given : List Answer} {t : Session}
     (run : Run s calls given t) where
   good : Good t
   good = start-follows start .left run .0
 
-  left : bookOf t ≡ afterAll book calls
+  left : Agree (bookOf t) (afterAll book calls)
   left = start-follows start .left run .1
 
   pub run-reads : {out : List ℕ} {a : Answer} {u : Session} → Step t (reading out) a u → length out ≡ readingLength
       → (a .number ≡ accepted) × Reads (afterAll book calls) (a .first)
-  run-reads {out} {a} step long = subst (λ (b : Book). (a .number ≡ accepted) × Reads b (a .first)) left (step-reads good step long)
+  run-reads step long = step-reads good left step long
 
   pub run-shows : {message report : List ℕ} {a : Answer} {u : Session} → RowColumns (book .row) → AllFit calls → Step t (closing message report) a u
       → a .number ≡ accepted → ReportedIn (afterAll book calls) (closedBy a)
-  run-shows {a = a} all fit step n =
-      subst (λ (b : Book). ReportedIn b (closedBy a)) left
-      (step-shows good (subst (λ (b : Book). RowColumns (b .row)) (sym left) (after-costs book fit all)) step n)
+  run-shows all fit step n = step-shows good left (after-costs book fit all) step n
+
+  pub run-writes : {out : List ℕ} {a : Answer} {u : Session} → Step t (writing out) a u → a .number ≡ accepted → InPlaceOrder (recordsIn (a .first))
+  run-writes step n = step-writes good step n
 
 pub opened-shows : {rate T : ℕ} {list : List ℕ} {r : Opened} → Rate rate T → DoubtfulList list → Opening (openOf rate list) r
     → {calls : List Call} {given : List Answer} {t : Session} → Run (r .session) calls given t → AllFit calls
@@ -84,3 +105,18 @@ capture-shows bytes small known opened n run fit step m =
     let o : openCaptureOf bytes .number ≡ accepted = sym (opened .number) ∙ n in
     run-shows (by-capture bytes known opened n) run
     (subst (λ (b : Book). RowColumns (b .row)) (capture-opens bytes o .delivered) (capture-costs bytes small o)) fit step m
+
+-- writing what an accepted capture opened as
+pub capture-written : {bytes out : List ℕ} {r : Opened} {a : Answer} {u : Session} → below 256 bytes ≡ true → Opening (openCaptureOf bytes) r
+    → r .refusal ≡ accepted → Step (r .session) (writing out) a u → length out ≡ length bytes
+    → (a .number ≡ accepted) × ((a .first ≡ bytes) ↔ InPlaceOrder (recordsIn bytes))
+unfolding answer
+capture-written {bytes} {out} small opened n step long =
+    let o : openCaptureOf bytes .number ≡ accepted = sym (opened .number) ∙ n in
+    let given = step .answered (opened .good) ∙ answer-alike (opened .book) (writing out) in
+    let written = open-then-write bytes out small o long in
+    let unchanged = written-opened bytes small o in
+    let first = ap (λ (x : Answer). x .first) given ∙ ap (λ (f : Filled). f .bytes) written in (
+      ap (λ (x : Answer). x .number) given ∙ ap (λ (f : Filled). f .number) written,
+      (λ e. unchanged .0 (sym first ∙ e), λ order. first ∙ unchanged .1 order),
+    )

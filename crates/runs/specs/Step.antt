@@ -2,8 +2,9 @@
 --
 --   delivers call        it is a delivery, the one call that may change a session
 --   Step s call a t      the call, made on the session s, is given the answer a and leaves the session t: of a good session the answer is the book's,
---                        and the session left is good and stands for the book after the call. Whatever the session, a refused call leaves the session
---                        and the lent buffers as they were, every call but a delivery leaves the session as it was, and no buffer changes its length
+--                        and the session left is good and its book agrees with the book after the call. Whatever the session, a refused call leaves the
+--                        session and the lent buffers as they were, every call but a delivery leaves the session as it was, and no buffer changes its
+--                        length
 --   answerWith n first second   a number and what the lent buffers hold afterwards
 --   kept-step            a call that leaves the session as it was
 --   delivery-step, reading-step, writing-step, closing-step   what the contract of each call says is such a step
@@ -14,6 +15,7 @@ use mathlib.Core.Logic.{_≢_}
 use Prim.Native.Nat.{ℕ}
 use lib.ListN.{length}
 use Rattle.refusals.specs.Refusal.{accepted}
+use Rattle.book.specs.Columns.{Agree, agree-path}
 use Rattle.book.specs.AnyCalls.{Answer}
 use Rattle.book.specs.Calls.{Call, deliver, reading, writing, closing, firstLent, secondLent, answer, after}
 use Rattle.session.specs.declared.Session.{Session}
@@ -32,7 +34,7 @@ delivers (closing message report) = false
 pub record Step (s : Session) (call : Call) (a : Answer) (t : Session) : Type 0 where
   pub answered : Good s → a ≡ answer (bookOf s) call
   pub good : Good s → Good t
-  pub book : Good s → bookOf t ≡ after (bookOf s) call
+  pub book : Good s → Agree (bookOf t) (after (bookOf s) call)
   pub refused : a .number ≢ accepted → (t ≡ s) × (a .first ≡ firstLent call) × (a .second ≡ secondLent call)
   pub kept : delivers call ≡ false → t ≡ s
   pub sized : (length (a .first) ≡ length (firstLent call)) × (length (a .second) ≡ length (secondLent call))
@@ -63,7 +65,7 @@ kept-step answered same refused sized =
     record {
       answered = answered;
       good = λ good. good;
-      book = λ good. sym same;
+      book = λ good. agree-path (sym same);
       refused = λ n. (refl, refused n .0, refused n .1);
       kept = λ e. refl;
       sized = sized;

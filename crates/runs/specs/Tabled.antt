@@ -8,7 +8,7 @@
 --   brings-holds         such calls leave the table's columns in the row
 --   table-as-calls       so closing after them answers as table decoding does
 use mathlib.Core.Bool.{Bool, true, false, cond}
-use mathlib.Core.Path.{_≡_, refl, sym, ap, ap₂, _∙_, subst}
+use mathlib.Core.Path.{_≡_, refl, sym, ap, ap₂, _∙_}
 use mathlib.Core.List.{List, [], _∷_, List·Memᴰ, List·Memᴰ·head, List·Memᴰ·tail, List·Memᴰ·cases-cons, List·Memᴰ·not-nil}
 use mathlib.Core.Logic.{_⊎_, inl, inr, ⊎-elim}
 use mathlib.Core.Option.{Option, none, some, Option·none-ne-some}
@@ -22,14 +22,15 @@ use Rattle.book.specs.Machine.{carried}
 use Rattle.book.specs.Model.{modem64}
 use Rattle.book.specs.Book.{Entry, Book, newBook, columnIn, present, taken, Outcome}
 use Rattle.book.specs.Delivery.{withEntry}
-use Rattle.book.specs.Columns.{none-free}
+use Rattle.book.specs.Columns.{none-free, Agree}
 use Rattle.book.specs.RowLaws.{none-above, column-append, deliver-accepted}
 use Rattle.book.specs.OpeningLaws.{Rate, rate-known, fits-list}
 use Rattle.book.specs.AnyCalls.{Answer}
 use Rattle.book.specs.Calls.{Call, deliver, closing, answer, after, afterAll}
 use Rattle.book.specs.CallLaws.{only-delivery, rate-held, list-held}
+use Rattle.book.specs.Sentences.{closing-alike}
 use Rattle.book.specs.Table.{picked-fit, table-as-session}
-use Rattle.book.specs.Here.{places, openOf, Proper, closeOf, tableLength, tableColumns, pickedOf, tableOf, Delivered}
+use Rattle.book.specs.Here.{places, openOf, closeOf, tableLength, tableColumns, pickedOf, tableOf, Delivered}
 use Rattle.session.specs.declared.Session.{Session}
 use Rattle.session.specs.declared.Opened.{Opened}
 use Rattle.session.specs.View.{bookOf, Good}
@@ -150,13 +151,16 @@ module _ {rate T : ℕ} (known : Rate rate T) (table : List ℕ) (whole : length
       let fit = fits-list modem64 list (picked-fit modem64 table doubt few) in
       let follows : Follows T (r .session) (newBook rate list) = start-follows (by-opening known fit opened) in
       let good : Good t = follows .left run .0 in
-      let e : bookOf t ≡ afterAll (newBook rate list) calls = follows .left run .1 in
       let book : Book = afterAll (newBook rate list) calls in
+      let agree : Agree (bookOf t) book = follows .left run .1 in
       let same : book ≡ record { rate = rate; doubtful = list; row = book .row } =
       book-path (rate-held (newBook rate list) calls ∙ new-rate rate list) (list-held (newBook rate list) calls ∙ new-list rate list) in
       let all : Delivered table (book .row) =
-      record { there = holds; nothing-else = none-above modem64 book (subst Proper e (good-proper t good)) } in
-      ap closedBy (step .answered good) ∙ ap (λ (b : Book). closeOf b message report) (e ∙ same)
+      record {
+        there = holds;
+        nothing-else = λ p h. sym (agree .same-columns p) ∙ none-above modem64 (bookOf t) (good-proper t good) p h;
+      } in
+      ap closedBy (step .answered good) ∙ closing-alike modem64 agree message report ∙ ap (λ (b : Book). closeOf b message report) same
       ∙ sym (table-as-session modem64 rate table doubt (rate-known known) whole few (book .row) all message report)
 
   pub table-as-calls : {calls : List Call} {given : List Answer} {t : Session} → Run (r .session) calls given t → BringsTable table calls

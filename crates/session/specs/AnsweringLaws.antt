@@ -3,10 +3,11 @@
 --   reading-wrong-size, reading-read     the two cases of reading
 --   closing-wrong-size, closing-early, closing-decoded   the three cases of closing: it decodes the table's columns by the doubtful list
 --   reading-by-hand, closing-by-hand     of a session record that was built by hand nothing is asked but that a refusal leaves the buffers as they were
+use mathlib.Core.Bool.{true, false}
 use mathlib.Core.Path.{_≡_, refl, sym, ap, _∙_, subst}
 use mathlib.Core.List.{List}
 use mathlib.Core.Logic.{_≢_, _⊎_}
-use Prim.Native.Nat.{ℕ, _<_, _≤_}
+use Prim.Native.Nat.{ℕ}
 use lib.ListN.{length, take}
 use Rattle.refusals.specs.Refusal.{accepted, wrongSize, placeMissing}
 use Rattle.soft.specs.Column.{symbols, columnOf}
@@ -19,9 +20,9 @@ use Rattle.book.specs.ReadingLaws.{read-size, read-accepted}
 use Rattle.book.specs.Closing.{Closed, refusedClosing}
 use Rattle.book.specs.ClosingLaws.{decode-kept, decode-sized}
 use Rattle.book.specs.Sentences.{closing-sizes}
-use Rattle.book.specs.Here.{places, reportLength, decodeOf, closeOf}
+use Rattle.book.specs.Here.{reportLength, decodeOf, closeOf}
 use Rattle.session.specs.declared.Session.{Session}
-use Rattle.session.specs.View.{held, bookOf, Good}
+use Rattle.session.specs.View.{held, allTaken, bookOf, Good}
 use Rattle.session.specs.Answering.{Reading, Closing}
 use Rattle.session.specs.Held as Fields
 use Rattle.session.specs.HeldLaws as laws
@@ -77,15 +78,15 @@ module _ (s : Session) (message report : List ℕ) where
   closing-wrong-size w = refused wrongSize (λ good. closing-sizes modem64 (bookOf s) message report w)
 
   module _ (long : length message ≡ s .rate) (whole-report : length report ≡ reportLength) where
-    pub closing-early : s .taken < places → Closing s message report placeMissing message report
+    pub closing-early : allTaken (s .taken) ≡ false → Closing s message report placeMissing message report
     unfolding bookOf refusedClosing Fields.bookOf
     closing-early h = refused placeMissing (λ good. laws.close-early modem64 (held s) good message report long whole-report h)
 
-    full-close : places ≤ s .taken → Good s → closeOf (bookOf s) message report ≡ decoded
+    full-close : allTaken (s .taken) ≡ true → Good s → closeOf (bookOf s) message report ≡ decoded
     unfolding bookOf Fields.bookOf
     full-close h good = laws.close-full modem64 (held s) good message report long whole-report h
 
-    here : places ≤ s .taken → Closing s message report (decoded .number) (decoded .message) (decoded .report)
+    here : allTaken (s .taken) ≡ true → Closing s message report (decoded .number) (decoded .message) (decoded .report)
     here h =
         let k = decode-kept modem64 (s .rate) (columnOf symbols (s .costs)) (take (s .doubt) (s .doubtful)) message report in
         let l = decode-sized modem64 (s .rate) (columnOf symbols (s .costs)) (take (s .doubt) (s .doubtful)) message report long whole-report in
@@ -99,5 +100,5 @@ module _ (s : Session) (message report : List ℕ) where
           report-size = l .report-sized;
         }
 
-    pub closing-decoded : places ≤ s .taken → {c : Closed} → c ≡ decoded → Closing s message report (c .number) (c .message) (c .report)
+    pub closing-decoded : allTaken (s .taken) ≡ true → {c : Closed} → c ≡ decoded → Closing s message report (c .number) (c .message) (c .report)
     closing-decoded h {c} e = subst (λ (d : Closed). Closing s message report (d .number) (d .message) (d .report)) (sym e) (here h)

@@ -3,9 +3,11 @@
 --   refusedWith n            a refused opening: its number, and a new session of rate 39 with an empty list
 --   openedOf rate list       opening: 1 or 4 if refused, else 0 and a new session of that rate and list
 --   declinedWith n s         a refused delivery: its number, and the session that was given
---   Opening o r              an opening that answers as the book does: the number and the book are those of o, and the session is good
---   Delivery s p column r    delivery of a place and its column to the session s: of a good session the number and the book are the book's, and it
---                            stays good; a refused one is the session that was given, whatever that was
+--   Opening o r              an opening that answers as the book does: the number is that of o, the session's book agrees with that of o, and it is good
+--   Delivery s p column r    delivery of a place and its column to the session s: of a good session the number is the book's, its book afterwards agrees
+--                            with the book's, and it stays good; a refused one is the session that was given, whatever that was
+--
+-- 'Agrees' (book Columns): the same rate and list, and the same column at each place. A session does not hold the order of its row.
 use mathlib.Core.Bool.{cond}
 use mathlib.Core.Path.{_≡_}
 use mathlib.Core.List.{List, []}
@@ -13,6 +15,7 @@ use Prim.Native.Nat.{ℕ}
 use Rattle.refusals.specs.Refusal.{accepted, unknownRate, wrongDoubt}
 use Rattle.code.specs.Encoding.{knownRate}
 use Rattle.book.specs.Book.{Outcome}
+use Rattle.book.specs.Columns.{Agree}
 use Rattle.book.specs.Here.{fitDoubt, deliverOf}
 use Rattle.session.specs.declared.Session.{Session}
 use Rattle.session.specs.declared.Opened.{Opened}
@@ -33,11 +36,11 @@ declinedWith n s = record { refusal = n; session = s }
 
 pub record Opening (o : Outcome) (r : Opened) : Type 0 where
   pub number : r .refusal ≡ o .number
-  pub book : bookOf (r .session) ≡ o .book
+  pub book : Agree (bookOf (r .session)) (o .book)
   pub good : Good (r .session)
 
 pub record Delivery (s : Session) (p : ℕ) (column : List ℕ) (r : Delivered) : Type 0 where
   pub number : Good s → r .refusal ≡ deliverOf (bookOf s) p column .number
-  pub book : Good s → bookOf (r .session) ≡ deliverOf (bookOf s) p column .book
+  pub book : Good s → Agree (bookOf (r .session)) (deliverOf (bookOf s) p column .book)
   pub good : Good s → Good (r .session)
   pub kept : (r .refusal ≡ accepted → ⊥) → r .session ≡ s

@@ -1,57 +1,76 @@
 -- What follows of the fields of a session: those of a newly opened one are good, and a delivery keeps them so; the book of good ones is proper, and no
--- other good ones have it. For every modem, so for whatever struct keeps them.
+-- other good ones have a book that agrees with it. For every modem, so for whatever struct keeps them.
 --
---   row-places           the places of the row are those that arrived
+--   table-column         the row of a table of costs, as a column
+--   row-wide             the places below a bound, each with its column in the table: each column has a cost for each symbol
+--   entries-there, entries-away   a row of flagged places has the column of each of them, and no other
+--   column-there, column-away     the column of a place whose flag is set stands in the table; a place whose flag is not set has none
+--   book-taken           a place is taken exactly if its flag is set
 --   good-proper          the book of good fields is proper
---   with-column-book, with-column-good   with a place and its column more they stand for the longer row, and are good
+--   with-column-agree, with-column-good   with a place and its column more they stand for the longer row, and are good
 --   new-book, new-good   those of a newly opened session stand for a new book, if its list has no more places than the largest doubt, and are good, if
 --                        it is fit
---   table-column         the row of a table of costs, as a column
---   column-there         the column of a place that is taken stands in the table
 --   columns-table        the columns by place are those of the table, at every place: where nothing was delivered both hold zeros
---   missing-taken        a place is missing exactly if fewer are taken than the modem has
+--   missing-taken        a place is missing exactly if not every flag is set
 --   close-early, close-full   so closing into buffers of the right sizes is early, or decodes the table's columns by the doubtful list
---   one-held             two good ones with one book are one
-use mathlib.Core.Bool.{Bool, true, false, cond, not, _||_, true≢false, false≢true}
-use mathlib.Core.Path.{_≡_, refl, sym, ap, ap₂, _∙_, subst, fun-ext}
+--   one-held             two good ones whose books agree are one
+use mathlib.Core.Bool.{Bool, true, false, cond, not, true≢false, false≢true}
+use mathlib.Core.Path.{_≡_, refl, sym, ap, ap₂, _∙_, fun-ext}
 use mathlib.Core.List.{List, [], _∷_, _++_}
-use mathlib.Core.Option.{some, Option·some-injective}
+use mathlib.Core.Logic.{⊎-elim}
+use mathlib.Core.Option.{Option, none, some}
 use Prim.Native.Nat.{ℕ, zero, suc, _+_, _*_, _<_, _≤_}
-use native.Mathlib.Nat.{le-step, lt-suc-self, mul-comm, mul-le-mul-left}
-use native.Mathlib.Numerals.{add-one}
-use native.Mathlib.Decide.{decLt}
+use native.Mathlib.Nat.{le-step, lt-suc-self, eq-or-lt-of-le, le-of-suc-le-suc, mul-comm, mul-le-mul-left}
+use native.Mathlib.Decide.{decLt, ℕ-discrete}
 use native.Mathlib.Omega.{arith}
-use lib.Dec.{eqb, leb}
-use lib.ListN.{length, getD, set, take, drop, replicate, length-replicate, length-set, take-append-drop}
-use lib.Seq.{ext-getD, take-suc, take-suc-set, drop-set-lt, drop-drop, getD-set-same, getD-set-other, getD-take, length-take-le}
-use borrow.Author.Tests.{eq-eqb, le-leb, lt-leb}
+use lib.Dec.{eqb}
+use lib.ListN.{length, getD, set, take, drop, replicate, length-replicate, getD-replicate, length-set, take-append-drop, List·getD-eq-default}
+use lib.Seq.{ext-getD, getD-set-same, getD-set-other, length-take-le}
+use borrow.Author.Tests.{eq-eqb, ne-eqb}
 use Rattle.refusals.specs.Refusal.{placeMissing}
-use Rattle.lists.specs.Listed.{listed, listed-nil, listed-suc, listed-ext, listed-length}
-use Rattle.lists.specs.Distinct.{among, below, distinct, among-nil, among-one, among-at, below-at, below-among, among-append, below-append, below-one, below-nil, distinct-nil, distinct-snoc, distinct-all, among-snoc, or-none, and-both}
+use Rattle.lists.specs.Listed.{listed, listed-nil, listed-suc}
+use Rattle.lists.specs.Distinct.{and-both}
+use Rattle.lists.specs.Every.{every}
 use Rattle.lists.specs.Block.{block, putBlock, block-length, block-at, put-length, put-same, put-other, block-replicate, block-ext, row-end}
 use Rattle.lists.specs.Padded.{padded-length, padded-take, padded-rest}
 use Rattle.soft.specs.Column.{columnOf}
 use Rattle.soft.specs.ColumnLaws as ColumnLaws
 use Rattle.soft.specs.ColumnLaws.{cost-column}
 use Rattle.book.specs.Model.{Model, places, width}
-use Rattle.book.specs.Book.{Entry, Book, newBook, columnIn, taken, someMissing}
+use Rattle.book.specs.Book.{Entry, Book, newBook, columnIn, present, taken, someMissing}
 use Rattle.book.specs.Opening.{fitDoubt}
 use Rattle.book.specs.OpeningLaws.{list-short}
 use Rattle.book.specs.Delivery.{withEntry}
-use Rattle.book.specs.Columns.{columnsOf, columns-taken, columns-none, column-free}
-use Rattle.book.specs.RowLaws.{placesOf, places-append, wide, wide-append, Proper, column-append, column-one, taken-among, missing-count}
+use Rattle.book.specs.Columns.{columnsOf, columns-taken, columns-none, none-free, taken-alike, columns-alike, Agree}
+use Rattle.book.specs.RowLaws.{wide, wide-append, Proper, column-append, column-one, new-proper, entry-proper}
 use Rattle.book.specs.Closing.{reportLength, refusedClosing, decodeOf, closeOf}
 use Rattle.book.specs.ClosingLaws.{fits-of, close-missing, close-decoded}
 use Rattle.book.specs.Table.{column-beyond}
-use Rattle.session.specs.Held.{Held, newHeld, entryAt, bookOf, withColumn, Good}
+use Rattle.session.specs.Held.{Held, takenBelow, newHeld, allTaken, entryAt, entriesBelow, bookOf, withColumn, Good}
 
-one-place : (e : Entry) → placesOf (e ∷ []) ≡ e .place ∷ []
-unfolding placesOf
-one-place e = refl
+-- ---- a row with one entry more
 
-no-place : placesOf [] ≡ []
-unfolding placesOf
-no-place = refl
+one-other : (e : Entry) (p : ℕ) → (e .place ≡ p → ⊥) → columnIn (e ∷ []) p ≡ none
+unfolding columnIn
+one-other e p ne = rw (ne-eqb (e .place) p ne)
+
+module _ (row : List Entry) (e : Entry) where
+  -- it has the entry's column at the entry's place, if that was free,
+  snoc-here : taken row (e .place) ≡ false → columnIn (row ++ (e ∷ [])) (e .place) ≡ some (e .column)
+  snoc-here free =
+      column-append row (e ∷ []) (e .place)
+      ∙ ap (λ b. cond b (columnIn row (e .place)) (columnIn (e ∷ []) (e .place))) free ∙ column-one e
+
+  -- and the columns that it had elsewhere
+  snoc-other : (p : ℕ) → (e .place ≡ p → ⊥) → columnIn (row ++ (e ∷ [])) p ≡ columnIn row p
+  unfolding taken
+  snoc-other p ne = column-append row (e ∷ []) p ∙ ap (cond (present (columnIn row p)) (columnIn row p)) (one-other e p ne) ∙ go (columnIn row p)
+    where
+      go : (o : Option (List ℕ)) → cond (present o) o none ≡ o
+      go none = refl
+      go (some column) = refl
+
+-- ---- columns of a table
 
 pub table-column : (q p : ℕ) (costs : List ℕ) → q * p + q ≤ length costs → block q p costs ≡ columnOf q costs p
 table-column q p costs h =
@@ -63,17 +82,12 @@ table-column q p costs h =
 module _ (𝓓 : Model) where
   open Model 𝓓 using (member, known, mostDoubt)
 
-  -- ---- rows
+  -- a place has its column within the table
+  pub column-fits : (costs : List ℕ) (p : ℕ) → length costs ≡ (places 𝓓 * width 𝓓) → p < places 𝓓 → width 𝓓 * p + width 𝓓 ≤ length costs
+  column-fits costs p n h = omega (arith, n, row-end (width 𝓓) p (places 𝓓) h)
 
-  pub entry-place : (arrival costs : List ℕ) (i : ℕ) → entryAt 𝓓 arrival costs i .place ≡ getD arrival i 0
-  unfolding entryAt
-  entry-place arrival costs i = refl
-
-  pub row-places : (arrival costs : List ℕ) (n : ℕ) → n ≤ length arrival → placesOf (listed n (entryAt 𝓓 arrival costs)) ≡ take n arrival
-  row-places arrival costs zero h = rw (listed-nil, no-place)
-  row-places arrival costs (suc n) h =
-      rw (listed-suc, places-append, one-place, entry-place, take-suc arrival n 0 h)
-      (ap (λ (l : List ℕ). l ++ (getD arrival n 0 ∷ [])) (row-places arrival costs n (omega arith)))
+  column-length : (costs : List ℕ) (p : ℕ) → length costs ≡ (places 𝓓 * width 𝓓) → p < places 𝓓 → length (block (width 𝓓) p costs) ≡ width 𝓓
+  column-length costs p n h = block-length (width 𝓓) p costs (column-fits costs p n h)
 
   wide-one : (e : Entry) → length (e .column) ≡ width 𝓓 → wide 𝓓 (e ∷ []) ≡ true
   unfolding wide
@@ -83,105 +97,131 @@ module _ (𝓓 : Model) where
   unfolding wide
   no-wide = refl
 
-  -- a place has its column within the table
-  pub column-fits : (costs : List ℕ) (p : ℕ) → length costs ≡ (places 𝓓 * width 𝓓) → p < places 𝓓 → width 𝓓 * p + width 𝓓 ≤ length costs
-  column-fits costs p n h = omega (arith, n, row-end (width 𝓓) p (places 𝓓) h)
-
-  column-length : (arrival costs : List ℕ) (i : ℕ) → length costs ≡ (places 𝓓 * width 𝓓) → getD arrival i 0 < places 𝓓
-      → length (entryAt 𝓓 arrival costs i .column) ≡ width 𝓓
+  pub row-wide : (costs : List ℕ) (n : ℕ) → length costs ≡ (places 𝓓 * width 𝓓) → n ≤ places 𝓓 → wide 𝓓 (listed n (entryAt 𝓓 costs)) ≡ true
   unfolding entryAt
-  column-length arrival costs i n h = block-length (width 𝓓) (getD arrival i 0) costs (column-fits costs (getD arrival i 0) n h)
-
-  pub row-wide : (arrival costs : List ℕ) (n : ℕ) → length costs ≡ (places 𝓓 * width 𝓓) → ((i : ℕ) → i < n → getD arrival i 0 < places 𝓓)
-      → wide 𝓓 (listed n (entryAt 𝓓 arrival costs)) ≡ true
-  row-wide arrival costs zero e h = rw (listed-nil, no-wide)
-  row-wide arrival costs (suc n) e h =
+  row-wide costs zero e h = rw (listed-nil, no-wide)
+  row-wide costs (suc n) e h =
       rw (listed-suc, wide-append 𝓓)
-      (and-both (wide 𝓓 (listed n (entryAt 𝓓 arrival costs))) (wide 𝓓 (entryAt 𝓓 arrival costs n ∷ []))
-      (row-wide arrival costs n e (λ i l. h i (le-step l)))
-      (wide-one (entryAt 𝓓 arrival costs n) (column-length arrival costs n e (h n (lt-suc-self n)))))
+      (and-both (wide 𝓓 (listed n (entryAt 𝓓 costs))) (wide 𝓓 (entryAt 𝓓 costs n ∷ [])) (row-wide costs n e (omega arith))
+      (wide-one (entryAt 𝓓 costs n) (column-length costs n e h)))
+
+  -- ---- the row of flagged places
+
+  module _ (flags : List Bool) (costs : List ℕ) where
+    -- those below n, and with n itself
+    abbrev row : ℕ → List Entry
+    row n = entriesBelow 𝓓 flags costs n
+
+    abbrev longer : ℕ → List Entry
+    longer n = entriesBelow 𝓓 flags costs n ++ (entryAt 𝓓 costs n ∷ [])
+
+    entries-away : (n p : ℕ) → (p < n → getD flags p false ≡ false) → columnIn (row n) p ≡ none
+    unfolding entriesBelow entryAt columnIn
+    entries-away zero p h = refl
+    entries-away (suc n) p h = go (getD flags n false) refl (entries-away n p (λ l. h (le-step l)))
+      where
+        go : (b : Bool) → getD flags n false ≡ b → columnIn (row n) p ≡ none → columnIn (cond b (longer n) (row n)) p ≡ none
+        go true e ih =
+            snoc-other (row n) (entryAt 𝓓 costs n) p
+            (λ (q : n ≡ p). true≢false (sym e ∙ ap (λ x. getD flags x false) q ∙ h (omega arith)))
+            ∙ ih
+        go false e ih = ih
+
+    entries-there : (n p : ℕ) → p < n → getD flags p false ≡ true → columnIn (row n) p ≡ some (block (width 𝓓) p costs)
+    unfolding entriesBelow entryAt
+    entries-there zero p h t = absurd (omega arith)
+    entries-there (suc n) p h t =
+        ⊎-elim last (λ l. earlier l (getD flags n false) (entries-there n p l t)) (eq-or-lt-of-le (le-of-suc-le-suc h))
+      where
+        earlier : p < n → (b : Bool) → columnIn (row n) p ≡ some (block (width 𝓓) p costs)
+            → columnIn (cond b (longer n) (row n)) p ≡ some (block (width 𝓓) p costs)
+        earlier l true ih = snoc-other (row n) (entryAt 𝓓 costs n) p (λ (q : n ≡ p). absurd (omega arith)) ∙ ih
+        earlier l false ih = ih
+
+        last : p ≡ n → columnIn (cond (getD flags n false) (longer n) (row n)) p ≡ some (block (width 𝓓) p costs)
+        last e =
+            let f : getD flags n false ≡ true = ap (λ x. getD flags x false) (sym e) ∙ t in
+            rw (e, f) (snoc-here (row n) (entryAt 𝓓 costs n) (none-free (row n) n (entries-away n n (λ l. absurd (omega arith)))))
+
+    -- what holds of no entry, and of each longer row if of the one before it, holds of the row
+    entries-by : (P : List Entry → Type 0) (n : ℕ) → P [] → ((p : ℕ) → p < n → P (row p) → P (longer p)) → P (row n)
+    unfolding entriesBelow
+    entries-by P zero first next = first
+    entries-by P (suc n) first next = go (getD flags n false) (entries-by P n first (λ p h. next p (le-step h)))
+      where
+        go : (b : Bool) → P (row n) → P (cond b (longer n) (row n))
+        go true held = next n (lt-suc-self n) held
+        go false held = held
+
+    entries-none : (n : ℕ) → ((p : ℕ) → p < n → getD flags p false ≡ false) → row n ≡ []
+    unfolding entriesBelow
+    entries-none zero h = refl
+    entries-none (suc n) h = rw (h n (lt-suc-self n)) (entries-none n (λ p l. h p (le-step l)))
 
   -- ---- what is good
 
   module _ (s : Held) (good : Good 𝓓 s) where
-    pub arrived-below : (i : ℕ) → i < s .taken → getD (s .arrival) i 0 < places 𝓓
-    arrived-below i h =
-        let a : s .taken ≤ length (s .arrival) = omega (arith, good .taken-fits, good .row-room) in
-        let b : length (take (s .taken) (s .arrival)) ≡ s .taken = length-take-le (s .taken) (s .arrival) a in
-        subst (λ p. p < places 𝓓) (getD-take (s .taken) (s .arrival) i 0 h)
-        (below-at (places 𝓓) (take (s .taken) (s .arrival)) i (good .in-range) (omega arith))
+    -- beyond the places no flag is set
+    flag-beyond : (p : ℕ) → places 𝓓 ≤ p → getD (s .taken) p false ≡ false
+    flag-beyond p h = let n : length (s .taken) ≤ p = omega (arith, good .row-room) in List·getD-eq-default (s .taken) false n
 
-    pub arrived-among : (i : ℕ) → i < s .taken → among (getD (s .arrival) i 0) (take (s .taken) (s .arrival)) ≡ true
-    arrived-among i h =
-        let a : s .taken ≤ length (s .arrival) = omega (arith, good .taken-fits, good .row-room) in
-        let b : length (take (s .taken) (s .arrival)) ≡ s .taken = length-take-le (s .taken) (s .arrival) a in
-        ap (λ p. among p (take (s .taken) (s .arrival))) (sym (getD-take (s .taken) (s .arrival) i 0 h))
-        ∙ among-at (take (s .taken) (s .arrival)) i (omega arith)
+    flag-below : (p : ℕ) → getD (s .taken) p false ≡ true → p < places 𝓓
+    flag-below p t = go (decLt p (places 𝓓))
+      where
+        go : Dec (p < places 𝓓) → p < places 𝓓
+        go (yes h) = h
+        go (no h) = absurd (false≢true (sym (flag-beyond p (omega arith)) ∙ t))
 
-    pub book-places : placesOf (bookOf 𝓓 s .row) ≡ take (s .taken) (s .arrival)
+    pub column-there : (p : ℕ) → getD (s .taken) p false ≡ true → columnIn (bookOf 𝓓 s .row) p ≡ some (block (width 𝓓) p (s .costs))
     unfolding bookOf
-    book-places = row-places (s .arrival) (s .costs) (s .taken) (omega (arith, good .taken-fits, good .row-room))
+    column-there p t = entries-there (s .taken) (s .costs) (places 𝓓) p (flag-below p t) t
 
-    pub book-taken : (p : ℕ) → taken (bookOf 𝓓 s .row) p ≡ among p (take (s .taken) (s .arrival))
-    book-taken p = taken-among (bookOf 𝓓 s .row) p ∙ ap (among p) book-places
+    pub column-away : (p : ℕ) → getD (s .taken) p false ≡ false → columnIn (bookOf 𝓓 s .row) p ≡ none
+    unfolding bookOf
+    column-away p f = entries-away (s .taken) (s .costs) (places 𝓓) p (λ h. f)
+
+    pub book-taken : (p : ℕ) → taken (bookOf 𝓓 s .row) p ≡ getD (s .taken) p false
+    unfolding taken
+    book-taken p = go (getD (s .taken) p false) refl
+      where
+        go : (b : Bool) → getD (s .taken) p false ≡ b → present (columnIn (bookOf 𝓓 s .row) p) ≡ getD (s .taken) p false
+        go true e = ap present (column-there p e) ∙ sym e
+        go false e = ap present (column-away p e) ∙ sym e
+
+    pub list-length : length (bookOf 𝓓 s .doubtful) ≡ s .doubt
+    unfolding bookOf
+    list-length = length-take-le (s .doubt) (s .doubtful) (omega (arith, good .doubt-fits, good .list-room))
+
+    -- the book with another row
+    rowed : List Entry → Book
+    rowed row = record { rate = s .rate; doubtful = take (s .doubt) (s .doubtful); row = row }
 
     pub good-proper : Proper 𝓓 (bookOf 𝓓 s)
-    unfolding bookOf
+    unfolding bookOf rowed newBook withEntry entryAt
     good-proper =
-        record {
-          rate-known = good .rate-known;
-          list-fit = good .list-fit;
-          in-range = ap (below (places 𝓓)) book-places ∙ good .in-range;
-          apart = ap distinct book-places ∙ good .apart;
-          all-wide = row-wide (s .arrival) (s .costs) (s .taken) (good .table-room) arrived-below;
-        }
+        entries-by (s .taken) (s .costs) (λ row. Proper 𝓓 (rowed row)) (places 𝓓)
+        (new-proper 𝓓 (s .rate) (take (s .doubt) (s .doubtful)) (good .rate-known) (good .list-fit))
+        (λ p h proper.
+        entry-proper 𝓓 (rowed (entriesBelow 𝓓 (s .taken) (s .costs) p)) p (block (width 𝓓) p (s .costs)) proper h
+        (none-free (entriesBelow 𝓓 (s .taken) (s .costs) p) p (entries-away (s .taken) (s .costs) p p (λ l. absurd (omega arith))))
+        (column-length (s .costs) p (good .table-room) h))
 
   -- ---- a delivery
 
-  module _ (s : Held) (p : ℕ) (column : List ℕ) (good : Good 𝓓 s) (h : p < places 𝓓) (room : s .taken < places 𝓓)
-      (free : among p (take (s .taken) (s .arrival)) ≡ false) (long : length column ≡ width 𝓓) where
+  module _ (s : Held) (p : ℕ) (column : List ℕ) (good : Good 𝓓 s) (h : p < places 𝓓) (free : getD (s .taken) p false ≡ false)
+      (long : length column ≡ width 𝓓) where
     fits : width 𝓓 * p + width 𝓓 ≤ length (s .costs)
     fits = column-fits (s .costs) p (good .table-room) h
 
-    -- a place that arrived before is another
-    other : (q : ℕ) → among q (take (s .taken) (s .arrival)) ≡ true → q ≡ p → ⊥
-    other q a e = true≢false (sym a ∙ ap (λ x. among x (take (s .taken) (s .arrival))) e ∙ free)
+    flag-set : getD (set (s .taken) p true) p false ≡ true
+    flag-set = getD-set-same (s .taken) p true false (omega (arith, good .row-room))
 
-    earlier : (i : ℕ) → i < s .taken
-        → entryAt 𝓓 (set (s .arrival) (s .taken) p) (putBlock (width 𝓓) p column (s .costs)) i ≡ entryAt 𝓓 (s .arrival) (s .costs) i
-    unfolding entryAt
-    earlier i l =
-        let q : ℕ = getD (s .arrival) i 0 in
-        let ne : i ≡ s .taken → ⊥ = λ e. omega arith in
-        ap (λ x. record { place = x; column = block (width 𝓓) x (putBlock (width 𝓓) p column (s .costs)) })
-        (getD-set-other (s .arrival) (s .taken) i p 0 ne)
-        ∙ ap (λ (c : List ℕ). record { place = q; column = c })
-        (put-other (width 𝓓) p column (s .costs) fits long 0 q
-        (column-fits (s .costs) q (good .table-room) (arrived-below s good i l))
-        (other q (arrived-among s good i l)))
+    flag-kept : (q : ℕ) → (q ≡ p → ⊥) → getD (set (s .taken) p true) q false ≡ getD (s .taken) q false
+    flag-kept q ne = getD-set-other (s .taken) p q true false ne
 
-    last : entryAt 𝓓 (set (s .arrival) (s .taken) p) (putBlock (width 𝓓) p column (s .costs)) (s .taken) ≡ record { place = p; column = column }
-    unfolding entryAt
-    last =
-        ap (λ x. record { place = x; column = block (width 𝓓) x (putBlock (width 𝓓) p column (s .costs)) })
-        (getD-set-same (s .arrival) (s .taken) p 0 (omega (arith, good .row-room)))
-        ∙ ap (λ (c : List ℕ). record { place = p; column = c }) (put-same (width 𝓓) p column (s .costs) fits long 0)
-
-    longer : listed (s .taken + 1) (entryAt 𝓓 (set (s .arrival) (s .taken) p) (putBlock (width 𝓓) p column (s .costs)))
-        ≡ listed (s .taken) (entryAt 𝓓 (s .arrival) (s .costs)) ++ (record { place = p; column = column } ∷ [])
-    longer =
-        rw (add-one (s .taken), listed-suc)
-        (ap₂ (λ (l : List Entry) (e : Entry). l ++ (e ∷ []))
-        (listed-ext (s .taken) (entryAt 𝓓 (set (s .arrival) (s .taken) p) (putBlock (width 𝓓) p column (s .costs)))
-        (entryAt 𝓓 (s .arrival) (s .costs)) earlier)
-        last)
-
-    pub with-column-book : bookOf 𝓓 (withColumn 𝓓 s p column) ≡ withEntry (bookOf 𝓓 s) p column
-    unfolding bookOf withColumn withEntry
-    with-column-book = λ i. record { rate = s .rate; doubtful = take (s .doubt) (s .doubtful); row = longer i }
-
-    arrived : take (s .taken + 1) (set (s .arrival) (s .taken) p) ≡ take (s .taken) (s .arrival) ++ (p ∷ [])
-    arrived = rw (add-one (s .taken)) (take-suc-set (s .arrival) (s .taken) p (omega (arith, good .row-room)))
+    -- the columns of the other places
+    column-kept : (q : ℕ) → q < places 𝓓 → (q ≡ p → ⊥) → block (width 𝓓) q (putBlock (width 𝓓) p column (s .costs)) ≡ block (width 𝓓) q (s .costs)
+    column-kept q l ne = put-other (width 𝓓) p column (s .costs) fits long 0 q (column-fits (s .costs) q (good .table-room) l) ne
 
     pub with-column-good : Good 𝓓 (withColumn 𝓓 s p column)
     unfolding withColumn
@@ -192,31 +232,35 @@ module _ (𝓓 : Model) where
           doubt-fits = good .doubt-fits;
           list-fit = good .list-fit;
           list-rest = good .list-rest;
-          row-room = length-set (s .arrival) (s .taken) p ∙ good .row-room;
-          taken-fits = omega arith;
-          in-range =
-              ap (below (places 𝓓)) arrived ∙ below-append (places 𝓓) (take (s .taken) (s .arrival)) (p ∷ [])
-              ∙ and-both (below (places 𝓓) (take (s .taken) (s .arrival))) (below (places 𝓓) (p ∷ [])) (good .in-range) (below-one (places 𝓓) p h);
-          apart = ap distinct arrived ∙ distinct-snoc (take (s .taken) (s .arrival)) p (good .apart) free;
-          row-rest =
-              drop-set-lt (s .taken + 1) (s .arrival) (s .taken) p (omega arith)
-              ∙ sym (drop-drop 1 (s .taken) (s .arrival)) ∙ ap (drop 1) (good .row-rest) ∙ drop-drop 1 (s .taken) (replicate (places 𝓓) 0);
+          row-room = length-set (s .taken) p true ∙ good .row-room;
           table-room = put-length (width 𝓓) p column (s .costs) fits long ∙ good .table-room;
           table-rest = λ q l a.
-              let e : (among q (take (s .taken) (s .arrival)) ≡ false) × (among q (p ∷ []) ≡ false) =
-              or-none (among q (take (s .taken) (s .arrival))) (among q (p ∷ []))
-              (sym (ap (among q) arrived ∙ among-append q (take (s .taken) (s .arrival)) (p ∷ [])) ∙ a) in
-              put-other (width 𝓓) p column (s .costs) fits long 0 q (column-fits (s .costs) q (good .table-room) l)
-              (λ f. true≢false (sym (among-snoc [] p) ∙ ap (λ x. among x (p ∷ [])) (sym f) ∙ e .1))
-              ∙ good .table-rest q l (e .0);
+              let ne : q ≡ p → ⊥ = λ e. true≢false (sym flag-set ∙ ap (λ x. getD (set (s .taken) p true) x false) (sym e) ∙ a) in
+              column-kept q l ne ∙ good .table-rest q l (sym (flag-kept q ne) ∙ a);
         }
 
-  module _ (s : Held) (p : ℕ) where
-    -- where all are taken, every place is
-    pub full-taken : Good 𝓓 s → p < places 𝓓 → places 𝓓 ≤ s .taken → among p (take (s .taken) (s .arrival)) ≡ true
-    full-taken good h n =
-        distinct-all (places 𝓓) (take (s .taken) (s .arrival)) p (good .apart) (good .in-range)
-        (omega (arith, length-take-le (s .taken) (s .arrival) (omega (arith, good .taken-fits, good .row-room)))) h
+    pub with-column-agree : Agree (bookOf 𝓓 (withColumn 𝓓 s p column)) (withEntry (bookOf 𝓓 s) p column)
+    unfolding bookOf withColumn withEntry
+    with-column-agree =
+        record { same-rate = refl; same-list = refl; same-columns = λ q. go q (ℕ-discrete q p) (getD (s .taken) q false) refl }
+      where
+        e : Entry
+        e = record { place = p; column = column }
+
+        go : (q : ℕ) → Dec (q ≡ p) → (b : Bool) → getD (s .taken) q false ≡ b
+            → columnIn (bookOf 𝓓 (withColumn 𝓓 s p column) .row) q ≡ columnIn (bookOf 𝓓 s .row ++ (e ∷ [])) q
+        go q (yes x) b f =
+            rw x
+            (column-there (withColumn 𝓓 s p column) with-column-good p flag-set
+            ∙ ap (λ (c : List ℕ). some c) (put-same (width 𝓓) p column (s .costs) fits long 0)
+            ∙ sym (snoc-here (bookOf 𝓓 s .row) e (book-taken s good p ∙ free)))
+        go q (no ne) true f =
+            column-there (withColumn 𝓓 s p column) with-column-good q (flag-kept q ne ∙ f)
+            ∙ ap (λ (c : List ℕ). some c) (column-kept q (flag-below s good q f) ne)
+            ∙ sym (snoc-other (bookOf 𝓓 s .row) e q (λ x. ne (sym x)) ∙ column-there s good q f)
+        go q (no ne) false f =
+            column-away (withColumn 𝓓 s p column) with-column-good q (flag-kept q ne ∙ f)
+            ∙ sym (snoc-other (bookOf 𝓓 s .row) e q (λ x. ne (sym x)) ∙ column-away s good q f)
 
   -- ---- an opening
 
@@ -226,7 +270,9 @@ module _ (𝓓 : Model) where
       λ i. record {
         rate = rate;
         doubtful = padded-take mostDoubt list n i;
-        row = listed-nil (entryAt 𝓓 (replicate (places 𝓓) 0) (replicate (places 𝓓 * width 𝓓) 0)) i;
+        row =
+            entries-none (replicate (places 𝓓) false) (replicate (places 𝓓 * width 𝓓) 0) (places 𝓓)
+            (λ p h. getD-replicate (places 𝓓) p false false h) i;
       }
 
   pub new-good : (rate : ℕ) (list : List ℕ) → known rate ≡ true → fitDoubt 𝓓 list ≡ true → Good 𝓓 (newHeld 𝓓 rate list)
@@ -239,156 +285,90 @@ module _ (𝓓 : Model) where
         doubt-fits = n;
         list-fit = ap (fitDoubt 𝓓) (padded-take mostDoubt list n) ∙ f;
         list-rest = padded-rest mostDoubt list;
-        row-room = length-replicate {A = ℕ} (places 𝓓) 0;
-        taken-fits = omega arith;
-        in-range = below-nil (places 𝓓);
-        apart = distinct-nil;
-        row-rest = refl;
+        row-room = length-replicate {A = Bool} (places 𝓓) false;
         table-room = length-replicate {A = ℕ} (places 𝓓 * width 𝓓) 0;
         table-rest = λ p h a. block-replicate (width 𝓓) p (places 𝓓 * width 𝓓) 0 (omega (arith, row-end (width 𝓓) p (places 𝓓) h));
       }
 
   -- ---- the table
 
-  entry-column : (arrival costs : List ℕ) (i : ℕ)
-      → columnIn (entryAt 𝓓 arrival costs i ∷ []) (getD arrival i 0) ≡ some (block (width 𝓓) (getD arrival i 0) costs)
-  unfolding entryAt
-  entry-column arrival costs i = column-one (entryAt 𝓓 arrival costs i)
-
-  there : (arrival costs : List ℕ) (n p : ℕ) → n ≤ length arrival → among p (take n arrival) ≡ true
-      → columnIn (listed n (entryAt 𝓓 arrival costs)) p ≡ some (block (width 𝓓) p costs)
-  there arrival costs zero p h a = absurd (false≢true (sym (among-nil p) ∙ a))
-  there arrival costs (suc n) p h a =
-      rw listed-suc
-      (column-append (listed n (entryAt 𝓓 arrival costs)) (entryAt 𝓓 arrival costs n ∷ []) p
-      ∙ go (taken (listed n (entryAt 𝓓 arrival costs)) p) refl (there arrival costs n p (omega arith)))
-    where
-      q : ℕ
-      q = getD arrival n 0
-
-      before : taken (listed n (entryAt 𝓓 arrival costs)) p ≡ among p (take n arrival)
-      before = taken-among (listed n (entryAt 𝓓 arrival costs)) p ∙ ap (among p) (row-places arrival costs n (omega arith))
-
-      parts : (among p (take n arrival) || among p (q ∷ [])) ≡ true
-      parts = sym (ap (among p) (take-suc arrival n 0 h) ∙ among-append p (take n arrival) (q ∷ [])) ∙ a
-
-      go : (t : Bool) → taken (listed n (entryAt 𝓓 arrival costs)) p ≡ t
-          → (among p (take n arrival) ≡ true → columnIn (listed n (entryAt 𝓓 arrival costs)) p ≡ some (block (width 𝓓) p costs))
-          → cond t (columnIn (listed n (entryAt 𝓓 arrival costs)) p) (columnIn (entryAt 𝓓 arrival costs n ∷ []) p) ≡ some (block (width 𝓓) p costs)
-      go true e ih = ih (sym before ∙ e)
-      go false e ih = ap (columnIn (entryAt 𝓓 arrival costs n ∷ [])) (sym same) ∙ entry-column arrival costs n ∙ ap (λ x. some (block (width 𝓓) x costs)) same
-        where
-          second : (b c : Bool) → b ≡ false → (b || c) ≡ true → c ≡ true
-          second true c x y = absurd (true≢false x)
-          second false c x y = y
-
-          same : q ≡ p
-          same = among-one p q (second (among p (take n arrival)) (among p (q ∷ [])) (sym before ∙ e) parts)
-
-  module _ (s : Held) (good : Good 𝓓 s) where
-    pub column-there : (p : ℕ) → among p (take (s .taken) (s .arrival)) ≡ true
-        → columnIn (bookOf 𝓓 s .row) p ≡ some (block (width 𝓓) p (s .costs))
-    unfolding bookOf
-    column-there p a = there (s .arrival) (s .costs) (s .taken) p (omega (arith, good .taken-fits, good .row-room)) a
-
-    pub book-length : length (bookOf 𝓓 s .row) ≡ s .taken
-    unfolding bookOf
-    book-length = listed-length (s .taken) (entryAt 𝓓 (s .arrival) (s .costs))
-
-    pub list-length : length (bookOf 𝓓 s .doubtful) ≡ s .doubt
-    unfolding bookOf
-    list-length = length-take-le (s .doubt) (s .doubtful) (omega (arith, good .doubt-fits, good .list-room))
-
   module _ (s : Held) (good : Good 𝓓 s) where
     pub columns-table : columnsOf 𝓓 (bookOf 𝓓 s .row) ≡ columnOf (width 𝓓) (s .costs)
-    columns-table = fun-ext (λ p. go p (decLt p (places 𝓓)) (among p (take (s .taken) (s .arrival))) refl)
+    columns-table = fun-ext (λ p. go p (decLt p (places 𝓓)) (getD (s .taken) p false) refl)
       where
-        free : (p : ℕ) → among p (take (s .taken) (s .arrival)) ≡ false → columnsOf 𝓓 (bookOf 𝓓 s .row) p ≡ replicate (width 𝓓) 0
-        free p e = columns-none 𝓓 (bookOf 𝓓 s .row) p (column-free (bookOf 𝓓 s .row) p (book-taken s good p ∙ e))
+        within : (p : ℕ) → p < places 𝓓 → block (width 𝓓) p (s .costs) ≡ columnOf (width 𝓓) (s .costs) p
+        within p h = table-column (width 𝓓) p (s .costs) (column-fits (s .costs) p (good .table-room) h)
 
-        go : (p : ℕ) → Dec (p < places 𝓓) → (b : Bool) → among p (take (s .taken) (s .arrival)) ≡ b
+        go : (p : ℕ) → Dec (p < places 𝓓) → (b : Bool) → getD (s .taken) p false ≡ b
             → columnsOf 𝓓 (bookOf 𝓓 s .row) p ≡ columnOf (width 𝓓) (s .costs) p
-        go p (yes h) true e =
-            columns-taken 𝓓 (bookOf 𝓓 s .row) p (column-there s good p e)
-            ∙ table-column (width 𝓓) p (s .costs) (column-fits (s .costs) p (good .table-room) h)
+        go p (yes h) true e = columns-taken 𝓓 (bookOf 𝓓 s .row) p (column-there s good p e) ∙ within p h
         go p (yes h) false e =
-            free p e ∙ sym (good .table-rest p h e) ∙ table-column (width 𝓓) p (s .costs) (column-fits (s .costs) p (good .table-room) h)
-        go p (no h) true e = absurd (h (below-among (places 𝓓) (take (s .taken) (s .arrival)) p (good .in-range) e))
-        go p (no h) false e = free p e ∙ sym (column-beyond 𝓓 (s .costs) p (good .table-room) (omega arith))
+            columns-none 𝓓 (bookOf 𝓓 s .row) p (column-away s good p e) ∙ sym (good .table-rest p h e) ∙ within p h
+        go p (no h) b e =
+            let f : places 𝓓 ≤ p = omega arith in
+            columns-none 𝓓 (bookOf 𝓓 s .row) p (column-away s good p (flag-beyond s good p f))
+            ∙ sym (column-beyond 𝓓 (s .costs) p (good .table-room) f)
 
-    pub missing-taken : someMissing 𝓓 (bookOf 𝓓 s .row) ≡ not (leb (places 𝓓) (s .taken))
-    missing-taken =
-        missing-count 𝓓 (bookOf 𝓓 s .row) (good-proper s good .in-range) (good-proper s good .apart)
-        ∙ ap (λ n. not (leb (places 𝓓) n)) (book-length s good)
+    pub missing-taken : someMissing 𝓓 (bookOf 𝓓 s .row) ≡ not (allTaken 𝓓 (s .taken))
+    unfolding someMissing takenBelow
+    missing-taken = ap (λ (f : ℕ → Bool). not (every (places 𝓓) f)) (fun-ext (book-taken s good))
 
   -- ---- closing
 
   module _ (s : Held) (good : Good 𝓓 s) (message report : List ℕ) (long : length message ≡ s .rate) (whole-report : length report ≡ reportLength 𝓓) where
-    pub close-early : s .taken < places 𝓓 → closeOf 𝓓 (bookOf 𝓓 s) message report ≡ refusedClosing placeMissing message report
+    pub close-early : allTaken 𝓓 (s .taken) ≡ false → closeOf 𝓓 (bookOf 𝓓 s) message report ≡ refusedClosing placeMissing message report
     unfolding bookOf
-    close-early h =
+    close-early e =
         close-missing 𝓓 (bookOf 𝓓 s) message report (fits-of 𝓓 (bookOf 𝓓 s) message report long whole-report)
-        (missing-taken s good ∙ ap not (lt-leb (places 𝓓) (s .taken) h))
+        (missing-taken s good ∙ ap not e)
 
-    pub close-full : places 𝓓 ≤ s .taken
+    pub close-full : allTaken 𝓓 (s .taken) ≡ true
         → closeOf 𝓓 (bookOf 𝓓 s) message report
         ≡ decodeOf 𝓓 (s .rate) (columnOf (width 𝓓) (s .costs)) (take (s .doubt) (s .doubtful)) message report
     unfolding bookOf
-    close-full h =
+    close-full e =
         close-decoded 𝓓 (bookOf 𝓓 s) message report (fits-of 𝓓 (bookOf 𝓓 s) message report long whole-report)
-        (missing-taken s good ∙ ap not (le-leb (places 𝓓) (s .taken) h))
+        (missing-taken s good ∙ ap not e)
         ∙ ap (λ (f : ℕ → List ℕ). decodeOf 𝓓 (s .rate) f (take (s .doubt) (s .doubtful)) message report) (columns-table s good)
 
-  -- ---- one book
+  -- ---- books that agree
 
-  module _ (s t : Held) (a : Good 𝓓 s) (b : Good 𝓓 t) (same : bookOf 𝓓 s ≡ bookOf 𝓓 t) where
-    same-rate : s .rate ≡ t .rate
-    unfolding bookOf
-    same-rate = ap (λ (x : Book). x .rate) same
-
+  module _ (s t : Held) (a : Good 𝓓 s) (b : Good 𝓓 t) (same : Agree (bookOf 𝓓 s) (bookOf 𝓓 t)) where
     same-doubt : s .doubt ≡ t .doubt
-    same-doubt = sym (list-length s a) ∙ ap (λ (x : Book). length (x .doubtful)) same ∙ list-length t b
+    same-doubt = sym (list-length s a) ∙ ap length (same .same-list) ∙ list-length t b
 
-    same-list : s .doubtful ≡ t .doubtful
+    same-doubtful : s .doubtful ≡ t .doubtful
     unfolding bookOf
-    same-list =
+    same-doubtful =
         sym (take-append-drop (s .doubt) (s .doubtful))
-        ∙ ap₂ (λ (x y : List ℕ). x ++ y) (ap (λ (x : Book). x .doubtful) same)
+        ∙ ap₂ (λ (x y : List ℕ). x ++ y) (same .same-list)
         (a .list-rest ∙ ap (λ n. drop n (replicate mostDoubt 0)) same-doubt ∙ sym (b .list-rest))
         ∙ take-append-drop (t .doubt) (t .doubtful)
 
     same-taken : s .taken ≡ t .taken
-    same-taken = sym (book-length s a) ∙ ap (λ (x : Book). length (x .row)) same ∙ book-length t b
+    same-taken =
+        ext-getD false (s .taken) (t .taken) (a .row-room ∙ sym (b .row-room))
+        (λ p h. sym (book-taken s a p) ∙ taken-alike (bookOf 𝓓 s .row) (bookOf 𝓓 t .row) (same .same-columns) p ∙ book-taken t b p)
 
-    same-places : take (s .taken) (s .arrival) ≡ take (t .taken) (t .arrival)
-    same-places = sym (book-places s a) ∙ ap (λ (x : Book). placesOf (x .row)) same ∙ book-places t b
-
-    same-arrival : s .arrival ≡ t .arrival
-    same-arrival =
-        sym (take-append-drop (s .taken) (s .arrival))
-        ∙ ap₂ (λ (x y : List ℕ). x ++ y) same-places (a .row-rest ∙ ap (λ n. drop n (replicate (places 𝓓) 0)) same-taken ∙ sym (b .row-rest))
-        ∙ take-append-drop (t .taken) (t .arrival)
+    same-table : columnOf (width 𝓓) (s .costs) ≡ columnOf (width 𝓓) (t .costs)
+    same-table = sym (columns-table s a) ∙ columns-alike 𝓓 (bookOf 𝓓 s .row) (bookOf 𝓓 t .row) (same .same-columns) ∙ columns-table t b
 
     same-column : (p : ℕ) → p < places 𝓓 → block (width 𝓓) p (s .costs) ≡ block (width 𝓓) p (t .costs)
-    same-column p h = go (among p (take (s .taken) (s .arrival))) refl
-      where
-        go : (x : Bool) → among p (take (s .taken) (s .arrival)) ≡ x → block (width 𝓓) p (s .costs) ≡ block (width 𝓓) p (t .costs)
-        go true e =
-            Option·some-injective (block (width 𝓓) p (s .costs)) (block (width 𝓓) p (t .costs))
-            (sym (column-there s a p e) ∙ ap (λ (x : Book). columnIn (x .row) p) same
-            ∙ column-there t b p (sym (ap (among p) same-places) ∙ e))
-        go false e = a .table-rest p h e ∙ sym (b .table-rest p h (sym (ap (among p) same-places) ∙ e))
+    same-column p h =
+        table-column (width 𝓓) p (s .costs) (column-fits (s .costs) p (a .table-room) h)
+        ∙ ap (λ (f : ℕ → List ℕ). f p) same-table
+        ∙ sym (table-column (width 𝓓) p (t .costs) (column-fits (t .costs) p (b .table-room) h))
 
     same-costs : s .costs ≡ t .costs
     same-costs = block-ext 0 (width 𝓓) (places 𝓓) (s .costs) (t .costs) (omega (arith, member .square, mul-le-mul-left (member .w) (member .wide))) (omega (arith, a .table-room)) (omega (arith, b .table-room)) same-column
 
     pub one-held : s ≡ t
+    unfolding bookOf
     one-held =
         λ i. record {
-          rate = same-rate i;
+          rate = same .same-rate i;
           doubt = same-doubt i;
-          doubtful = same-list i;
+          doubtful = same-doubtful i;
           taken = same-taken i;
-          arrival = same-arrival i;
           costs = same-costs i;
         }

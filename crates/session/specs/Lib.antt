@@ -7,3 +7,4 @@ pub mod Answering
 pub mod Table
 pub mod AnsweringLaws
 pub mod Scan
+pub mod Flags

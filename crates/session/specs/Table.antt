@@ -1,23 +1,22 @@
 -- The book of a good session, read off its fields.
 --
 --   columns-table      the columns by place are those of the table, at every place: where nothing was delivered both hold zeros
---   missing-taken      a place is missing exactly if fewer than 64 are taken
---   settled-arrived    a place is settled exactly if it arrived and is not in the doubtful list
+--   missing-taken      a place is missing exactly if not every flag is set
+--   settled-taken      a place is settled exactly if its flag is set and it is not in the doubtful list
 --   settled-table      its best symbol is the best of its column in the table
-use mathlib.Core.Bool.{not, _&&_}
+use mathlib.Core.Bool.{false, not, _&&_}
 use mathlib.Core.Path.{_≡_, ap}
 use mathlib.Core.List.{List}
 use Prim.Native.Nat.{ℕ}
-use lib.Dec.{leb}
-use lib.ListN.{take}
+use lib.ListN.{getD, take}
 use Rattle.lists.specs.Distinct.{among}
 use Rattle.soft.specs.Column.{symbols, bestOf, columnOf}
 use Rattle.family.specs.Nodes.{node}
 use Rattle.book.specs.Model.{modem64}
 use Rattle.book.specs.Reading.{isSettled, settledAt}
-use Rattle.book.specs.Here.{places, someMissing, columnsOf}
+use Rattle.book.specs.Here.{someMissing, columnsOf}
 use Rattle.session.specs.declared.Session.{Session}
-use Rattle.session.specs.View.{held, bookOf, Good}
+use Rattle.session.specs.View.{held, allTaken, bookOf, Good}
 use Rattle.session.specs.Laws.{book-taken}
 use Rattle.session.specs.Held as Fields
 use Rattle.session.specs.HeldLaws as laws
@@ -27,14 +26,14 @@ module _ (s : Session) (good : Good s) where
   unfolding bookOf Fields.bookOf
   columns-table = laws.columns-table modem64 (held s) good
 
-  pub missing-taken : someMissing (bookOf s .row) ≡ not (leb places (s .taken))
+  pub missing-taken : someMissing (bookOf s .row) ≡ not (allTaken (s .taken))
   unfolding bookOf Fields.bookOf
   missing-taken = laws.missing-taken modem64 (held s) good
 
-  pub settled-arrived : (p : ℕ)
-      → isSettled (bookOf s) p ≡ (among p (take (s .taken) (s .arrival)) && not (among p (take (s .doubt) (s .doubtful))))
+  pub settled-taken : (p : ℕ)
+      → isSettled (bookOf s) p ≡ (getD (s .taken) p false && not (among p (take (s .doubt) (s .doubtful))))
   unfolding isSettled bookOf
-  settled-arrived p = ap (λ b. b && not (among p (take (s .doubt) (s .doubtful)))) (book-taken s good p)
+  settled-taken p = ap (λ b. b && not (among p (take (s .doubt) (s .doubtful)))) (book-taken s good p)
 
   pub settled-table : (p : ℕ) → settledAt (bookOf s) p ≡ node p (bestOf (columnOf symbols (s .costs) p))
   unfolding settledAt

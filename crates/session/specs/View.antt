@@ -2,14 +2,15 @@
 --
 --   newSession rate list a newly opened session: the doubtful list in eight numbers, 1,024 costs of zero and no place taken
 --   held s               the session's fields
---   entryAt arrival costs i   the place that arrived as number i, and its column in the table
---   bookOf s             the session's rate, its doubtful list, and its places with their columns in the order of arrival
---   Good s               what holds of every session from opening: counts within their arrays, a known rate, a fit list, distinct places below 64,
---                        and zeros wherever nothing was put (Held)
+--   entryAt costs p      a place and its column in the table
+--   allTaken flags       the flags of all 64 places are set
+--   bookOf s             the session's rate, its doubtful list, and the places taken with their columns, rising: of the order of arrival nothing is held
+--   Good s               what holds of every session from opening: a count within its array, a known rate, a fit list, and zeros wherever nothing was
+--                        put (Held)
+use mathlib.Core.Bool.{Bool, false}
 use mathlib.Core.List.{List}
 use Prim.Native.Nat.{ℕ, _*_}
 use lib.ListN.{length, take, replicate}
-use Rattle.lists.specs.Listed.{listed}
 use Rattle.lists.specs.Padded.{padded}
 use Rattle.soft.specs.Doubt.{mostDoubt}
 use Rattle.book.specs.Model.{modem64}
@@ -25,32 +26,26 @@ newSession rate list =
       rate = rate;
       doubt = length list;
       doubtful = padded mostDoubt list;
-      taken = 0;
-      arrival = replicate places 0;
+      taken = replicate places false;
       costs = replicate (places * width) 0;
     }
 
 -- the session's fields
 abbrev pub held : Session → Held
-held s =
-    record {
-      rate = s .rate;
-      doubt = s .doubt;
-      doubtful = s .doubtful;
-      taken = s .taken;
-      arrival = s .arrival;
-      costs = s .costs;
-    }
+held s = record { rate = s .rate; doubt = s .doubt; doubtful = s .doubtful; taken = s .taken; costs = s .costs }
 
-abbrev pub entryAt : List ℕ → List ℕ → ℕ → Entry
-entryAt arrival costs i = Fields.entryAt modem64 arrival costs i
+abbrev pub entryAt : List ℕ → ℕ → Entry
+entryAt costs p = Fields.entryAt modem64 costs p
+
+abbrev pub allTaken : List Bool → Bool
+allTaken flags = Fields.allTaken modem64 flags
 
 unfoldable pub bookOf : Session → Book
 bookOf s =
     record {
       rate = s .rate;
       doubtful = take (s .doubt) (s .doubtful);
-      row = listed (s .taken) (entryAt (s .arrival) (s .costs));
+      row = Fields.entriesBelow modem64 (s .taken) (s .costs) places;
     }
 
 abbrev pub Good : Session → Type 0

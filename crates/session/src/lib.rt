@@ -1,5 +1,5 @@
 // A session by value: opening one, and delivering one place and its column of sixteen costs.
-// It keeps what was delivered, in the order of arrival, and nothing that could be recomputed from it.
+// It keeps what was delivered, by place, and nothing of the order of arrival: sessions that hold the same are the same.
 // It knows of no codeword and no interpolant; what a session stands for is its book (specs/View.antt).
 ghost use mathlib.Core.Path.{_≡_};
 ghost use Prim.Native.Nat.{_<_};
@@ -7,7 +7,7 @@ ghost use Rattle.lists.specs.Distinct.{among};
 ghost use Rattle.lists.specs.Block.{putBlock};
 ghost use Rattle.lists.specs.Padded.{padded};
 ghost use Rattle.book.specs.Here.{places, width, fitPlaces};
-ghost use Rattle.session.specs.View.{newSession};
+ghost use Rattle.session.specs.View.{newSession, allTaken};
 ghost use Rattle.session.specs.Calls.{refusedWith, openedOf, declinedWith, Delivery};
 use columns::costs::COSTS;
 use columns::costs::PLACES;
@@ -19,8 +19,7 @@ pub struct Session {
     pub rate: u8,
     pub doubt: usize,
     pub doubtful: [u8; MOST_DOUBT],
-    pub taken: usize,
-    pub arrival: [u8; PLACES],
+    pub taken: [bool; PLACES],
     pub costs: [u16; COSTS],
 }
 
@@ -70,14 +69,13 @@ fn new_session(rate: u8, list: &[u8]) -> Session
     ensures { λ r. ⌜ r ≡ newSession rate (now (list .entry)) ⌝ }
 {
     let doubtful = padded_list(list);
-    let arrival = [0u8; PLACES];
+    let taken = [false; PLACES];
     let costs = [0u16; COSTS];
     Session {
         rate: rate,
         doubt: list.len(),
         doubtful: doubtful,
-        taken: 0,
-        arrival: arrival,
+        taken: taken,
         costs: costs,
     }
 }
@@ -149,8 +147,7 @@ fn declined(number: u8, session: Session) -> Delivered
     }
 }
 
-// The test of `taken` keeps a session record that was built by hand from running past the row; no session from opening meets it
-// before every place is taken.
+// A place is taken if its flag is set. No field says where an array is read or written, so no session record runs past one.
 pub fn deliver(session: Session, place: usize, column: [u16; SYMBOLS]) -> Delivered
     ensures { λ r. ⌜ Delivery session place column r ⌝ }
 {
@@ -158,28 +155,37 @@ pub fn deliver(session: Session, place: usize, column: [u16; SYMBOLS]) -> Delive
         return declined(refusals::NO_PLACE, session);
     }
     let taken = session.taken;
-    let arrival = session.arrival;
-    if PLACES <= taken {
-        return declined(refusals::PLACE_TAKEN, session);
-    }
-    if is_among(place, &arrival[..taken]) {
+    if taken[place] {
         return declined(refusals::PLACE_TAKEN, session);
     }
     let doubtful = session.doubtful;
     let table = session.costs;
     let costs = with_column(table, place, column);
-    let mut order = arrival;
-    order[taken] = place as u8;
+    let mut flags = taken;
+    flags[place] = true;
     let left = Session {
         rate: session.rate,
         doubt: session.doubt,
         doubtful: doubtful,
-        taken: taken + 1,
-        arrival: order,
+        taken: flags,
         costs: costs,
     };
     Delivered {
         refusal: refusals::ACCEPTED,
         session: left,
     }
+}
+
+// Whether no place is missing.
+pub fn all_taken(taken: [bool; PLACES]) -> bool
+    ensures { λ r. ⌜ r ≡ allTaken taken ⌝ }
+{
+    let mut place = 0;
+    while place < PLACES {
+        if !taken[place] {
+            return false;
+        }
+        place += 1;
+    }
+    true
 }

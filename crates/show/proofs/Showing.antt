@@ -1,6 +1,7 @@
 -- From the book's answers to the text: the two cases of opening and the two of closing.
 --
 --   opened-refused, opened-accepted   what opening answers, as lines
+--   closed-alike         books that agree have the same lines
 --   closed-refused, closed-accepted   what closing answers, as lines
 --   shows-refused, shows-closed       what a session's closing answers, as lines
 --   known-short          a known rate is at most 64
@@ -18,8 +19,11 @@ use borrow.Author.Tests.{eq-eqb, ne-eqb}
 use Rattle.refusals.specs.Refusal.{accepted}
 use Rattle.code.specs.Encoding.{knownRate}
 use Rattle.code.specs.Rates.{known-bounds}
+use Rattle.book.specs.Model.{modem64}
 use Rattle.book.specs.Book.{Book, Outcome}
+use Rattle.book.specs.Columns.{Agree}
 use Rattle.book.specs.Closing.{Closed}
+use Rattle.book.specs.Sentences.{closing-alike}
 use Rattle.book.specs.Here.{reportLength, closeOf}
 use Rattle.session.specs.declared.Session.{Session}
 use Rattle.session.specs.View.{bookOf, Good}
@@ -35,6 +39,10 @@ opened-refused o h = rw (ne-eqb (o .number) accepted h)
 pub opened-accepted : (o : Outcome) → o .number ≡ accepted → openedLines o ≡ closedLines (o .book)
 unfolding openedLines
 opened-accepted o h = rw (eq-eqb (o .number) accepted h)
+
+pub closed-alike : {a b : Book} → Agree a b → closedLines a ≡ closedLines b
+unfolding closedLines answerLines
+closed-alike {a} {b} same = cc (closing-alike modem64 same (replicate (a .rate) 0) (replicate reportLength 0), same .same-rate, same .same-list)
 
 pub closed-refused : (book : Book) (c : Closed) → (c .number ≡ accepted → ⊥) → answerLines book c ≡ refusedLine (c .number)
 unfolding answerLines

@@ -6,7 +6,7 @@
 --   numberIn bytes           the number in the first two bytes, high first
 --   numberedChange letter number rest   of a call whose arguments are a number and the rest
 --   changeOf letter arguments   of every letter and all arguments: one that is none of the three, or too short for its number, does nothing
---   StandsFor book t         the session t is good, and its book is that one
+--   StandsFor book t         the session t is good, and its book agrees with that one
 --   Leaves s change t        the change leaves the session t where s was the session
 --
 -- Nothing is said of a delivery to a session record that was built by hand, as a step (`runs` Step) says nothing of it where it is accepted.
@@ -18,6 +18,7 @@ use lib.Dec.{eqb, ltb}
 use lib.ListN.{length, getD, drop}
 use Rattle.soft.specs.Column.{symbols, costsFrom}
 use Rattle.book.specs.Book.{Book}
+use Rattle.book.specs.Columns.{Agree}
 use Rattle.book.specs.CaptureOpening.{openCaptureOf}
 use Rattle.book.specs.Here.{openOf, deliverOf}
 use Rattle.session.specs.declared.Session.{Session}
@@ -60,7 +61,7 @@ changeOf letter arguments =
 
 pub record StandsFor (book : Book) (t : Session) : Type 0 where
   pub good : Good t
-  pub same : bookOf t ≡ book
+  pub same : Agree (bookOf t) book
 
 pub data Leaves (s : Session) : Change → Session → Type 0 where
   leaves-renewed : {book : Book} {t : Session} → StandsFor book t → Leaves s (renewed book) t

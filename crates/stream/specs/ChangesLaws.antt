@@ -3,8 +3,9 @@
 --   bookAfter book change    the book after it
 --   leaves-after             from a good session a good one is left, and it stands for the book after the change
 --   one-left                 so a good session and a call determine the session that is left
-use mathlib.Core.Path.{_≡_, sym, ap, _∙_, subst}
+use mathlib.Core.Path.{_≡_, sym, ap, subst}
 use Rattle.book.specs.Book.{Book}
+use Rattle.book.specs.Columns.{agree-sym, agree-trans, agree-path}
 use Rattle.book.specs.Here.{deliverOf}
 use Rattle.session.specs.declared.Session.{Session}
 use Rattle.session.specs.View.{bookOf, Good}
@@ -20,8 +21,8 @@ pub leaves-after : {s t : Session} {change : Change} → Leaves s change t → G
 unfolding bookAfter
 leaves-after (leaves-renewed new) good = new
 leaves-after (leaves-delivered by) good = by good
-leaves-after (leaves-kept e) good = record { good = subst Good (sym e) good; same = ap bookOf e }
+leaves-after (leaves-kept e) good = record { good = subst Good (sym e) good; same = agree-path (ap bookOf e) }
 
 pub one-left : {s t u : Session} {change : Change} → Good s → Leaves s change t → Leaves s change u → t ≡ u
 one-left {s} {t} {u} good a b =
-    one-session t u (leaves-after a good .good) (leaves-after b good .good) (leaves-after a good .same ∙ sym (leaves-after b good .same))
+    one-session t u (leaves-after a good .good) (leaves-after b good .good) (agree-trans (leaves-after a good .same) (agree-sym (leaves-after b good .same)))

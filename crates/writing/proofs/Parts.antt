@@ -4,7 +4,7 @@ use mathlib.Core.List.{List, [], _∷_, _++_, append-assoc, append-nil}
 use Prim.Native.Nat.{ℕ, suc, _+_, _-_, _*_, _/_, _%_, _<_, _≤_}
 use native.Mathlib.Numerals.{add-one}
 use native.Mathlib.Omega.{arith}
-use lib.ListN.{length, getD, set, take, drop, length-append, length-drop, length-set, drop-of-length-le, List·getD-map}
+use lib.ListN.{length, getD, set, take, drop, length-append, length-drop, length-set, drop-of-length-le}
 use lib.Seq.{take-suc, take-all, take-at, drop-at, length-take-le}
 use borrow.Rule.Slice.PartMut.{putMid}
 use Rattle.lists.specs.Listed.{listed, listed-nil, listed-suc, listed-length}
@@ -17,7 +17,7 @@ use Rattle.book.specs.Here.{places, width}
 use Rattle.session.specs.View.{entryAt}
 use Rattle.session.specs.Laws.{row-wide}
 use Rattle.session.specs.Held as Fields
-use Rattle.capture.specs.Calls.{recordBytes, wrapped, rowOf}
+use Rattle.capture.specs.Calls.{recordBytes, rowOf}
 
 -- ---- cost bytes
 
@@ -59,9 +59,6 @@ costs-end column old out j h n e =
     e ∙ ap₂ (λ (x y : List ℕ). costBytes x ++ y) (take-all j column h) (drop-of-length-le old n) ∙ append-nil (costBytes column)
 
 -- ---- parts that are lent
-
-pub part-length : (a e n : ℕ) (xs : List ℕ) → e ≡ a + n → e ≤ length xs → length (take (e - a) (drop a xs)) ≡ n
-part-length a e n xs q h = length-take-le (e - a) (drop a xs) (rw length-drop (omega arith)) ∙ omega arith
 
 -- the whole after a call that was lent all but its first five bytes, and after five stores
 pub head-end : (out list : List ℕ) (v a b r n : ℕ) → length out ≡ 5 + length list
@@ -108,51 +105,40 @@ no-records : rowBytes [] ≡ []
 unfolding rowBytes
 no-records = refl
 
-module _ (arrival costs : List ℕ) where
-  pub wrapped-at : (i : ℕ) → getD (wrapped arrival) i 0 ≡ getD arrival i 0 % places
-  unfolding wrapped
-  wrapped-at i = List·getD-map (λ p. p % places) arrival i 0
-
-  wrapped-below : (i : ℕ) → getD (wrapped arrival) i 0 < places
-  wrapped-below i = omega (arith, wrapped-at i)
-
-  written-length : (n : ℕ) → length costs ≡ places * width → length (rowBytes (rowOf arrival costs n)) ≡ recordLength * n
+module _ (costs : List ℕ) (whole : length costs ≡ places * width) where
+  written-length : (n : ℕ) → n ≤ places → length (rowBytes (rowOf costs n)) ≡ recordLength * n
   unfolding rowOf
-  written-length n e =
-      row-bytes-length (listed n (entryAt (wrapped arrival) costs)) (row-wide (wrapped arrival) costs n e (λ i h. wrapped-below i))
-      ∙ ap (λ k. recordLength * k) (listed-length n (entryAt (wrapped arrival) costs))
+  written-length n h =
+      row-bytes-length (listed n (entryAt costs)) (row-wide costs n whole h) ∙ ap (λ k. recordLength * k) (listed-length n (entryAt costs))
 
-  pub records-start : (out : List ℕ) → out ≡ rowBytes (rowOf arrival costs 0) ++ drop (recordLength * 0) out
+  pub records-start : (out : List ℕ) → out ≡ rowBytes (rowOf costs 0) ++ drop (recordLength * 0) out
   unfolding rowOf
   records-start out = rw (listed-nil, no-records)
 
-  next-record : (i p : ℕ) → p ≡ getD arrival i 0 % places
-      → recordBytes p (take (width * p + width - width * p) (drop (width * p) costs)) ≡ rowBytes (entryAt (wrapped arrival) costs i ∷ [])
+  next-record : (p : ℕ) → recordBytes p (take (width * p + width - width * p) (drop (width * p) costs)) ≡ rowBytes (entryAt costs p ∷ [])
   unfolding Fields.entryAt block
-  next-record i p e =
+  next-record p =
       let q : width * p + width - width * p ≡ width = omega arith in
-      ap (λ k. recordBytes p (take k (drop (width * p) costs))) q
-      ∙ ap (λ x. recordBytes x (take width (drop (width * x) costs))) (e ∙ sym (wrapped-at i))
-      ∙ sym (one-record (entryAt (wrapped arrival) costs i))
+      ap (λ k. recordBytes p (take k (drop (width * p) costs))) q ∙ sym (one-record (entryAt costs p))
 
-  pub records-turn : (old out part : List ℕ) (i p : ℕ) → length costs ≡ places * width → p ≡ getD arrival i 0 % places
+  pub records-turn : (old out part : List ℕ) (p : ℕ) → p ≤ places
       → part ≡ recordBytes p (take (width * p + width - width * p) (drop (width * p) costs))
-      → out ≡ rowBytes (rowOf arrival costs i) ++ drop (recordLength * i) old
-      → putMid (recordLength * i) (recordLength * i + recordLength - recordLength * i) out part
-      ≡ rowBytes (rowOf arrival costs (i + 1)) ++ drop (recordLength * (i + 1)) old
+      → out ≡ rowBytes (rowOf costs p) ++ drop (recordLength * p) old
+      → putMid (recordLength * p) (recordLength * p + recordLength - recordLength * p) out part
+      ≡ rowBytes (rowOf costs (p + 1)) ++ drop (recordLength * (p + 1)) old
   unfolding rowOf
-  records-turn old out part i p e a q f =
-      let at : ℕ = recordLength * i in
-      let k : at + (at + recordLength - at) ≡ recordLength * (i + 1) = omega arith in
-      stored-part out old (rowBytes (rowOf arrival costs i)) part at (at + recordLength - at) (written-length i e) f
+  records-turn old out part p h q f =
+      let at : ℕ = recordLength * p in
+      let k : at + (at + recordLength - at) ≡ recordLength * (p + 1) = omega arith in
+      stored-part out old (rowBytes (rowOf costs p)) part at (at + recordLength - at) (written-length p h) f
       ∙ ap₂ (λ (l : List ℕ) n. l ++ drop n old)
-      (ap (λ (l : List ℕ). rowBytes (listed i (entryAt (wrapped arrival) costs)) ++ l) (q ∙ next-record i p a)
-      ∙ sym (row-bytes-append (listed i (entryAt (wrapped arrival) costs)) (entryAt (wrapped arrival) costs i ∷ []))
-      ∙ ap rowBytes (sym (listed-suc i (entryAt (wrapped arrival) costs)) ∙ ap (λ n. listed n (entryAt (wrapped arrival) costs)) (sym (add-one i))))
+      (ap (λ (l : List ℕ). rowBytes (listed p (entryAt costs)) ++ l) (q ∙ next-record p)
+      ∙ sym (row-bytes-append (listed p (entryAt costs)) (entryAt costs p ∷ []))
+      ∙ ap rowBytes (sym (listed-suc p (entryAt costs)) ∙ ap (λ n. listed n (entryAt costs)) (sym (add-one p))))
       k
 
-  pub records-end : (old out : List ℕ) (i : ℕ) → i ≡ places → length old ≡ recordLength * places
-      → out ≡ rowBytes (rowOf arrival costs i) ++ drop (recordLength * i) old → out ≡ rowBytes (rowOf arrival costs places)
-  records-end old out i n l f =
-      f ∙ ap (λ (r : List ℕ). rowBytes (rowOf arrival costs i) ++ r) (drop-of-length-le old {i = recordLength * i} (omega arith))
-      ∙ append-nil (rowBytes (rowOf arrival costs i)) ∙ ap (λ k. rowBytes (rowOf arrival costs k)) n
+  pub records-end : (old out : List ℕ) (p : ℕ) → p ≡ places → length old ≡ recordLength * places
+      → out ≡ rowBytes (rowOf costs p) ++ drop (recordLength * p) old → out ≡ rowBytes (rowOf costs places)
+  records-end old out p n l f =
+      f ∙ ap (λ (r : List ℕ). rowBytes (rowOf costs p) ++ r) (drop-of-length-le old {i = recordLength * p} (omega arith))
+      ∙ append-nil (rowBytes (rowOf costs p)) ∙ ap (λ k. rowBytes (rowOf costs k)) n

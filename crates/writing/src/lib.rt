@@ -1,8 +1,8 @@
-// Writing a session as a capture: the checks in document 01's order, then the head and the records in the order of arrival.
+// Writing a session as a capture: the checks in document 01's order, then the head and the records in rising place order.
 // It knows a session only by its fields, and a column only as sixteen costs.
 ghost use mathlib.Core.Path.{_≡_};
-ghost use Prim.Native.Nat.{_*_, _%_, _≤_, _<_};
-ghost use lib.ListN.{length, getD, take};
+ghost use Prim.Native.Nat.{_*_, _≤_};
+ghost use lib.ListN.{length, take};
 ghost use Rattle.soft.specs.Doubt.{mostDoubt};
 ghost use Rattle.book.specs.Capture.{costBytes, rowBytes, recordLength};
 ghost use Rattle.book.specs.Here.{places, width};
@@ -46,30 +46,21 @@ fn write_record(place: u8, column: &[u16], out: &mut [u8])
     write_costs(column, &mut out[1..]);
 }
 
-// The place that arrived as number i. No session from opening holds one above 63.
-fn arrived(arrival: &[u8], i: usize) -> u8
-    requires { ⌜ i < length (now arrival) ⌝ }
-    ensures { λ r. ⌜ r ≡ getD (now (arrival .entry)) i 0 % places ⌝ }
+// The records of all places, from 0 on.
+fn write_records(costs: &[u16], out: &mut [u8])
+    requires { ⌜ (length (now costs) ≡ places * width) × (length (now out) ≡ recordLength * places) ⌝ }
+    ensures { λ _. ⌜ now (out .exit) ≡ rowBytes (rowOf (now (costs .entry)) places) ⌝ }
 {
-    arrival[i] % (PLACES as u8)
-}
-
-// The 64 records, in the order of arrival.
-fn write_records(arrival: &[u8], costs: &[u16], out: &mut [u8])
-    requires { ⌜ (length (now arrival) ≡ places) × (length (now costs) ≡ places * width) × (length (now out) ≡ recordLength * places) ⌝ }
-    ensures { λ _. ⌜ now (out .exit) ≡ rowBytes (rowOf (now (arrival .entry)) (now (costs .entry)) places) ⌝ }
-{
-    let mut i = 0;
-    while i < PLACES {
-        let place = arrived(arrival, i);
-        let from = SYMBOLS * (place as usize);
-        let to = RECORD_BYTES * i;
+    let mut place = 0;
+    while place < PLACES {
+        let from = SYMBOLS * place;
+        let to = RECORD_BYTES * place;
         write_record(
-            place,
+            place as u8,
             &costs[from..from + SYMBOLS],
             &mut out[to..to + RECORD_BYTES],
         );
-        i += 1;
+        place += 1;
     }
 }
 
@@ -98,14 +89,14 @@ pub fn write_capture(session: Session, out: &mut [u8]) -> u8
     if out.len() != LEAST_BYTES + doubt {
         return refusals::WRONG_SIZE;
     }
-    if session.taken < PLACES {
+    let taken = session.taken;
+    if !session::all_taken(taken) {
         return refusals::PLACE_MISSING;
     }
     let doubtful = session.doubtful;
-    let arrival = session.arrival;
     let costs = session.costs;
     let start = HEAD_BYTES + doubt;
     write_head(session.rate, doubtful, doubt, &mut out[..start]);
-    write_records(&arrival, &costs, &mut out[start..]);
+    write_records(&costs, &mut out[start..]);
     refusals::ACCEPTED
 }

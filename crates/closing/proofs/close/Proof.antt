@@ -10,6 +10,7 @@ use Rattle.session.specs.AnsweringLaws.{closing-by-hand, closing-wrong-size, cl
 use Rattle.decoding.specs.Asked.{asked-fit}
 use Rattle.closing.proofs.Opened.{fit-opened, opened-fit}
 use borrow.Author.Needs.{needs}
+use borrow.Author.Tests.{not-true, not-false}
 use Rattle.closing.proofs.close.Statement.{statement}
 use Rattle.closing.proofs.close.Tie as tie
 
@@ -26,20 +27,25 @@ returns c = closing-wrong-size _ _ _ (inl (c .if1 .taken))
 returns-2 : tie.Need-returns-2
 returns-2 c = closing-wrong-size _ _ _ (inr (c .if2 .taken))
 
+all-taken-requires : tie.Need-all-taken-requires
+all-taken-requires c κs = search needs
+
 returns-3 : tie.Need-returns-3
-returns-3 c = closing-early _ _ _ (c .before .before .before .if1 .left) (c .before .before .if2 .left) (c .if3 .taken)
+returns-3 c =
+    closing-early (c .before .before .before .before .before .before .before .before .args .session) _ _ (c .before .before .before .before .if1 .left) (c .before .before .before .if2 .left)
+    (sym (c .before .all-taken .ensures) ∙ not-true _ (c .if3 .taken))
 
 returns-4 : tie.Need-returns-4
 returns-4 c = closing-by-hand _ _ _ _ (λ good. omega (arith, good .doubt-fits, c .if4 .taken))
 
 array-share-prefix-doubtful : tie.Need-array-share-prefix-doubtful
 array-share-prefix-doubtful c =
-    let l : length (c .before .before .before .before .before .before .before .before .before .args .session .doubtful) ≡ 8 = search needs in
+    let l : length (c .before .before .before .before .before .before .before .before .before .before .args .session .doubtful) ≡ 8 = search needs in
     omega arith
 
 slice-aggregate-open : tie.Need-slice-aggregate-open
 slice-aggregate-open c =
-    let s : Session = c .before .before .before .before .before .before .before .before .before .before .args .session in
+    let s : Session = c .before .before .before .before .before .before .before .before .before .before .before .args .session in
     let l : length (s .doubtful) ≡ 8 = search needs in
     sym (length-take-le (s .doubt) (s .doubtful) (omega arith))
 
@@ -53,16 +59,16 @@ returns-5 c =
 
 slice-aggregate-decode : tie.Need-slice-aggregate-decode
 slice-aggregate-decode c =
-    sym (table-room (c .before .before .before .before .before .before .before .before .before .before .before .before .before .before .before))
+    sym (table-room (c .before .before .before .before .before .before .before .before .before .before .before .before .before .before .before .before))
 
 decode-requires : tie.Need-decode-requires
 decode-requires c κs =
-    let s : Session = c .before .before .before .before .before .before .before .before .before .before .before .before .before .before .before .before .before .args .session in
+    let s : Session = c .before .before .before .before .before .before .before .before .before .before .before .before .before .before .before .before .before .before .args .session in
     let f = opened-fit (s .rate) (take (s .doubt) (s .doubtful)) (sym (ap (λ (o : Opened). o .refusal) (c .before .before .before .before .before .before .«open» .ensures)) ∙ c .before .before .before .before .if5 .left) in
     record {
-      asked = asked-fit (s .rate) (s .costs) (s .doubtful) (s .doubt) (f .0) (f .1) (table-room (c .before .before .before .before .before .before .before .before .before .before .before .before .before .before .before .before .before)) (c .before .before .before .before .before .before .before .before .if4 .left);
-      message-long = c .before .before .before .before .before .before .before .before .before .before .before .before .before .if1 .left;
-      report-long = c .before .before .before .before .before .before .before .before .before .before .before .before .if2 .left;
+      asked = asked-fit (s .rate) (s .costs) (s .doubtful) (s .doubt) (f .0) (f .1) (table-room (c .before .before .before .before .before .before .before .before .before .before .before .before .before .before .before .before .before .before)) (c .before .before .before .before .before .before .before .before .if4 .left);
+      message-long = c .before .before .before .before .before .before .before .before .before .before .before .before .before .before .if1 .left;
+      report-long = c .before .before .before .before .before .before .before .before .before .before .before .before .before .if2 .left;
     }
 
 same-length : tie.Need-same-length
@@ -73,7 +79,7 @@ same-length-2 c = search needs
 
 returns-6 : tie.Need-returns-6
 returns-6 c =
-    closing-decoded _ _ _ (c .before .before .before .before .before .before .before .before .before .before .before .before .before .before .before .before .before .before .if1 .left) (c .before .before .before .before .before .before .before .before .before .before .before .before .before .before .before .before .before .if2 .left) (c .before .before .before .before .before .before .before .before .before .before .before .before .before .before .before .if3 .left) (c .before .before .before .before .decode .ensures)
+    closing-decoded _ _ _ (c .before .before .before .before .before .before .before .before .before .before .before .before .before .before .before .before .before .before .before .if1 .left) (c .before .before .before .before .before .before .before .before .before .before .before .before .before .before .before .before .before .before .if2 .left) (sym (c .before .before .before .before .before .before .before .before .before .before .before .before .before .before .before .before .all-taken .ensures) ∙ not-false _ (c .before .before .before .before .before .before .before .before .before .before .before .before .before .before .before .if3 .left)) (c .before .before .before .before .decode .ensures)
 
 pub close-spec : {M : Type 1} → statement M
 close-spec =
@@ -82,6 +88,7 @@ close-spec =
     cast-rate
     returns
     returns-2
+    all-taken-requires
     returns-3
     returns-4
     array-share-prefix-doubtful

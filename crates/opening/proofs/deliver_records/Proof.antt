@@ -1,10 +1,11 @@
--- `opening::deliver_records` meets its contract. The loop's invariant: what is left to deliver answers as the whole row does.
+-- `opening::deliver_records` meets its contract. The loop's invariant: the outcome of what is left to deliver agrees with that of the whole row.
 use borrow.Author.Needs.{needs}
-use mathlib.Core.Path.{_≡_, refl}
+use mathlib.Core.Path.{refl}
 use Prim.Native.Nat.{_-_, _*_, _≤_}
 use native.Mathlib.Omega.{arith}
 use lib.ListN.{drop}
 use Rattle.book.specs.Capture.{recordsOf}
+use Rattle.book.specs.AlikeDelivery.{Agreed, agreed-path}
 use Rattle.book.specs.Here.{places, deliverRow}
 use Rattle.session.specs.View.{bookOf, Good}
 use Rattle.opening.proofs.Delivering.{turn, stop, finish}
@@ -14,13 +15,13 @@ use Rattle.opening.proofs.deliver_records.Tie as tie
 abbrev Inv-loop : tie.InvT-loop
 Inv-loop records current₀ i₀ current i =
     (i ≤ 64) × Good current
-    × (deliverRow (bookOf current₀) (recordsOf places records) ≡ deliverRow (bookOf current) (recordsOf (64 - i) (drop (33 * i) records)))
+    × Agreed (deliverRow (bookOf current₀) (recordsOf places records)) (deliverRow (bookOf current) (recordsOf (64 - i) (drop (33 * i) records)))
 
 abbrev μ-loop : tie.MeasureT-loop
 μ-loop records current₀ i₀ current i = 64 - i
 
 loop-holds : tie.Need-loop-holds Inv-loop μ-loop
-loop-holds c = (omega arith, c .before .pre .0, refl)
+loop-holds c = (omega arith, c .before .pre .0, agreed-path refl)
 
 mul-at : tie.Need-mul-at Inv-loop μ-loop
 mul-at c = search needs

@@ -6,24 +6,17 @@ use Rattle.reading.proofs.Settling.{flag-away, flag-doubtful, flag-sett
 use Rattle.reading.proofs.flag.Statement.{statement}
 use Rattle.reading.proofs.flag.Tie as tie
 
+returns : tie.Need-returns
+returns c = flag-away _ _ _ (not-true _ (c .if1 .taken))
+
 is-among-requires : tie.Need-is-among-requires
 is-among-requires c κs = search needs
 
-returns : tie.Need-returns
-returns c = flag-away _ _ _ (sym (c .before .is-among .ensures) ∙ not-true _ (c .if1 .taken))
-
-is-among-requires-2 : tie.Need-is-among-requires-2
-is-among-requires-2 c κs = search needs
-
 returns-2 : tie.Need-returns-2
-returns-2 c =
-    flag-doubtful _ _ _ (sym (c .before .before .before .is-among .ensures) ∙ not-false _ (c .before .before .if1 .left))
-    (sym (c .before .is-among2 .ensures) ∙ c .if2 .taken)
+returns-2 c = flag-doubtful _ _ _ (not-false _ (c .before .before .if1 .left)) (sym (c .before .is-among .ensures) ∙ c .if2 .taken)
 
 returns-3 : tie.Need-returns-3
-returns-3 c =
-    flag-settled _ _ _ (sym (c .before .before .before .is-among .ensures) ∙ not-false _ (c .before .before .if1 .left))
-    (sym (c .before .is-among2 .ensures) ∙ c .if2 .left)
+returns-3 c = flag-settled _ _ _ (not-false _ (c .before .before .if1 .left)) (sym (c .before .is-among .ensures) ∙ c .if2 .left)
 
 pub flag-spec : {M : Type 1} → statement M
-flag-spec = tie.close (tie.spec is-among-requires returns is-among-requires-2 returns-2 returns-3)
+flag-spec = tie.close (tie.spec returns is-among-requires returns-2 returns-3)

@@ -1,22 +1,24 @@
 -- `reading::flags` meets its contract. The loop's invariant: the flags of the places passed are stored.
 use mathlib.Core.Path.{refl}
 use Prim.Native.Nat.{_-_}
-use native.Mathlib.Omega.{arith}
 use lib.ListN.{replicate}
 use borrow.Author.Needs.{needs}
 use Rattle.lists.specs.Filled.{Filled, filled-start, filled-turn, filled-end}
-use Rattle.reading.specs.Flags.{flagOf}
+use Rattle.reading.specs.Flags.{flagAt}
 use Rattle.reading.proofs.flags.Statement.{statement}
 use Rattle.reading.proofs.flags.Tie as tie
 
 abbrev Inv-loop : tie.InvT-loop
-Inv-loop arrived doubtful out₀ place₀ out place = Filled (replicate 64 0) (flagOf arrived doubtful) place out
+Inv-loop doubtful taken out₀ place₀ out place = Filled (replicate 64 0) (flagAt taken doubtful) place out
 
 abbrev μ-loop : tie.MeasureT-loop
-μ-loop arrived doubtful out₀ place₀ out place = 64 - place
+μ-loop doubtful taken out₀ place₀ out place = 64 - place
 
 loop-holds : tie.Need-loop-holds Inv-loop μ-loop
 loop-holds c = filled-start _ _
+
+array-read-flag : tie.Need-array-read-flag Inv-loop μ-loop
+array-read-flag c = search needs
 
 flag-requires : tie.Need-flag-requires Inv-loop μ-loop
 flag-requires c κs = search needs
@@ -31,6 +33,7 @@ loop-less : tie.Need-loop-less Inv-loop μ-loop
 loop-less c = search needs
 
 loop-again : tie.Need-loop-again Inv-loop μ-loop
+unfolding flagAt
 loop-again c = filled-turn 0 (c .before .before .loop .inv) _ (search needs) (c .flag .ensures)
 
 returns : tie.Need-returns Inv-loop μ-loop
@@ -43,6 +46,7 @@ flags-spec =
     Inv-loop
     μ-loop
     loop-holds
+    array-read-flag
     flag-requires
     array-write-out
     add-place

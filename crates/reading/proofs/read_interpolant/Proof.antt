@@ -1,7 +1,6 @@
 -- `reading::read_interpolant` meets its contract: the flags and the word of best symbols give the book's settled places, so the bytes are the book's; a record that fails a later test is of no session from opening.
 use mathlib.Core.Bool.{true, true≢false}
 use mathlib.Core.Path.{_≡_, sym, ap, _∙_}
-use Prim.Native.Nat.{_≤_}
 use native.Mathlib.Omega.{arith}
 use lib.ListN.{length}
 use lib.Seq.{length-take-le}
@@ -36,10 +35,7 @@ returns-2 c =
     (λ good. true≢false (sym (good .rate-known) ∙ sym (c .before .known-rate .ensures) ∙ not-true _ (c .if2 .taken)))
 
 returns-3 : tie.Need-returns-3
-returns-3 c = reading-by-hand _ _ _ (λ good. omega (arith, good .taken-fits, c .if3 .taken))
-
-returns-4 : tie.Need-returns-4
-returns-4 c = reading-by-hand _ _ _ (λ good. omega (arith, good .doubt-fits, c .if4 .taken))
+returns-3 c = reading-by-hand _ _ _ (λ good. omega (arith, good .doubt-fits, c .if3 .taken))
 
 slice-aggregate-best-word : tie.Need-slice-aggregate-best-word
 slice-aggregate-best-word c = search needs
@@ -47,24 +43,14 @@ slice-aggregate-best-word c = search needs
 best-word-requires : tie.Need-best-word-requires
 best-word-requires c κs = search needs
 
-array-share-prefix-arrival : tie.Need-array-share-prefix-arrival
-array-share-prefix-arrival c =
-    let l : length (c .before .before .before .before .before .before .before .before .before .before .before .before .args .session .arrival) ≡ 64 = search needs in
-    omega (arith, c .before .before .before .before .before .before .if3 .left)
+array-share-prefix-doubtful : tie.Need-array-share-prefix-doubtful
+array-share-prefix-doubtful c =
+    let l : length (c .before .before .before .before .before .before .before .before .before .before .before .args .session .doubtful) ≡ 8 = search needs in
+    omega (arith, c .before .before .before .before .before .if3 .left)
 
 slice-aggregate-flags : tie.Need-slice-aggregate-flags
 slice-aggregate-flags c =
-    let s : Session = c .before .before .before .before .before .before .before .before .before .before .before .before .before .args .session in
-    sym (length-take-le (s .taken) (s .arrival) (array-share-prefix-arrival (c .before)))
-
-array-share-prefix-doubtful : tie.Need-array-share-prefix-doubtful
-array-share-prefix-doubtful c =
-    let l : length (c .before .before .before .before .before .before .before .before .before .before .before .before .before .args .session .doubtful) ≡ 8 = search needs in
-    omega (arith, c .before .before .before .before .before .before .if4 .left)
-
-slice-aggregate-flags-2 : tie.Need-slice-aggregate-flags-2
-slice-aggregate-flags-2 c =
-    let s : Session = c .before .before .before .before .before .before .before .before .before .before .before .before .before .before .args .session in
+    let s : Session = c .before .before .before .before .before .before .before .before .before .before .before .before .args .session in
     sym (length-take-le (s .doubt) (s .doubtful) (array-share-prefix-doubtful (c .before)))
 
 flags-requires : tie.Need-flags-requires
@@ -74,7 +60,7 @@ add-reading : tie.Need-add-reading
 add-reading c = search needs
 
 reading-requires : tie.Need-reading-requires
-reading-requires c κs = omega (arith, known-bounds _ (known (c .before .before .before .before .before .before .before .before .before .before)))
+reading-requires c κs = omega (arith, known-bounds _ (known (c .before .before .before .before .before .before .before .before)))
 
 slice-aggregate-copy : tie.Need-slice-aggregate-copy
 slice-aggregate-copy c = search needs
@@ -85,14 +71,14 @@ copy-requires c κs = search needs
 same-length : tie.Need-same-length
 same-length c = search needs
 
-returns-5 : tie.Need-returns-5
-returns-5 c =
-    let s : Session = c .before .before .before .before .before .before .before .before .before .before .before .before .before .before .before .before .before .before .before .before .before .args .session in
-    let sized = c .before .before .before .before .before .before .before .before .before .before .before .before .before .before .before .before .before .before .before .if1 .left in
+returns-4 : tie.Need-returns-4
+returns-4 c =
+    let s : Session = c .before .before .before .before .before .before .before .before .before .before .before .before .before .before .before .before .before .before .before .args .session in
+    let sized = c .before .before .before .before .before .before .before .before .before .before .before .before .before .before .before .before .before .if1 .left in
     let size = ap length (c .before .before .before .before .before .reading .ensures) ∙ reading-size _ _ in
     let read = c .before .before .copy .ensures ∙ over-same _ _ (sized ∙ sym size) ∙ c .before .before .before .before .before .reading .ensures in
     reading-read s _ _ sized (ap length read ∙ reading-size _ _)
-    (λ good. read ∙ session-reading s good _ _ (c .before .before .before .before .before .before .before .before .before .best-word .ensures) (c .before .before .before .before .before .before .flags .ensures))
+    (λ good. read ∙ session-reading s good _ _ (c .before .before .before .before .before .before .before .before .best-word .ensures) (c .before .before .before .before .before .before .flags .ensures))
 
 pub read-interpolant-spec : {M : Type 1} → statement M
 read-interpolant-spec =
@@ -103,17 +89,14 @@ read-interpolant-spec =
     known-rate-requires
     returns-2
     returns-3
-    returns-4
     slice-aggregate-best-word
     best-word-requires
-    array-share-prefix-arrival
-    slice-aggregate-flags
     array-share-prefix-doubtful
-    slice-aggregate-flags-2
+    slice-aggregate-flags
     flags-requires
     add-reading
     reading-requires
     slice-aggregate-copy
     copy-requires
     same-length
-    returns-5)
+    returns-4)

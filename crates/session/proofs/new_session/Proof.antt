@@ -1,5 +1,6 @@
 -- `session::new_session` meets its contract, by what the padded list is.
 use borrow.Author.Needs.{needs}
+use mathlib.Core.Bool.{false}
 use lib.ListN.{length, replicate}
 use Rattle.session.specs.View.{newSession}
 use Rattle.session.proofs.new_session.Statement.{statement}
@@ -15,8 +16,7 @@ returns c =
       rate = c .before .before .args .rate;
       doubt = length (c .before .before .args .list .now);
       doubtful = c .padded-list .ensures i;
-      taken = 0;
-      arrival = replicate 64 0;
+      taken = replicate 64 false;
       costs = replicate 1024 0;
     }
 

@@ -3,8 +3,8 @@ use mathlib.Core.Path.{_∙_, ap, sym}
 use Rattle.book.specs.CaptureOpening.{openCaptureOf}
 use Rattle.text.specs.Text.{refusedLine}
 use Rattle.text.specs.Appended.{appended-as}
-use Rattle.show.specs.Shown.{closedLines, shownOf}
-use Rattle.show.proofs.Showing.{opened-refused, opened-accepted}
+use Rattle.show.specs.Shown.{shownOf}
+use Rattle.show.proofs.Showing.{opened-refused, opened-accepted, closed-alike}
 use borrow.Author.Needs.{needs}
 use Rattle.show.proofs.show_capture.Statement.{statement}
 use Rattle.show.proofs.show_capture.Tie as tie
@@ -39,7 +39,7 @@ returns-2 c =
     let opened = c .before .before .before .before .before .open-capture in
     let o = openCaptureOf (c .before .before .before .before .before .before .before .before .args .bytes .now) in
     appended-as
-    (ap closedLines (opened .ensures .book) ∙ sym (opened-accepted o (sym (opened .ensures .number) ∙ c .before .before .before .before .if1 .left)))
+    (closed-alike (opened .ensures .book) ∙ sym (opened-accepted o (sym (opened .ensures .number) ∙ c .before .before .before .before .if1 .left)))
     (c .before .before .show-session .ensures)
 
 pub show-capture-spec : {M : Type 1} → statement M

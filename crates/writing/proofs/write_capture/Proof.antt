@@ -1,5 +1,6 @@
 -- `writing::write_capture` meets its contract: each refusal is a case of writing; else the head and the records make up the capture.
 use borrow.Author.Needs.{needs}
+use borrow.Author.Tests.{not-true, not-false}
 use mathlib.Core.Path.{_≡_, sym, ap, ap₂, _∙_}
 use mathlib.Core.List.{List, _++_}
 use Prim.Native.Nat.{ℕ, _+_}
@@ -21,8 +22,13 @@ add-if2 c = search needs
 returns-2 : tie.Need-returns-2
 returns-2 c = writing-size _ _ (c .if2 .taken)
 
+all-taken-requires : tie.Need-all-taken-requires
+all-taken-requires c κs = search needs
+
 returns-3 : tie.Need-returns-3
-returns-3 c = writing-missing _ _ (c .before .before .if2 .left) (c .if3 .taken)
+returns-3 c =
+    writing-missing (c .before .before .before .before .before .before .args .session) _ (c .before .before .before .if2 .left)
+    (sym (c .before .all-taken .ensures) ∙ not-true _ (c .if3 .taken))
 
 add-start : tie.Need-add-start
 add-start c = search needs
@@ -43,9 +49,6 @@ write-head-requires c κs =
 slice-aggregate-write-records : tie.Need-slice-aggregate-write-records
 slice-aggregate-write-records c = search needs
 
-slice-aggregate-write-records-2 : tie.Need-slice-aggregate-write-records-2
-slice-aggregate-write-records-2 c = search needs
-
 sub-write-records : tie.Need-sub-write-records
 sub-write-records c = search needs
 
@@ -57,13 +60,12 @@ part-write-records-end c = search needs
 
 write-records-requires : tie.Need-write-records-requires
 write-records-requires c κs =
-    let a = c .before .before .before .before .before .before .before .before .before .before .before .before .before .before .before .args in
+    let a = c .before .before .before .before .before .before .before .before .before .before .before .before .before .before .args in
     let start : ℕ = 5 + a .session .doubt in
     let out : List ℕ = a .out .now in
-    let sized : length out ≡ 2117 + a .session .doubt = c .before .before .before .before .before .before .before .before .before .before .before .before .if2 .left in
-    let head : List ℕ = c .before .before .before .before .before .write-head .last .1 .1 .1 .0 in
-    let n : length head ≡ start = c .before .before .before .before .before .write-head .kept .1 .1 .1 .0 ∙ length-take-le start out (omega arith) in (
-      search needs,
+    let sized : length out ≡ 2117 + a .session .doubt = c .before .before .before .before .before .before .before .before .before .before .before .if2 .left in
+    let head : List ℕ = c .before .before .before .before .write-head .last .1 .1 .1 .0 in
+    let n : length head ≡ start = c .before .before .before .before .write-head .kept .1 .1 .1 .0 ∙ length-take-le start out (omega arith) in (
       search needs,
       rest-length start 2112 (head ++ drop start out)
           (length-append head (drop start out) ∙ omega (arith, length-drop start out)),
@@ -74,21 +76,22 @@ same-length c = search needs
 
 returns-4 : tie.Need-returns-4
 returns-4 c =
-    let a = c .before .before .before .before .before .before .before .before .before .before .before .before .before .before .before .before .before .before .args in
+    let a = c .before .before .before .before .before .before .before .before .before .before .before .before .before .before .before .before .before .args in
     let start : ℕ = 5 + a .session .doubt in
     let out : List ℕ = a .out .now in
-    let sized : length out ≡ 2117 + a .session .doubt = c .before .before .before .before .before .before .before .before .before .before .before .before .before .before .before .if2 .left in
-    let head : List ℕ = c .before .before .before .before .before .before .before .before .write-head .last .1 .1 .1 .0 in
-    let n : length head ≡ start = c .before .before .before .before .before .before .before .before .write-head .kept .1 .1 .1 .0 ∙ length-take-le start out (omega arith) in
-    let rest : List ℕ = c .before .before .write-records .last .1 .1 .0 in
+    let sized : length out ≡ 2117 + a .session .doubt = c .before .before .before .before .before .before .before .before .before .before .before .before .before .before .if2 .left in
+    let head : List ℕ = c .before .before .before .before .before .before .before .write-head .last .1 .1 .1 .0 in
+    let n : length head ≡ start = c .before .before .before .before .before .before .before .write-head .kept .1 .1 .1 .0 ∙ length-take-le start out (omega arith) in
+    let rest : List ℕ = c .before .before .write-records .last .1 .0 in
     let m : length rest ≡ 2112 =
-    c .before .before .write-records .kept .1 .1 .0
+    c .before .before .write-records .kept .1 .0
     ∙ rest-length start 2112 (head ++ drop start out)
     (length-append head (drop start out) ∙ omega (arith, length-drop start out)) in
     let whole = both-parts out head rest start n (omega arith) in
     let long : length (head ++ rest) ≡ length out = length-append head rest ∙ omega arith in
-    writing-accepted (a .session) out sized _ (ap length whole ∙ long) (c .before .before .before .before .before .before .before .before .before .before .before .before .before .if3 .left)
-    (whole ∙ ap₂ (λ (x y : List ℕ). x ++ y) (c .before .before .before .before .before .before .before .before .write-head .ensures) (c .before .before .write-records .ensures))
+    writing-accepted (a .session) out sized _ (ap length whole ∙ long)
+    (sym (c .before .before .before .before .before .before .before .before .before .before .before .before .all-taken .ensures) ∙ not-false _ (c .before .before .before .before .before .before .before .before .before .before .before .if3 .left))
+    (whole ∙ ap₂ (λ (x y : List ℕ). x ++ y) (c .before .before .before .before .before .before .before .write-head .ensures) (c .before .before .write-records .ensures))
 
 pub write-capture-spec : {M : Type 1} → statement M
 write-capture-spec =
@@ -97,13 +100,13 @@ write-capture-spec =
     returns
     add-if2
     returns-2
+    all-taken-requires
     returns-3
     add-start
     slice-relend-prefix-write-head
     slice-aggregate-write-head
     write-head-requires
     slice-aggregate-write-records
-    slice-aggregate-write-records-2
     sub-write-records
     part-write-records-start
     part-write-records-end

@@ -1,40 +1,36 @@
 -- `writing::write_records` meets its contract. The loop's invariant: the records of the places passed stand before what is left of the buffer.
 use borrow.Author.Needs.{needs}
-use mathlib.Core.Path.{_≡_, refl, _∙_}
-use borrow.Rule.Slice.PartMut.{same-len-mid}
+use mathlib.Core.Path.{_≡_, refl}
 use mathlib.Core.List.{List, _++_}
-use Prim.Native.Nat.{ℕ, _+_, _-_, _*_, _≤_}
+use Prim.Native.Nat.{ℕ, _-_, _*_, _≤_}
 use native.Mathlib.Omega.{arith}
 use lib.ListN.{length, drop}
 use Rattle.book.specs.Capture.{rowBytes}
 use Rattle.capture.specs.Calls.{rowOf}
-use Rattle.writing.proofs.Parts.{part-length, records-start, records-turn, records-end}
+use Rattle.writing.proofs.Parts.{records-start, records-turn, records-end}
 use Rattle.writing.proofs.write_records.Statement.{statement}
 use Rattle.writing.proofs.write_records.Tie as tie
 
 abbrev Inv-loop : tie.InvT-loop
-Inv-loop arrival costs out₀ i₀ out i =
-    (i ≤ 64) × (length out ≡ length out₀) × (out ≡ rowBytes (rowOf arrival costs i) ++ drop (33 * i) out₀)
+Inv-loop costs out₀ place₀ out place =
+    (place ≤ 64) × (length out ≡ length out₀) × (out ≡ rowBytes (rowOf costs place) ++ drop (33 * place) out₀)
 
 abbrev μ-loop : tie.MeasureT-loop
-μ-loop arrival costs out₀ i₀ out i = 64 - i
+μ-loop costs out₀ place₀ out place = 64 - place
 
 loop-holds : tie.Need-loop-holds Inv-loop μ-loop
 loop-holds c =
-    let a = c .before .before .before .args in
-    (omega arith, refl, records-start (a .arrival .now) (a .costs .now) (a .out .now))
-
-arrived-requires : tie.Need-arrived-requires Inv-loop μ-loop
-arrived-requires c κs = search needs
-
-cast-from : tie.Need-cast-from Inv-loop μ-loop
-cast-from c = search needs
+    let a = c .before .before .args in
+    (omega arith, refl, records-start (a .costs .now) (c .before .before .pre .0) (a .out .now))
 
 mul-from : tie.Need-mul-from Inv-loop μ-loop
 mul-from c = search needs
 
 mul-to : tie.Need-mul-to Inv-loop μ-loop
 mul-to c = search needs
+
+cast-write-record : tie.Need-cast-write-record Inv-loop μ-loop
+cast-write-record c = search needs
 
 add-write-record : tie.Need-add-write-record Inv-loop μ-loop
 add-write-record c = search needs
@@ -64,30 +60,23 @@ part-write-record-end-2 : tie.Need-part-write-record-end-2 Inv-loop μ-loop
 part-write-record-end-2 c = search needs
 
 write-record-requires : tie.Need-write-record-requires Inv-loop μ-loop
-write-record-requires c κs =
-    let a = c .before .before .before .before .before .before .before .before .args in
-    let i : ℕ = c .before .before .before .before .loop .i in
-    let from : ℕ = 16 * c .before .before .arrived .result in (
-      part-length from (from + 16) 16 (a .costs .now) refl (omega (arith, c .before .before .arrived .ensures)),
-      part-length (33 * i) (33 * i + 33) 33 (c .before .before .before .before .loop .out) refl (omega arith),
-    )
+write-record-requires c κs = search needs
 
-add-i : tie.Need-add-i Inv-loop μ-loop
-add-i c = search needs
+add-place : tie.Need-add-place Inv-loop μ-loop
+add-place c = search needs
 
 loop-less : tie.Need-loop-less Inv-loop μ-loop
 loop-less c = search needs
 
 loop-again : tie.Need-loop-again Inv-loop μ-loop
 loop-again c =
-    let s = c .before .before .before .before .before .before .before .before .before .before .before in
-    let l = c .before .before .before .before .before .before .before .loop in
-    let p = c .before .before .before .before .before .arrived in
+    let s = c .before .before .before .before .before .before .before .before .before in
+    let l = c .before .before .before .before .before .before .loop in
     let part : List ℕ = c .before .before .write-record .last .1 .1 .0 in (
       omega arith,
-      same-len-mid (33 * l .i) (33 * l .i + 33 - 33 * l .i) (l .out) part (c .before .before .write-record .kept .1 .1 .0) ∙ l .inv .1,
-      records-turn (s .args .arrival .now) (s .args .costs .now) (s .args .out .now) (l .out) part (l .i) (p .result) (s .pre .1) (p .ensures)
-          (c .before .before .write-record .ensures) (l .inv .2),
+      search needs,
+      records-turn (s .args .costs .now) (s .pre .0) (s .args .out .now) (l .out) part (l .place) (l .inv .0) (c .before .before .write-record .ensures)
+          (l .inv .2),
     )
 
 same-length : tie.Need-same-length Inv-loop μ-loop
@@ -95,8 +84,8 @@ same-length c = c .before .loop .inv .1
 
 returns : tie.Need-returns Inv-loop μ-loop
 returns c =
-    let a = c .before .before .before .before .before .args in
-    records-end (a .arrival .now) (a .costs .now) (a .out .now) (c .before .loop .out) (c .before .loop .i) (omega arith) (omega arith)
+    let s = c .before .before .before .before in
+    records-end (s .args .costs .now) (s .pre .0) (s .args .out .now) (c .before .loop .out) (c .before .loop .place) (omega arith) (omega arith)
     (c .before .loop .inv .2)
 
 pub write-records-spec : {M : Type 1} → statement M
@@ -106,10 +95,9 @@ write-records-spec =
     Inv-loop
     μ-loop
     loop-holds
-    arrived-requires
-    cast-from
     mul-from
     mul-to
+    cast-write-record
     add-write-record
     mul-write-record
     sub-write-record
@@ -120,7 +108,7 @@ write-records-spec =
     part-write-record-start-2
     part-write-record-end-2
     write-record-requires
-    add-i
+    add-place
     loop-less
     loop-again
     same-length
