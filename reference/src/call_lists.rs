@@ -2,6 +2,7 @@
 //!
 //! - [`call_list`]: the list of a numbered frame.
 
+use crate::arrivals::{Arrival, ARRIVALS};
 use crate::calls::Call;
 use crate::curve::PLACES;
 use crate::damage::{any_bytes, capture_of, damaged};
@@ -18,7 +19,8 @@ const REPORT_SIZE: u16 = REPORT_BYTES as u16;
 /// The calls made with one frame of a seed: openings, refused ones among them; deliveries in
 /// random order, and between them refused deliveries, readings, and closings and writings that
 /// come too early or into buffers of wrong sizes; then closing, twice, writing, reading, and the
-/// same with the captures of the frame.
+/// same with the captures of the frame; then writing after deliveries in an order whose sort goes
+/// round with the number, and after captures in an order of each sort.
 pub fn call_list(seed: u64, number: u64) -> Vec<Call> {
     let frame = Frame::numbered(seed, number);
     let mut random = Random::new(seed ^ u64::MAX, number);
@@ -27,10 +29,7 @@ pub fn call_list(seed: u64, number: u64) -> Vec<Call> {
     if random.once_in(4) {
         calls.extend(refused_opening(&mut random));
     }
-    calls.push(Call::Open {
-        rate: frame.rate as u16,
-        doubtful: frame.doubtful.clone(),
-    });
+    calls.push(opening(&frame));
     for (taken, place) in arrivals.iter().enumerate() {
         if random.once_in(6) {
             calls.push(between(&frame, &arrivals[..taken], &mut random));
@@ -42,7 +41,19 @@ pub fn call_list(seed: u64, number: u64) -> Vec<Call> {
     calls.push(refused_delivery(&arrivals, &mut random));
     calls.extend(whole(&frame));
     calls.extend(with_captures(&frame, &arrivals, &mut random));
+    let arrival = Arrival::numbered(number);
+    calls.extend(delivered_and_written(&frame, &arrival.places(&mut random)));
+    for arrival in ARRIVALS {
+        calls.extend(opened_and_written(&frame, &arrival.places(&mut random)));
+    }
     calls
+}
+
+fn opening(frame: &Frame) -> Call {
+    Call::Open {
+        rate: frame.rate as u16,
+        doubtful: frame.doubtful.clone(),
+    }
 }
 
 fn delivery(frame: &Frame, place: u8) -> Call {
@@ -60,10 +71,14 @@ fn whole(frame: &Frame) -> [Call; 3] {
             message: frame.rate as u16,
             report: REPORT_SIZE,
         },
-        Call::WriteCapture {
-            size: capture_size(frame),
-        },
+        writing(frame),
     ]
+}
+
+fn writing(frame: &Frame) -> Call {
+    Call::WriteCapture {
+        size: capture_size(frame),
+    }
 }
 
 fn capture_size(frame: &Frame) -> u16 {
@@ -179,11 +194,27 @@ fn with_captures(frame: &Frame, arrivals: &[u8], random: &mut Random) -> Vec<Cal
     calls
 }
 
+/// A session whose places are delivered in this order, written.
+fn delivered_and_written(frame: &Frame, places: &[u8]) -> Vec<Call> {
+    let mut calls = vec![opening(frame)];
+    calls.extend(places.iter().map(|place| delivery(frame, *place)));
+    calls.push(writing(frame));
+    calls
+}
+
+/// A capture whose records stand in this order, opened and written back.
+fn opened_and_written(frame: &Frame, places: &[u8]) -> Vec<Call> {
+    let capture = capture_of(frame, places);
+    vec![Call::OpenCapture { capture }, writing(frame)]
+}
+
 #[cfg(test)]
 mod tests {
     use super::*;
     use crate::calls::answer_all;
+    use crate::capture::bytes_of;
     use crate::session::Session;
+    use crate::streams::check_answers;
 
     #[test]
     fn calls_are_read_back_from_their_bytes() {
@@ -230,5 +261,71 @@ mod tests {
         reached.sort_unstable();
         sorted.sort_unstable();
         assert_eq!(reached, sorted);
+    }
+
+    /// The records that a program writes for a session.
+    type Records = fn(&Session) -> Vec<(u8, Column)>;
+
+    /// The answers of a program that is right but for the records that it writes.
+    fn answers_with(records: Records, calls: &[Call]) -> Vec<u8> {
+        let mut session = Session::default();
+        let mut answers = Vec::new();
+        for call in calls {
+            let mut answer = call.answer(&mut session);
+            if matches!(call, Call::WriteCapture { .. }) && answer[0] == 0 {
+                let records = records(&session);
+                let bytes = bytes_of(session.rate(), session.doubtful(), &records);
+                answer.splice(1.., bytes);
+            }
+            answers.extend(answer);
+        }
+        answers
+    }
+
+    fn differs(records: Records, calls: Vec<Call>) -> bool {
+        let answers = answers_with(records, &calls);
+        check_answers(&[(0, calls)], &answers).is_err()
+    }
+
+    /// Deliveries and captures in every sort of order but the rising one show it.
+    #[test]
+    fn writing_in_order_of_arrival_is_found() {
+        let by_arrival: Records = |session| session.row().to_vec();
+        for number in 0..52 {
+            assert!(differs(by_arrival, call_list(52, number)));
+            let frame = Frame::numbered(52, number);
+            for arrival in ARRIVALS {
+                let places = arrival.places(&mut Random::new(53, number));
+                let found = arrival != Arrival::Rising;
+                let delivered = delivered_and_written(&frame, &places);
+                assert_eq!(differs(by_arrival, delivered), found);
+                let opened = opened_and_written(&frame, &places);
+                assert_eq!(differs(by_arrival, opened), found);
+            }
+        }
+    }
+
+    /// Writers with one fault each that no order of arrival hides.
+    #[test]
+    fn records_out_of_place_are_found() {
+        let falling: Records = |session| session.in_place_order().into_iter().rev().collect();
+        let doubtful_first: Records = |session| {
+            let mut records = session.in_place_order();
+            records.sort_by_key(|(place, _)| !session.doubtful().contains(place));
+            records
+        };
+        let by_first_cost: Records = |session| {
+            let mut records = session.in_place_order();
+            records.sort_by_key(|(_, column)| column[0]);
+            records
+        };
+        let columns_by_arrival: Records = |session| {
+            let columns = session.row().iter().map(|(_, column)| *column);
+            (0..).zip(columns).collect()
+        };
+        for records in [falling, doubtful_first, by_first_cost, columns_by_arrival] {
+            let lists = (0..52).filter(|number| differs(records, call_list(54, *number)));
+            assert!(lists.count() >= 26);
+        }
     }
 }

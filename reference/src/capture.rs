@@ -3,7 +3,8 @@
 //! "One version byte, 1. Two bytes of length: the bytes that follow, 2,114 + d. Then the rate (39
 //! or 49), d, d doubtful places, and 64 records of a place and its 32 cost bytes."
 //!
-//! - [`write_capture`]: the capture of a session.
+//! - [`write_capture`]: the capture of a session, its records in rising place order.
+//! - [`bytes_of`]: a capture with its records in the order given.
 //! - [`open_capture`]: the session of a capture, or the first refusal in document 01's order.
 //! - [`look_up`]: one column as a part of the caller's capture.
 
@@ -11,7 +12,7 @@ use crate::code::check_size;
 use crate::curve::PLACES;
 use crate::refusal::Refusal;
 use crate::session::Session;
-use crate::soft::{column_bytes, column_of_bytes, COLUMN_BYTES};
+use crate::soft::{column_bytes, column_of_bytes, Column, COLUMN_BYTES};
 
 pub const VERSION: u8 = 1;
 
@@ -27,11 +28,12 @@ const DOUBTFUL_START: usize = 5;
 const RECORD_BYTES: usize = 1 + COLUMN_BYTES;
 
 /// "Writing: 2 for a wrong size; 7 if a place is missing; else the capture of rate, doubtful list
-/// and row."
+/// and row." "The writer shall put records in rising place order."
 pub fn write_capture(session: &Session, out: &mut [u8]) -> Result<(), Refusal> {
     check_size(out, capture_size(session))?;
     session.check_missing()?;
-    out.copy_from_slice(&bytes_of(session));
+    let records = session.in_place_order();
+    out.copy_from_slice(&bytes_of(session.rate(), session.doubtful(), &records));
     Ok(())
 }
 
@@ -40,15 +42,15 @@ pub fn capture_size(session: &Session) -> usize {
     SMALLEST + session.doubtful().len()
 }
 
-/// "The writer puts records in the order in which the places were accepted."
-fn bytes_of(session: &Session) -> Vec<u8> {
-    let length = (capture_size(session) - UNCOUNTED_BYTES) as u16;
+/// The capture with these records, 64 of a place and its column, in the order given.
+pub fn bytes_of(rate: u64, doubtful: &[u8], records: &[(u8, Column)]) -> Vec<u8> {
+    let length = (SMALLEST + doubtful.len() - UNCOUNTED_BYTES) as u16;
     let mut bytes = vec![VERSION];
     bytes.extend(length.to_be_bytes());
-    bytes.push(session.rate() as u8);
-    bytes.push(session.doubtful().len() as u8);
-    bytes.extend(session.doubtful());
-    for (place, column) in session.row() {
+    bytes.push(rate as u8);
+    bytes.push(doubtful.len() as u8);
+    bytes.extend(doubtful);
+    for (place, column) in records {
         bytes.push(*place);
         bytes.extend(column_bytes(column));
     }

@@ -1,29 +1,22 @@
 //! Captures for tests, valid and damaged in every field.
 //!
-//! - [`capture_of`]: the capture of a frame whose places arrive in a given order.
+//! - [`capture_of`]: the capture of a frame, its records in a given order.
 //! - [`damaged`]: a capture with one or two of its fields changed, or another size.
 //! - [`any_bytes`]: bytes that are no capture.
 
-use crate::capture::{capture_size, write_capture, LARGEST, SMALLEST};
+use crate::capture::{bytes_of, LARGEST, SMALLEST};
 use crate::frames::Frame;
 use crate::random::Random;
-use crate::session::Session;
+use crate::soft::Column;
 
 const DOUBTFUL_START: usize = 5;
 const RECORD_BYTES: usize = 33;
 
 /// The capture of a frame, its records in the order of the places given.
-pub fn capture_of(frame: &Frame, arrivals: &[u8]) -> Vec<u8> {
-    let mut session = Session::open(frame.rate, &frame.doubtful).expect("a sound frame");
-    for place in arrivals {
-        let column = frame.columns[usize::from(*place)];
-        session
-            .deliver(u64::from(*place), column)
-            .expect("each place once");
-    }
-    let mut bytes = vec![0; capture_size(&session)];
-    write_capture(&session, &mut bytes).expect("all places");
-    bytes
+pub fn capture_of(frame: &Frame, places: &[u8]) -> Vec<u8> {
+    let record = |place: &u8| (*place, frame.columns[usize::from(*place)]);
+    let records: Vec<(u8, Column)> = places.iter().map(record).collect();
+    bytes_of(frame.rate, &frame.doubtful, &records)
 }
 
 /// The capture with a damage, or once in four with two, so that the order of checks shows.

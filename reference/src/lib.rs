@@ -7,7 +7,8 @@
 //! - the least Q is found by elimination over its terms ([`least`]);
 //! - each test word is decoded by itself, with an error locator ([`nearest`]); answer and margin are
 //!   the first two totals of all codewords found ([`decode`]);
-//! - a session keeps the row of the book and computes each answer from it ([`session`]).
+//! - a session keeps the row of the book, as its places arrived, and computes each answer from it
+//!   ([`session`]); a capture is written from the row sorted by place ([`capture`]).
 //!
 //! One frame from opening to closing, with a wrong symbol at place 7:
 //!
@@ -29,8 +30,10 @@
 //! # Comparing
 //!
 //! [`frames`] makes frames of thirteen kinds from a seed, [`pairs`] those between codewords at least
-//! distance, [`damage`] captures with faults. The binary `compare` runs them in two ways. It counts
-//! the frames with a margin, and fails where they are too few to try it ([`margins`]).
+//! distance, [`damage`] captures with faults, [`arrivals`] five sorts of order in which places
+//! arrive. The binary `compare` runs them in two ways. It counts the frames with a margin and the
+//! captures written after each sort of order, and fails where they are too few to try it
+//! ([`margins`], [`written`]).
 //!
 //! Calls that cross as numbers and byte slices are linked: with the feature `proved`, and with
 //! `MODEM_LIB_DIR` naming the folder of `libmodem.a`, `compare code` runs the trials of
@@ -53,6 +56,7 @@
 //! calls of [`measured`], and `error_rates` by `bench/error-rates`, which sends codewords through a
 //! [`channel`] and draws curves ([`plot`]).
 
+pub mod arrivals;
 pub mod call_lists;
 pub mod calls;
 pub mod capture;
@@ -81,3 +85,4 @@ pub mod show;
 pub mod soft;
 pub mod streams;
 pub mod trials;
+pub mod written;

@@ -1,7 +1,7 @@
 //! Sessions: opening, delivery, closing, interpolant reading.
 //!
 //! - [`Session`]: the rate, the doubtful list and the row of places with their columns, as in "The
-//!   book of a session".
+//!   book of a session"; [`Session::in_place_order`] is the row as it is written.
 //! - [`Session::open`], [`Session::deliver`], [`Session::close`], [`Session::read_interpolant`]:
 //!   document 01's calls. Writing a capture is [`crate::capture::write_capture`].
 
@@ -58,6 +58,13 @@ impl Session {
     /// Places and columns in the order in which they were accepted.
     pub fn row(&self) -> &[(u8, Column)] {
         &self.row
+    }
+
+    /// "The book writes its row in place order": the same places and columns, by rising place.
+    pub fn in_place_order(&self) -> Vec<(u8, Column)> {
+        let mut row = self.row.clone();
+        row.sort_unstable_by_key(|(place, _)| *place);
+        row
     }
 
     /// "A newly opened session holds 1,024 costs of zero": the columns by place, zero where none

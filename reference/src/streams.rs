@@ -20,12 +20,15 @@ use crate::margins::Margins;
 use crate::random::Random;
 use crate::session::Session;
 use crate::show::show;
+use crate::written::Written;
 
-/// How often each call was answered with each number, and the margins, a frame each.
+/// How often each call was answered with each number, the captures written after each sort of
+/// order, and the margins, a frame each.
 #[derive(Clone, Debug, Default, PartialEq, Eq)]
 pub struct Tally {
     /// By letter and number; a look-up's number is the part's length.
     answers: BTreeMap<(char, u16), usize>,
+    pub written: Written,
     pub margins: Margins,
 }
 
@@ -48,6 +51,7 @@ impl Tally {
         for (answer, times) in other.answers {
             *self.answers.entry(answer).or_default() += times;
         }
+        self.written.add(other.written);
         self.margins.add(other.margins);
     }
 }
@@ -63,7 +67,7 @@ impl fmt::Display for Tally {
             write!(out, " {number}: {times}")?;
             last = *letter;
         }
-        write!(out, "; {}", self.margins)
+        write!(out, "; {}; {}", self.written, self.margins)
     }
 }
 
@@ -102,6 +106,7 @@ pub fn check_answers(frames: &[(u64, Vec<Call>)], answers: &[u8]) -> Result<Tall
     let mut rest = answers;
     let mut tally = Tally::default();
     let mut session = Session::default();
+    let mut opened = None;
     for (number, calls) in frames {
         let mut closed = None;
         for (at, call) in calls.iter().enumerate() {
@@ -112,6 +117,11 @@ pub fn check_answers(frames: &[(u64, Vec<Call>)], answers: &[u8]) -> Result<Tall
                 format!("frame {number}, call {at} ({letter}): {difference}")
             })?;
             tally.count(call, &expected);
+            opened = capture_after(call, &expected, opened);
+            if let (Call::WriteCapture { .. }, [0, bytes @ ..]) = (call, &expected[..]) {
+                let places: Vec<u8> = session.row().iter().map(|(place, _)| *place).collect();
+                tally.written.count(&places, opened, bytes);
+            }
             closed = margin_at_closing(call, &expected).or(closed);
         }
         if let Some(margin) = closed {
@@ -122,6 +132,15 @@ pub fn check_answers(frames: &[(u64, Vec<Call>)], answers: &[u8]) -> Result<Tall
         Ok(tally)
     } else {
         Err(format!("{} bytes after the last answer", rest.len()))
+    }
+}
+
+/// The capture that the session after a call was opened with, by the one before it.
+fn capture_after<'a>(call: &'a Call, answer: &[u8], before: Option<&'a [u8]>) -> Option<&'a [u8]> {
+    match call {
+        Call::OpenCapture { capture } if answer[0] == 0 => Some(capture),
+        Call::OpenCapture { .. } | Call::Open { .. } => None,
+        _ => before,
     }
 }
 
@@ -287,6 +306,17 @@ mod tests {
         assert_eq!(tally.margins.present(), 10);
         assert!(tally.margins.zero >= 2 && tally.margins.absent <= 16);
         assert!(tally.to_string().ends_with(&tally.margins.to_string()));
+    }
+
+    #[test]
+    fn captures_are_written_after_every_sort_of_order() {
+        let frames: Vec<_> = (0..25).map(|n| (n, chosen_calls(ALL, 74, n))).collect();
+        let calls = frames.iter().flat_map(|(_, calls)| calls);
+        let answers = answer_all(&calls.flat_map(Call::bytes).collect::<Vec<u8>>()).unwrap();
+        let tally = check_answers(&frames, &answers).unwrap();
+        assert_eq!(tally.written.check(25), Ok(()));
+        assert!(tally.written.check(30).is_err());
+        assert!(tally.to_string().contains(&tally.written.to_string()));
     }
 
     #[test]

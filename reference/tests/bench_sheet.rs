@@ -136,9 +136,9 @@ fn r3_seven_wrong_places_one_of_them_doubtful() {
     let session = delivered(39, &[0], &frame_s(7));
     let mut capture = vec![0; capture_size(&session)];
     assert_eq!(write_capture(&session, &mut capture), Ok(()));
+    assert_eq!(capture, include_bytes!("../../examples/r3.capture"));
     let expected = format!("39 1 210 1 0 7 -\n{}\n", "0".repeat(39));
     assert_eq!(show(&capture), expected);
-    assert_eq!(show(include_bytes!("../../examples/r3.capture")), expected);
 }
 
 #[test]

@@ -1,5 +1,8 @@
 //! Document 01's sentences that hold for every frame, on random ones.
 
+use std::collections::BTreeMap;
+
+use reference::arrivals::{Arrival, ARRIVALS};
 use reference::capture::{capture_size, look_up, open_capture, write_capture};
 use reference::code::Code;
 use reference::curve::PLACES;
@@ -14,7 +17,7 @@ use reference::refusal::Refusal;
 use reference::row::Row;
 use reference::session::Session;
 use reference::show::show;
-use reference::soft::{best, column_bytes, doubtful_places, second, total, DOUBT_LIMIT};
+use reference::soft::{best, column_bytes, doubtful_places, second, total, Column, DOUBT_LIMIT};
 
 /// A frame delivered in the order of the places given.
 fn delivered(frame: &Frame, doubtful: &[u8], arrivals: &[u8]) -> Session {
@@ -67,25 +70,152 @@ fn readings_and_closings_do_not_depend_on_the_order_of_arrival() {
     }
 }
 
-/// "Writing, then opening, gives a session with the same rate, list and columns, accepted in the
-/// same order; opening an accepted capture, then writing, gives its bytes again."
+/// What a session holds: its rate and list, and a column at each place taken.
+fn held(session: &Session) -> (u64, Vec<u8>, BTreeMap<u8, Column>) {
+    let columns = session.row().iter().copied().collect();
+    (session.rate(), session.doubtful().to_vec(), columns)
+}
+
+fn written(session: &Session) -> Vec<u8> {
+    let mut bytes = vec![99; capture_size(session)];
+    assert_eq!(write_capture(session, &mut bytes), Ok(()));
+    bytes
+}
+
+/// The part of a capture before its records, and the records.
+fn parts(capture: &[u8]) -> (&[u8], Vec<&[u8]>) {
+    let (head, records) = capture.split_at(5 + usize::from(capture[4]));
+    (head, records.chunks(33).collect())
+}
+
+/// The places of a capture's records, in their order.
+fn places_in(capture: &[u8]) -> Vec<u8> {
+    parts(capture).1.iter().map(|record| record[0]).collect()
+}
+
+/// The same records by rising place, which is their first byte.
+fn sorted(capture: &[u8]) -> Vec<u8> {
+    let (head, mut records) = parts(capture);
+    records.sort_unstable();
+    [head, &records.concat()].concat()
+}
+
+fn rising() -> Vec<u8> {
+    (0..PLACES as u8).collect()
+}
+
+/// "A capture is read with its records in any order, and opening accepts them in the capture's
+/// order."
 #[test]
-fn captures_go_round() {
+fn captures_in_every_order_are_read() {
     for number in 0..400 {
         let frame = Frame::numbered(84, number);
-        let mut random = Random::new(85, number);
-        let arrivals = random.shuffled(0..64);
+        let arrivals = Arrival::numbered(number).places(&mut Random::new(85, number));
         let capture = capture_of(&frame, &arrivals);
+        assert_eq!(places_in(&capture), arrivals);
         assert_eq!(
             open_capture(&capture),
             Ok(delivered(&frame, &frame.doubtful, &arrivals))
         );
+    }
+}
 
+/// "Writing, then opening, gives a session with the same rate, list and columns."
+#[test]
+fn writing_then_opening_gives_what_the_session_holds() {
+    for number in 0..400 {
+        let frame = Frame::numbered(92, number);
+        let arrivals = Arrival::numbered(number).places(&mut Random::new(93, number));
+        let session = delivered(&frame, &frame.doubtful, &arrivals);
+        let bytes = written(&session);
+        assert_eq!(places_in(&bytes), rising());
+        let opened = open_capture(&bytes).unwrap();
+        assert_eq!(held(&opened), held(&session));
+        assert_eq!(opened, delivered(&frame, &frame.doubtful, &rising()));
+        assert_eq!(written(&opened), bytes);
+    }
+}
+
+/// "Two sessions reached as in demand 3 with equal rate, list, places taken and columns then write
+/// alike, in whichever order their places arrived": by deliveries, with refused calls and readings
+/// between them, or by a capture.
+#[test]
+fn sessions_that_hold_the_same_write_alike() {
+    for number in 0..200 {
+        let frame = Frame::numbered(94, number);
+        let mut random = Random::new(95, number);
+        let mut orders = ARRIVALS.map(|arrival| arrival.places(&mut random)).to_vec();
+        orders.push(random.shuffled(0..64));
+        let expected = capture_of(&frame, &rising());
+        for order in &orders {
+            let session = delivered(&frame, &frame.doubtful, order);
+            assert_eq!(written(&session), expected);
+            let session = open_capture(&capture_of(&frame, order)).unwrap();
+            assert_eq!(written(&session), expected);
+        }
+
+        let mut session = Session::open(frame.rate, &frame.doubtful).unwrap();
+        for place in &orders[number as usize % orders.len()] {
+            let mut lent = vec![99; capture_size(&session)];
+            let early = write_capture(&session, &mut lent);
+            assert_eq!(early, Err(Refusal::Missing));
+            let column = frame.columns[usize::from(*place)];
+            let place = u64::from(*place);
+            assert_eq!(session.deliver(64 + place, column), Err(Refusal::Place));
+            assert_eq!(session.deliver(place, column), Ok(()));
+            assert_eq!(session.deliver(place, [7; 16]), Err(Refusal::Taken));
+            if place.is_multiple_of(8) {
+                assert_eq!(session.read_interpolant(&mut [0; 82]), Ok(()));
+            }
+        }
+        assert_eq!(written(&session), expected);
+    }
+}
+
+/// "Writing what was read from an accepted capture returns it unchanged exactly if it is in place
+/// order", and else returns its records by rising place. Damaged captures that are accepted are
+/// tried too.
+#[test]
+fn a_capture_comes_back_unchanged_exactly_if_it_is_in_place_order() {
+    let mut counts = [0, 0];
+    for number in 0..1000 {
+        let frame = Frame::numbered(96, number);
+        let mut random = Random::new(97, number);
+        let arrival = Arrival::numbered(number);
+        let capture = capture_of(&frame, &arrival.places(&mut random));
         let other = damaged(&capture, &mut random);
-        if let Ok(session) = open_capture(&other) {
-            let mut written = vec![0; capture_size(&session)];
-            assert_eq!(write_capture(&session, &mut written), Ok(()));
-            assert_eq!(written, other);
+        for capture in [capture, other] {
+            let Ok(session) = open_capture(&capture) else {
+                continue;
+            };
+            let back = written(&session);
+            let places = places_in(&capture);
+            let in_place_order = places.windows(2).all(|pair| pair[0] < pair[1]);
+            assert_eq!(in_place_order, arrival == Arrival::Rising);
+            assert_eq!(back == capture, in_place_order);
+            assert_eq!(back, sorted(&capture));
+            counts[usize::from(in_place_order)] += 1;
+        }
+    }
+    let [changed, unchanged] = counts;
+    assert!(changed >= 840 && unchanged >= 210, "{counts:?}");
+}
+
+#[test]
+fn any_two_exchanged_records_are_written_back_in_place_order() {
+    for number in [0, 13] {
+        let frame = Frame::numbered(98, number);
+        let in_order = capture_of(&frame, &rising());
+        assert_eq!(written(&open_capture(&in_order).unwrap()), in_order);
+        for second in 0..PLACES {
+            for first in 0..second {
+                let mut places = rising();
+                places.swap(first, second);
+                let exchanged = capture_of(&frame, &places);
+                let back = written(&open_capture(&exchanged).unwrap());
+                assert_ne!(back, exchanged);
+                assert_eq!(back, in_order);
+            }
         }
     }
 }

@@ -26,7 +26,10 @@ compare time COUNT                          decode COUNT frames of each sort and
 compare code SEED COUNT                     the proved encoding and reading back (feature proved)
 compare tables SEED COUNT                   the proved table decoding (feature proved)
 LETTERS are those of the calls wanted, of OCDRWXL.
-The count of frames with a margin is printed; fewer than one in six are a failure.";
+The count of frames with a margin is printed; fewer than one in six are a failure.
+The counts of captures written after places that arrived in each sort of order are printed; fewer
+than one in five frames after deliveries, or one a frame after captures, are a failure, and so is a
+capture that comes back unchanged and is not in place order, or the other way round.";
 
 fn main() -> ExitCode {
     let arguments: Vec<String> = std::env::args().skip(1).collect();
@@ -53,6 +56,9 @@ fn run(arguments: &[String]) -> Result<(), String> {
             output(format!("{count} frames, {calls} calls alike ({tally})\n").as_bytes())?;
             if letters.contains('X') {
                 tally.margins.check(number(count)?)?;
+            }
+            if "OCDW".chars().all(|letter| letters.contains(letter)) {
+                tally.written.check(number(count)?)?;
             }
             Ok(())
         }
