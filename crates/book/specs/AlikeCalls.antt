@@ -22,7 +22,7 @@ use Rattle.book.specs.Machine.{Likeness, answers-same, after-same}
 use Rattle.book.specs.Calls.{Call, deliver, reading, writing, closing, answer, after, answers, afterAll}
 use Rattle.book.specs.Here.{someMissing, inPlaceOrder}
 
--- ---- 'Two sessions … that agree in rate, doubtful list, places taken and the columns held for these read, write and close alike.'
+-- ---- document 02, #103: two sessions with equal rate, list, places taken and columns 'then write alike, in whichever order their places arrived'
 
 module _ {a b : Book} (same : Agree a b) where
   pub capture-alike : captureOf a ≡ captureOf b

@@ -1,7 +1,7 @@
 -- Books that agree take deliveries alike: for every modem.
 --
 --   Agreed o q           two outcomes agree: their numbers are equal, and their books agree
---   agreed-path, agreed-sym, agreed-trans   equal outcomes agree, and it is an equivalence
+--   agreed-path, agreed-trans   equal outcomes agree, and those that agree with one outcome agree
 --   entry-alike          books that agree do so with an entry more
 --   deliver-alike        a delivery of a place and its column to books that agree has outcomes that agree
 --   row-alike            so has the delivery of a row of entries
@@ -14,7 +14,7 @@ use native.Mathlib.Decide.{decLt}
 use native.Mathlib.Omega.{arith}
 use Rattle.book.specs.Model.{Model, places}
 use Rattle.book.specs.Book.{Entry, Book, columnIn, taken, Outcome}
-use Rattle.book.specs.Columns.{taken-alike, Agree, agree-refl, agree-sym, agree-trans}
+use Rattle.book.specs.Columns.{taken-alike, Agree, agree-refl, agree-trans}
 use Rattle.book.specs.Delivery.{withEntry, deliverOf, deliverRow}
 use Rattle.book.specs.RowLaws.{column-append, deliver-above, deliver-taken, deliver-accepted}
 use Rattle.book.specs.RowDelivery.{row-none, row-above, row-taken, row-next}
@@ -25,9 +25,6 @@ pub record Agreed (o q : Outcome) : Type 0 where
 
 pub agreed-path : {o q : Outcome} → o ≡ q → Agreed o q
 agreed-path {o} e = subst (Agreed o) e (record { same-number = refl; same-book = agree-refl (o .book) })
-
-pub agreed-sym : {o q : Outcome} → Agreed o q → Agreed q o
-agreed-sym x = record { same-number = sym (x .same-number); same-book = agree-sym (x .same-book) }
 
 pub agreed-trans : {o q r : Outcome} → Agreed o q → Agreed q r → Agreed o r
 agreed-trans x y = record { same-number = x .same-number ∙ y .same-number; same-book = agree-trans (x .same-book) (y .same-book) }

@@ -5,6 +5,8 @@
 --   open-checked, open-with   the first three checks passed: opening with its rate and list, and then delivering its records in their order
 --   capture-refused      a refused capture hands back what a refused opening does: a new book of rate 39 with an empty list
 --   bookIn bytes         the rate, the list and the records that a capture holds, as a book
+--   opens-any-order      a capture that passes the checks of its head, and has different places of the modem in its records, is accepted, in whatever order
+--                        they stand
 --   Fit bytes, capture-fit   an accepted capture passes every check, and its book is bookIn; capture-proper: so it opens as a proper book
 --   RowVerdict, Verdict  which check a row of records, or a capture, fails first, with the number that this gives; 0 if none
 --   verdict, verdict-only   every byte string has a verdict, and it has only one: the number that opening answers
@@ -21,8 +23,9 @@ use Rattle.book.specs.Model.{modem64}
 use Rattle.book.specs.Book.{Entry, Book, newBook, taken, Outcome}
 use Rattle.book.specs.Delivery.{withEntry}
 use Rattle.book.specs.CaptureOpening.{rateIn, listIn, recordsIn, sizeFits, versionFits, lengthFits, openWith, openCaptureOf}
-use Rattle.book.specs.RowDelivery.{extended, refused-number, row-above, row-taken, row-next, row-none, row-accepted, refused-row}
-use Rattle.book.specs.RowLaws.{open-accepted, open-refused-rate, open-refused-list, new-proper}
+use Rattle.lists.specs.Distinct.{below, distinct}
+use Rattle.book.specs.RowDelivery.{extended, refused-number, row-above, row-taken, row-next, row-none, row-delivered, row-accepted, refused-row}
+use Rattle.book.specs.RowLaws.{placesOf, open-accepted, open-refused-rate, open-refused-list, new-proper}
 use Rattle.book.specs.CaptureLaws.{records-wide}
 use Rattle.book.specs.Here.{places, fitDoubt, refusedOpening, openOf, deliverRow, Proper}
 use Rattle.book.specs.Delivery as BookDelivery
@@ -158,6 +161,15 @@ pub record Fit (bytes : List ℕ) : Type 0 where
   pub length-fits : lengthFits bytes ≡ true
   pub opens : openCaptureOf bytes ≡ record { number = accepted; book = bookIn bytes }
   pub proper : Proper (bookIn bytes)
+
+-- the records may stand in any order: of their places it is asked that they are the modem's and different, and no more
+pub opens-any-order : (bytes : List ℕ) → sizeFits bytes ≡ true → versionFits bytes ≡ true → lengthFits bytes ≡ true → knownRate (rateIn bytes) ≡ true
+    → fitDoubt (listIn bytes) ≡ true → below places (placesOf (recordsIn bytes)) ≡ true → distinct (placesOf (recordsIn bytes)) ≡ true
+    → openCaptureOf bytes ≡ record { number = accepted; book = bookIn bytes }
+unfolding extended newBook bookIn
+opens-any-order bytes s v l r f b d =
+    open-checked bytes s v l ∙ open-with (rateIn bytes) (listIn bytes) (recordsIn bytes) r f
+    ∙ row-delivered modem64 (newBook (rateIn bytes) (listIn bytes)) (recordsIn bytes) b d
 
 pub capture-fit : (bytes : List ℕ) → openCaptureOf bytes .number ≡ accepted → Fit bytes
 unfolding extended newBook bookIn

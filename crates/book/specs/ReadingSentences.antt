@@ -62,7 +62,7 @@ reading-least book rate out h =
           }),
     )
 
--- ---- 'Two sessions … that agree in rate, doubtful list, places taken and the columns held for these read, write and close alike.'
+-- ---- 'Two sessions … that agree in rate, doubtful list, places taken and the columns held for these read and close alike.'
 
 module _ {a b : Book} (same : Agree a b) where
   settled-alike : (n : ℕ) → settledBelow a n ≡ settledBelow b n

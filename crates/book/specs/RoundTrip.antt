@@ -6,6 +6,7 @@
 --   size-range, version-one, length-right, none-missing   what the checks of an accepted capture say
 --   open-written         the capture of a proper book opens as that book with its row in place order: the same rate, list and columns
 --   write-then-open      so writing, where it is accepted, and then opening gives the book with its row in place order
+--   written-columns      the capture of the book that an accepted capture opens as has the same column for each place
 --   written-opened       the capture of the book that an accepted capture opens as is that capture exactly if its records are in place order
 --   open-then-write      opening an accepted capture and then writing into a buffer of its size gives the capture of that book
 use mathlib.Core.Bool.{Bool, true, false, not}
@@ -21,7 +22,7 @@ use borrow.Author.Tests.{eqb-true, eqb-false, eq-eqb, ne-eqb, le-leb, leb-true}
 use Rattle.refusals.specs.Refusal.{accepted, wrongSize, placeMissing}
 use Rattle.lists.specs.Distinct.{below, below-drop, below-at, and-left, and-right, and-both}
 use Rattle.book.specs.Model.{modem64}
-use Rattle.book.specs.Book.{Book, newBook, Outcome}
+use Rattle.book.specs.Book.{Entry, Book, newBook, columnIn, Outcome}
 use Rattle.book.specs.Capture.{bodyLength, captureLength, rowBytes, recordsOf, captureOf}
 use Rattle.book.specs.Writing.{Filled, writeOf}
 use Rattle.book.specs.CaptureOpening.{rateIn, doubtIn, listIn, recordsIn, sizeFits, versionFits, lengthIn, lengthFits, openWith, openCaptureOf}
@@ -29,7 +30,7 @@ use Rattle.book.specs.RowLaws.{missing-count}
 use Rattle.book.specs.CaptureCases.{open-checked, open-with, bookIn, Fit, capture-fit}
 use Rattle.book.specs.CaptureLaws.{row-bytes-length, records-row, row-records, records-length}
 use Rattle.book.specs.OpeningLaws.{list-short}
-use Rattle.book.specs.PlaceOrder.{InPlaceOrder, order-length, order-wide, order-rises, order-proper, order-same}
+use Rattle.book.specs.PlaceOrder.{InPlaceOrder, order-length, order-wide, order-rises, order-proper, order-columns, order-same}
 use Rattle.book.specs.PlaceOrder as Ordering
 use Rattle.book.specs.Here.{places, someMissing, Proper, inPlaceOrder, ordered}
 use Rattle.book.specs.RowDelivery.{extended, row-delivered}
@@ -180,6 +181,16 @@ unfolding bookIn
 none-missing bytes fit =
     missing-count modem64 (recordsIn bytes) (fit .proper .in-range) (fit .proper .apart)
     ∙ ap not (le-leb places (length (recordsIn bytes)) (omega (arith, records-length places (drop (5 + doubtIn bytes) bytes))))
+
+-- what is written back holds the column of each place that was read
+pub written-columns : (bytes : List ℕ) → openCaptureOf bytes .number ≡ accepted → (p : ℕ)
+    → columnIn (recordsIn (captureOf (openCaptureOf bytes .book))) p ≡ columnIn (recordsIn bytes) p
+unfolding bookIn
+written-columns bytes n p =
+    let fit = capture-fit bytes n in
+    ap (λ (o : Outcome). columnIn (recordsIn (captureOf (o .book))) p) (fit .opens)
+    ∙ ap (λ (l : List Entry). columnIn l p) (written-records (bookIn bytes) (fit .proper))
+    ∙ order-columns modem64 (bookIn bytes) (fit .proper) (none-missing bytes fit) p
 
 module _ (bytes : List ℕ) (b : below 256 bytes ≡ true) (fit : Fit bytes) where
   list-long : length (listIn bytes) ≡ doubtIn bytes

@@ -276,7 +276,7 @@ module _ (𝓓 : Model) where
         otherwise = closing-answer book message report long whole-report rate;
       }
 
-  -- ---- 'Two sessions … that agree in rate, doubtful list, places taken and the columns held for these read, write and close alike.'
+  -- ---- 'Two sessions … that agree in rate, doubtful list, places taken and the columns held for these read and close alike.'
 
   module _ {a b : Book} (same : Agree a b) where
     pub closing-alike : (message report : List ℕ) → closeOf 𝓓 a message report ≡ closeOf 𝓓 b message report

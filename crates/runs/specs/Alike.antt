@@ -1,10 +1,11 @@
--- 'Two sessions so reached that agree in rate, doubtful list, places taken and the columns held for these read, write and close alike', in whichever order
--- their places arrived.
+-- 'Two sessions so reached that agree in rate, doubtful list, places taken and the columns held for these read and close alike', and, of document 02, 'then
+-- write alike, in whichever order their places arrived'.
 --
 --   Reached t            the session t is left by a list of calls from a session that an accepted opening returned; reached-good: such a session is good
 --   SameHeld s t         they agree in rate, doubtful list, places taken and the columns held for these
 --   held-agree           so their books agree
 --   Alike s t            they read, write and close alike: the same lent buffers get the same numbers and bytes from either
+--   held-one             two sessions so reached that hold the same are equal
 --   alike                so do two sessions so reached that hold the same
 use mathlib.Core.Bool.{Bool, true, false}
 use mathlib.Core.Path.{_≡_, refl, sym, ap, _∙_}
@@ -25,7 +26,7 @@ use Rattle.book.specs.AlikeCalls.{answer-alike}
 use Rattle.book.specs.Here.{places, width}
 use Rattle.session.specs.declared.Session.{Session}
 use Rattle.session.specs.View.{bookOf, Good}
-use Rattle.session.specs.Laws.{book-taken, column-there, good-proper}
+use Rattle.session.specs.Laws.{book-taken, column-there, good-proper, one-session}
 use Rattle.runs.specs.Step.{Step}
 use Rattle.runs.specs.Runs.{Run, run-good}
 use Rattle.runs.specs.Follows.{Start, start-good}
@@ -74,6 +75,9 @@ good-alike a b same =
       write-alike = λ {out} x y. x .answered a ∙ answer-alike same (writing out) ∙ sym (y .answered b);
       close-alike = λ {message} {report} x y. x .answered a ∙ answer-alike same (closing message report) ∙ sym (y .answered b);
     }
+
+pub held-one : {s t : Session} → Reached s → Reached t → SameHeld s t → s ≡ t
+held-one {s} {t} x y same = one-session s t (reached-good x) (reached-good y) (held-agree (reached-good x) (reached-good y) same)
 
 pub alike : {s t : Session} → Reached s → Reached t → SameHeld s t → Alike s t
 alike x y same = good-alike (reached-good x) (reached-good y) (held-agree (reached-good x) (reached-good y) same)

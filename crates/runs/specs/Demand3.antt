@@ -15,7 +15,7 @@ use Prim.Native.Nat.{ℕ}
 use lib.ListN.{length}
 use Rattle.refusals.specs.Refusal.{accepted, placeMissing, noneNear}
 use Rattle.lists.specs.Distinct.{below}
-use Rattle.book.specs.Book.{Book}
+use Rattle.book.specs.Book.{Book, columnIn}
 use Rattle.book.specs.Columns.{Agree}
 use Rattle.book.specs.PlaceOrder.{InPlaceOrder}
 use Rattle.book.specs.Delivery.{withEntry}
@@ -32,8 +32,8 @@ use Rattle.session.specs.View.{bookOf, Good}
 use Rattle.session.specs.Calls.{Opening}
 use Rattle.runs.specs.Step.{Step}
 use Rattle.runs.specs.Runs.{Run}
-use Rattle.runs.specs.Follows.{closedBy, Start, opening-accepted, start-follows, CaptureStarts, capture-starts}
-use Rattle.runs.specs.Shown.{run-writes, capture-written}
+use Rattle.runs.specs.Follows.{closedBy, Start, opening-accepted, start-follows, one-start, CaptureStarts, capture-starts}
+use Rattle.runs.specs.Shown.{run-writes, capture-written, capture-back}
 use Rattle.runs.specs.Alike as agreeing
 use Rattle.runs.specs.Alike.{Reached, SameHeld, Alike}
 
@@ -75,9 +75,12 @@ pub record Demand3 : Type 0 where
       ⊎ ((p : ℕ) × (column : List ℕ) × (call ≡ deliver p column) × (answer book call .number ≡ accepted) × (after book call ≡ withEntry book p column))
   pub refused-kept : (book : Book) (call : Call) → answer book call .number ≢ accepted
       → (answer book call .first ≡ firstLent call) × (answer book call .second ≡ secondLent call)
-  -- 'Two sessions so reached that agree in rate, doubtful list, places taken and the columns held for these read, write and close alike', in whichever
-  -- order their places arrived
+  -- 'Two sessions so reached that agree in rate, doubtful list, places taken and the columns held for these read and close alike', and, of document 02, 'then
+  -- write alike, in whichever order their places arrived'
   pub alike : {s t : Session} → Reached s → Reached t → SameHeld s t → Alike s t
+  -- they are equal, and so are two sessions that openings by one book return
+  pub one-held : {s t : Session} → Reached s → Reached t → SameHeld s t → s ≡ t
+  pub one-start : {T R : ℕ} {book : Book} {s t : Session} → Start T book s → Start R book t → s ≡ t
   -- document 02: 'The writer shall put records in rising place order'
   pub in-order : {T : ℕ} {book : Book} {s t : Session} {calls : List Call} {given : List Answer} → Start T book s → Run s calls given t
       → {out : List ℕ} {a : Answer} {u : Session} → Step t (writing out) a u → a .number ≡ accepted → InPlaceOrder (recordsIn (a .first))
@@ -85,6 +88,10 @@ pub record Demand3 : Type 0 where
   pub unchanged : {bytes out : List ℕ} {r : Opened} {a : Answer} {u : Session} → below 256 bytes ≡ true → Opening (openCaptureOf bytes) r
       → r .refusal ≡ accepted → Step (r .session) (writing out) a u → length out ≡ length bytes
       → (a .number ≡ accepted) × ((a .first ≡ bytes) ↔ InPlaceOrder (recordsIn bytes))
+  -- document 02: 'Captures in other orders are still read, but are written back in place order': each place with its column
+  pub written-back : (bytes : List ℕ) {out : List ℕ} {r : Opened} {a : Answer} {u : Session} → below 256 bytes ≡ true → Opening (openCaptureOf bytes) r
+      → r .refusal ≡ accepted → Step (r .session) (writing out) a u → length out ≡ length bytes
+      → (p : ℕ) → columnIn (recordsIn (a .first)) p ≡ columnIn (recordsIn bytes) p
 
 closes-after : {T : ℕ} {book : Book} {calls : List Call} {a : Answer} → ClosedAfter T book calls a → Closes (afterAll book calls) T (closedBy a)
 closes-after (closed-after start run step long whole-report) = start-follows start .closed run step long whole-report
@@ -104,6 +111,9 @@ whole =
       only-delivery = laws.only-delivery;
       refused-kept = laws.refused-lent;
       alike = λ x y same. agreeing.alike x y same;
+      one-held = λ x y same. agreeing.held-one x y same;
+      one-start = λ x y. one-start x y;
       in-order = λ start run step n. run-writes start run step n;
       unchanged = λ small opened n step long. capture-written small opened n step long;
+      written-back = λ bytes small opened n step long p. capture-back bytes small opened n step long p;
     }

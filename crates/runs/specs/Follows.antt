@@ -11,6 +11,7 @@
 --   Start T book s       an accepted opening returned the session s: by a rate of reach T and a doubtful list, with a new book, or by a capture, with its
 --                        book
 --   start-follows        such a session follows that book
+--   one-start            and the book determines it: opened twice alike, sessions are equal
 --   CaptureStarts bytes r, capture-starts   every accepted capture is such an opening: its rate and list are ones that opening accepts, and each of its
 --                        records is accepted
 use mathlib.Core.Path.{_≡_, refl, sym, ap, _∙_, subst}
@@ -20,7 +21,7 @@ use lib.ListN.{length}
 use Rattle.refusals.specs.Refusal.{accepted}
 use Rattle.book.specs.Model.{modem64}
 use Rattle.book.specs.Book.{Book, newBook, Outcome}
-use Rattle.book.specs.Columns.{Agree, agree-path, agree-trans}
+use Rattle.book.specs.Columns.{Agree, agree-sym, agree-path, agree-trans}
 use Rattle.book.specs.CaptureOpening.{rateIn, listIn, recordsIn, openCaptureOf}
 use Rattle.book.specs.Closing.{Closed}
 use Rattle.book.specs.OpeningLaws.{Rate, rate-is, known-rate}
@@ -35,6 +36,7 @@ use Rattle.session.specs.declared.Session.{Session}
 use Rattle.session.specs.declared.Opened.{Opened}
 use Rattle.session.specs.View.{bookOf, Good}
 use Rattle.session.specs.Calls.{Opening}
+use Rattle.session.specs.Laws.{one-session}
 use Rattle.runs.specs.Step.{Step}
 use Rattle.runs.specs.Runs.{Run, every-run, run-good, run-book, one-end, some-run}
 
@@ -109,6 +111,10 @@ start-rate (by-capture {T = T} bytes known opened n) =
 
 pub start-follows : {T : ℕ} {book : Book} {s : Session} → Start T book s → Follows T s book
 start-follows start = good-follows (start-good start) (start-agree start) (start-rate start)
+
+-- two openings by one book give one session
+pub one-start : {T R : ℕ} {book : Book} {s t : Session} → Start T book s → Start R book t → s ≡ t
+one-start {s = s} {t = t} a b = one-session s t (start-good a) (start-good b) (agree-trans (start-agree a) (agree-sym (start-agree b)))
 
 pub record CaptureStarts (bytes : List ℕ) (r : Opened) : Type 0 where
   pub reach : ℕ

@@ -8,6 +8,7 @@
 --   step-writes, run-writes   an accepted writing gives a capture whose records are in place order: of a good session, and after every run
 --   capture-written      writing a session that an accepted capture opened, into a buffer of the capture's size, is accepted, and gives that capture
 --                        exactly if its records are in place order
+--   capture-back         in whatever order they were, each place is written back with its column
 use mathlib.Core.Bool.{true}
 use mathlib.Core.Path.{_≡_, sym, ap, _∙_, subst}
 use mathlib.Core.List.{List}
@@ -17,7 +18,7 @@ use lib.ListN.{length}
 use Rattle.lists.specs.Distinct.{below}
 use Rattle.refusals.specs.Refusal.{accepted}
 use Rattle.book.specs.Model.{modem64}
-use Rattle.book.specs.Book.{Book, newBook}
+use Rattle.book.specs.Book.{Book, newBook, columnIn}
 use Rattle.book.specs.Columns.{Agree}
 use Rattle.book.specs.PlaceOrder.{InPlaceOrder}
 use Rattle.book.specs.Writing.{Filled}
@@ -29,7 +30,7 @@ use Rattle.book.specs.Calls.{Call, reading, writing, closing, answer, afterAll}
 use Rattle.book.specs.AlikeCalls.{answer-alike}
 use Rattle.book.specs.Costs.{new-costs}
 use Rattle.book.specs.Report.{closing-shows}
-use Rattle.book.specs.RoundTrip.{write-whole, write-accepted, written-order, written-opened, open-then-write}
+use Rattle.book.specs.RoundTrip.{write-whole, write-accepted, written-order, written-columns, written-opened, open-then-write}
 use Rattle.book.specs.Here.{openOf, fitDoubt, DoubtfulList, RowColumns, ReportedIn}
 use Rattle.book.specs.ReadingSentences.{Reads, reading-least}
 use Rattle.book.specs.Captured.{capture-opens, capture-costs}
@@ -120,3 +121,14 @@ capture-written {bytes} {out} small opened n step long =
       ap (λ (x : Answer). x .number) given ∙ ap (λ (f : Filled). f .number) written,
       (λ e. unchanged .0 (sym first ∙ e), λ order. first ∙ unchanged .1 order),
     )
+
+-- and each place is written back with its column
+pub capture-back : (bytes : List ℕ) {out : List ℕ} {r : Opened} {a : Answer} {u : Session} → below 256 bytes ≡ true → Opening (openCaptureOf bytes) r
+    → r .refusal ≡ accepted → Step (r .session) (writing out) a u → length out ≡ length bytes
+    → (p : ℕ) → columnIn (recordsIn (a .first)) p ≡ columnIn (recordsIn bytes) p
+unfolding answer
+capture-back bytes {out} small opened n step long p =
+    let o : openCaptureOf bytes .number ≡ accepted = sym (opened .number) ∙ n in
+    let given = step .answered (opened .good) ∙ answer-alike (opened .book) (writing out) in
+    ap (λ (x : Answer). columnIn (recordsIn (x .first)) p) given
+    ∙ ap (λ (f : Filled). columnIn (recordsIn (f .bytes)) p) (open-then-write bytes out small o long) ∙ written-columns bytes o p

@@ -1,5 +1,5 @@
 // A session by value: opening one, and delivering one place and its column of sixteen costs.
-// It keeps what was delivered, by place, and nothing of the order of arrival: sessions that hold the same are the same.
+// It keeps what was delivered, by place, and nothing of the order of arrival: sessions from openings that hold the same are equal.
 // It knows of no codeword and no interpolant; what a session stands for is its book (specs/View.antt).
 ghost use mathlib.Core.Path.{_≡_};
 ghost use Prim.Native.Nat.{_<_};
@@ -147,7 +147,7 @@ fn declined(number: u8, session: Session) -> Delivered
     }
 }
 
-// A place is taken if its flag is set. No field says where an array is read or written, so no session record runs past one.
+// A place is taken if its flag is set. Nothing is read or written here where a field says, so no session record runs past an array.
 pub fn deliver(session: Session, place: usize, column: [u16; SYMBOLS]) -> Delivered
     ensures { λ r. ⌜ Delivery session place column r ⌝ }
 {
