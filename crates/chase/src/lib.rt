@@ -20,6 +20,7 @@ use columns::word::best_word;
 use doubt::MOST_DOUBT;
 use encoding::known_rate;
 use interpolation::settle::settle;
+use known::Undecided;
 use tree::search;
 
 // A flag of 1 for the settled places.
@@ -97,15 +98,10 @@ pub fn nearest(rate: usize, costs: &[u16], doubtful: [u8; MOST_DOUBT], doubt: us
     let flags = settled_places(doubtful, doubt);
     let mut leads = [0usize; CLASSES];
     let rows = settle(word, flags, m, limit, &mut leads);
-    search(
-        rows,
-        leads,
-        word,
-        costs,
-        rate,
+    let undecided = Undecided {
         doubtful,
         doubt,
-        doubt,
-        none_near(),
-    )
+        left: doubt,
+    };
+    search(rows, leads, word, costs, rate, undecided, none_near())
 }

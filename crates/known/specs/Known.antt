@@ -1,5 +1,7 @@
 -- A known codeword: two codewords differ in at least n − M places, so near one that is known there is no other.
 --
+--   leftOf undecided       the doubtful places that a node has still to decide
+--   Fits undecided         at most eight places are doubtful, and no more are left
 --   isNear answer          whether a codeword is near
 --   laterOf first known    what later branches know: what was just found, if a codeword is near, and what was known before, if none is
 --   filledOf c word ps     the word with the symbols of c at the places ps, as the family has it
@@ -13,10 +15,11 @@ use mathlib.Core.Bool.{Bool, true, false, cond, _&&_}
 use mathlib.Core.Path.{_≡_}
 use mathlib.Core.List.{List}
 use mathlib.Core.Option.{some}
-use Prim.Native.Nat.{ℕ, _+_, _-_}
+use Prim.Native.Nat.{ℕ, _+_, _-_, _≤_}
 use lib.Dec.{eqb, ltb}
-use lib.ListN.{length}
+use lib.ListN.{length, take, drop}
 use Rattle.soft.specs.Column.{places}
+use Rattle.soft.specs.Doubt.{mostDoubt}
 use Rattle.soft.specs.Total.{everywhere, differing}
 use Rattle.totals.specs.declared.margin.Margin.the-variants.{Absent}
 use Rattle.family.specs.Member.{m16}
@@ -29,6 +32,13 @@ use Rattle.answers.specs.declared.Answer.the-variants.{NoneNear, Near}
 use Rattle.answers.specs.declared.Found.{Found}
 use Rattle.answers.specs.Result.{totalIs, nothingFound}
 use Rattle.answers.specs.Answered.{counted, answering}
+use Rattle.known.specs.declared.Undecided.{Undecided}
+
+abbrev pub leftOf : Undecided → List ℕ
+leftOf u = drop (u .doubt - u .left) (take (u .doubt) (u .doubtful))
+
+abbrev pub Fits : Undecided → Type 0
+Fits u = (u .doubt ≤ mostDoubt) × (u .left ≤ u .doubt)
 
 unfoldable pub isNear : Answer → Bool
 isNear NoneNear = false

@@ -1,16 +1,13 @@
 // A known codeword near a node of the tree: whether it is the only one that can be near the test words below, and how many of them it is
 // near. It knows of no rows and no basis.
 ghost use mathlib.Core.Path.{_≡_};
-ghost use Prim.Native.Nat.{_-_, _≤_};
 ghost use lib.Dec.{leb};
-ghost use lib.ListN.{take, drop};
 ghost use Rattle.lists.specs.Count.{bit};
 ghost use Rattle.soft.specs.Column.{places, symbols, columnOf};
-ghost use Rattle.soft.specs.Doubt.{mostDoubt};
 ghost use Rattle.soft.specs.Total.{differing};
 ghost use Rattle.near.specs.Here.{reachOf};
 ghost use Rattle.candidate.specs.Ranged.{Ranged};
-ghost use Rattle.known.specs.Known.{laterOf, filledOf, governsOf, WithinOf, aloneOf, belowOf};
+ghost use Rattle.known.specs.Known.{leftOf, Fits, laterOf, filledOf, governsOf, WithinOf, aloneOf, belowOf};
 use answers::Answer;
 use answers::Found;
 use answers::none_near;
@@ -25,6 +22,13 @@ use columns::costs::column_of;
 use doubt::MOST_DOUBT;
 use totals::margin::Margin;
 
+// The doubtful places that a node has still to decide: of the first `doubt` in the list the last `left`.
+pub struct Undecided {
+    pub doubtful: [u8; MOST_DOUBT],
+    pub doubt: usize,
+    pub left: usize,
+}
+
 // The known codeword for later branches: the one just found, if there is one.
 pub fn later(first: Found, known: Found) -> Found
     ensures { λ r. ⌜ r ≡ laterOf first known ⌝ }
@@ -37,12 +41,14 @@ pub fn later(first: Found, known: Found) -> Found
 }
 
 // The word with the codeword's symbols at the doubtful places left.
-fn filled(codeword: Word, word: Word, doubtful: [u8; MOST_DOUBT], doubt: usize, left: usize) -> Word
-    requires { ⌜ (doubt ≤ mostDoubt) × (left ≤ doubt) ⌝ }
-    ensures { λ r. ⌜ r ≡ filledOf codeword word (drop (doubt - left) (take doubt doubtful)) ⌝ }
+fn filled(codeword: Word, word: Word, undecided: Undecided) -> Word
+    requires { ⌜ Fits undecided ⌝ }
+    ensures { λ r. ⌜ r ≡ filledOf codeword word (leftOf undecided) ⌝ }
 {
+    let doubtful = undecided.doubtful;
+    let doubt = undecided.doubt;
     let mut out = word;
-    let mut i = doubt - left;
+    let mut i = doubt - undecided.left;
     while i < doubt {
         let place = doubtful[i] as usize % PLACES;
         out[place] = codeword[place];
@@ -53,24 +59,17 @@ fn filled(codeword: Word, word: Word, doubtful: [u8; MOST_DOUBT], doubt: usize, 
 
 // Is no other codeword than the known one within T of any test word below a node? Two codewords differ in at least 64 - M places; and the
 // known one differs from such a test word only in decided places in which it differs from the word, and in places left.
-pub fn governs(
-    known: Found,
-    word: Word,
-    k: usize,
-    doubtful: [u8; MOST_DOUBT],
-    doubt: usize,
-    left: usize,
-) -> bool
-    requires { ⌜ Ranged k × (doubt ≤ mostDoubt) × (left ≤ doubt) ⌝ }
-    ensures { λ r. ⌜ r ≡ governsOf k known word (drop (doubt - left) (take doubt doubtful)) ⌝ }
+pub fn governs(known: Found, word: Word, k: usize, undecided: Undecided) -> bool
+    requires { ⌜ Ranged k × Fits undecided ⌝ }
+    ensures { λ r. ⌜ r ≡ governsOf k known word (leftOf undecided) ⌝ }
 {
     let answer = known.answer;
     if let Answer::NoneNear = answer {
         return false;
     }
     let codeword = known.codeword;
-    let agreed = filled(codeword, word, doubtful, doubt, left);
-    distance(codeword, agreed) + left + reach(k) < least_distance(k)
+    let agreed = filled(codeword, word, undecided);
+    distance(codeword, agreed) + undecided.left + reach(k) < least_distance(k)
 }
 
 // 1 for a word within T of the codeword, and 0 for any other.
@@ -90,27 +89,28 @@ pub fn tests_within(
     word: Word,
     costs: &[u16],
     k: usize,
-    doubtful: [u8; MOST_DOUBT],
-    doubt: usize,
-    left: usize,
+    undecided: Undecided,
 ) -> usize
-    requires { ⌜ Ranged k × (doubt ≤ mostDoubt) × (left ≤ doubt) ⌝ }
+    requires { ⌜ Ranged k × Fits undecided ⌝ }
     ensures { λ r.
-        ⌜ WithinOf k (columnOf symbols (now (costs .entry))) codeword word (drop (doubt - left) (take doubt doubtful)) left r ⌝ }
+        ⌜ WithinOf k (columnOf symbols (now (costs .entry))) codeword word (leftOf undecided) (undecided .left) r ⌝ }
 {
+    let left = undecided.left;
     if left == 0 {
         return within(codeword, word, k);
     }
-    let place = doubtful[doubt - left] as usize % PLACES;
+    let place = undecided.doubtful[undecided.doubt - left] as usize % PLACES;
+    let mut next = undecided;
+    next.left = left - 1;
     let column = column_of(costs, place);
     let symbol = best(column);
     let other = second(column);
     let mut first_word = word;
     first_word[place] = symbol;
-    let first = tests_within(codeword, first_word, costs, k, doubtful, doubt, left - 1);
+    let first = tests_within(codeword, first_word, costs, k, next);
     let mut other_word = word;
     other_word[place] = other;
-    let rest = tests_within(codeword, other_word, costs, k, doubtful, doubt, left - 1);
+    let rest = tests_within(codeword, other_word, costs, k, next);
     first + rest
 }
 

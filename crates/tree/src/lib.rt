@@ -1,15 +1,14 @@
 // The tree of test words: the doubtful places are doubled one after the other, and each leaf has the candidate of its test word. It knows of no
 // session and no buffers, and not which places are doubtful.
 ghost use mathlib.Core.Path.{_≡_};
-ghost use Prim.Native.Nat.{_-_, _<_, _≤_};
-ghost use lib.ListN.{take, drop};
+ghost use Prim.Native.Nat.{_<_, _≤_};
 ghost use Rattle.basis.specs.Choice.{leadAt};
 ghost use Rattle.basis.specs.Step.{classes};
 ghost use Rattle.soft.specs.Column.{places, symbols, columnOf};
-ghost use Rattle.soft.specs.Doubt.{mostDoubt};
 ghost use Rattle.soft.specs.Total.{totalOf};
 ghost use Rattle.answers.specs.Answered.{Sound};
 ghost use Rattle.candidate.specs.Ranged.{Ranged};
+ghost use Rattle.known.specs.Known.{leftOf, Fits};
 ghost use Rattle.tree.specs.Searching.{Lowest, LeafOf, SearchOf, BranchOf};
 use answers::Answer;
 use answers::Found;
@@ -27,8 +26,8 @@ use columns::column::best;
 use columns::column::second;
 use columns::costs::PLACES;
 use columns::costs::column_of;
-use doubt::MOST_DOUBT;
 use interpolation::node::extend;
+use known::Undecided;
 use known::below;
 use known::governs;
 use known::later;
@@ -97,39 +96,27 @@ fn branch(
     word: Word,
     costs: &[u16],
     k: usize,
-    doubtful: [u8; MOST_DOUBT],
-    doubt: usize,
-    left: usize,
+    undecided: Undecided,
     known: Found,
     place: usize,
     symbol: u8,
 ) -> Found
-    requires { ⌜ Ranged k × (doubt ≤ mostDoubt) × (left ≤ doubt) × (place < places) × Sound k (columnOf symbols (now costs)) known ⌝ }
+    requires { ⌜ Ranged k × Fits undecided × (place < places) × Sound k (columnOf symbols (now costs)) known ⌝ }
     ensures { λ r.
-        ⌜ BranchOf k (columnOf symbols (now (costs .entry))) word place symbol (drop (doubt - left) (take doubt doubtful)) rows leads left r
+        ⌜ BranchOf k (columnOf symbols (now (costs .entry))) word place symbol (leftOf undecided) rows leads (undecided .left) r
         × Sound k (columnOf symbols (now (costs .entry))) r ⌝ }
 {
     let mut next_word = word;
     next_word[place] = symbol;
-    if governs(known, next_word, k, doubtful, doubt, left) {
+    if governs(known, next_word, k, undecided) {
         let codeword = known.codeword;
-        let tests = tests_within(codeword, next_word, costs, k, doubtful, doubt, left);
+        let tests = tests_within(codeword, next_word, costs, k, undecided);
         return below(known, tests);
     }
     let limit = largest_key(k);
     let mut next_leads = leads;
     let next_rows = extend(rows, &mut next_leads, limit, place, symbol);
-    search(
-        next_rows,
-        next_leads,
-        next_word,
-        costs,
-        k,
-        doubtful,
-        doubt,
-        left,
-        known,
-    )
+    search(next_rows, next_leads, next_word, costs, k, undecided, known)
 }
 
 // The test words below a node: the doubtful places left are doubled one after the other, first with the best symbol and then with the
@@ -140,14 +127,12 @@ pub fn search(
     word: Word,
     costs: &[u16],
     k: usize,
-    doubtful: [u8; MOST_DOUBT],
-    doubt: usize,
-    left: usize,
+    undecided: Undecided,
     known: Found,
 ) -> Found
-    requires { ⌜ Ranged k × (doubt ≤ mostDoubt) × (left ≤ doubt) × Sound k (columnOf symbols (now costs)) known ⌝ }
+    requires { ⌜ Ranged k × Fits undecided × Sound k (columnOf symbols (now costs)) known ⌝ }
     ensures { λ r.
-        ⌜ SearchOf k (columnOf symbols (now (costs .entry))) word (drop (doubt - left) (take doubt doubtful)) rows leads left r
+        ⌜ SearchOf k (columnOf symbols (now (costs .entry))) word (leftOf undecided) rows leads (undecided .left) r
         × Sound k (columnOf symbols (now (costs .entry))) r ⌝ }
 {
     let limit = largest_key(k);
@@ -155,35 +140,24 @@ pub fn search(
     if limit < leads[class] {
         return none_near();
     }
+    let left = undecided.left;
     if left == 0 {
         return leaf(rows[class], word, costs, k);
     }
-    let place = doubtful[doubt - left] as usize % PLACES;
+    let place = undecided.doubtful[undecided.doubt - left] as usize % PLACES;
+    let mut next = undecided;
+    next.left = left - 1;
     let column = column_of(costs, place);
     let symbol = best(column);
     let other = second(column);
-    let first = branch(
-        rows,
-        leads,
-        word,
-        costs,
-        k,
-        doubtful,
-        doubt,
-        left - 1,
-        known,
-        place,
-        symbol,
-    );
+    let first = branch(rows, leads, word, costs, k, next, known, place, symbol);
     let rest = branch(
         rows,
         leads,
         word,
         costs,
         k,
-        doubtful,
-        doubt,
-        left - 1,
+        next,
         later(first, known),
         place,
         other,

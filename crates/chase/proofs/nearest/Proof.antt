@@ -71,7 +71,7 @@ none-near-requires-5 c κs = search needs
 search-requires : tie.Need-search-requires
 search-requires c κs =
     let a = may-ask (c .before .before .before .before .before .before .before) in
-    (known-range _ (a .known), a .few, search needs, subst (Sound _ _) (sym (c .none-near5 .ensures)) sound-nothing)
+    (known-range _ (a .known), (a .few, search needs), subst (Sound _ _) (sym (c .none-near5 .ensures)) sound-nothing)
 
 returns-5 : tie.Need-returns-5
 returns-5 c =

@@ -23,7 +23,7 @@ use Rattle.known.proofs.+tests_within.{statement}
 use Rattle.known.proofs.+tests_within.Tie.{close}
 
 abbrev μ-tests-within : Measures 1 tests-within-kinds.ps ℕ
-μ-tests-within κs a = a .1 .1 .1 .1 .1 .1 .0
+μ-tests-within κs a = a .1 .1 .1 .1 .0 .left
 
 abbrev tests-within-at : ℕ → In 1 tests-within-kinds.ps
 tests-within-at t =
@@ -54,7 +54,7 @@ tests-within-claims t = (
 
 -- what the array's type says
 tests-within-lengths : (t : ℕ) (c : tests-within-lts.Start (tests-within-claims t) (tests-within-at t) tests-within.Post)
-    → length (c .args .t5) ≡ 8
+    → length (c .args .t5 .doubtful) ≡ 8
 tests-within-lengths t c = search needs
 
 tests-within-within-requires : (t : ℕ) → tests-within-lts.Need-within-requires (tests-within-claims t) (tests-within-at t) tests-within.Post
@@ -66,11 +66,14 @@ tests-within-returns t c = within-end m16 everywhere _ _ _ _ _ _ _ (c .before .i
 tests-within-sub-place : (t : ℕ) → tests-within-lts.Need-sub-place (tests-within-claims t) (tests-within-at t) tests-within.Post
 tests-within-sub-place t c = search needs
 
-tests-within-array-read-place : (t : ℕ) → tests-within-lts.Need-array-read-place (tests-within-claims t) (tests-within-at t) tests-within.Post
-tests-within-array-read-place t c = search needs
+tests-within-element-copy-out-place : (t : ℕ) → tests-within-lts.Need-element-copy-out-place (tests-within-claims t) (tests-within-at t) tests-within.Post
+tests-within-element-copy-out-place t c = search needs
 
 tests-within-cast-place : (t : ℕ) → tests-within-lts.Need-cast-place (tests-within-claims t) (tests-within-at t) tests-within.Post
 tests-within-cast-place t c = search needs
+
+tests-within-sub-next : (t : ℕ) → tests-within-lts.Need-sub-next (tests-within-claims t) (tests-within-at t) tests-within.Post
+tests-within-sub-next t c = search needs
 
 tests-within-column-of-requires : (t : ℕ) → tests-within-lts.Need-column-of-requires (tests-within-claims t) (tests-within-at t) tests-within.Post
 tests-within-column-of-requires t c κs = search needs
@@ -84,36 +87,30 @@ tests-within-second-requires t c κs = search needs
 tests-within-array-write-first-word : (t : ℕ) → tests-within-lts.Need-array-write-first-word (tests-within-claims t) (tests-within-at t) tests-within.Post
 tests-within-array-write-first-word t c = search needs
 
-tests-within-sub-tests-within : (t : ℕ) → tests-within-lts.Need-sub-tests-within (tests-within-claims t) (tests-within-at t) tests-within.Post
-tests-within-sub-tests-within t c = search needs
-
 tests-within-tests-within-requires : (t : ℕ) → tests-within-lts.Need-tests-within-requires (tests-within-claims t) (tests-within-at t) tests-within.Post
 tests-within-tests-within-requires t c κs =
-    let h = c .before .before .before .before .before .pre in
-    (omega (arith, h .0, c .before .before .before .if1 .left), (h .1 .0, h .1 .1, omega (arith, h .1 .2)))
+    let h = c .before .before .before .before .before .before .pre in
+    (omega (arith, h .0, c .before .before .before .before .if1 .left), (h .1 .0, (h .1 .1 .0, omega (arith, h .1 .1 .1))))
 
 tests-within-array-write-other-word : (t : ℕ) → tests-within-lts.Need-array-write-other-word (tests-within-claims t) (tests-within-at t) tests-within.Post
 tests-within-array-write-other-word t c = search needs
 
-tests-within-sub-tests-within-2 : (t : ℕ) → tests-within-lts.Need-sub-tests-within-2 (tests-within-claims t) (tests-within-at t) tests-within.Post
-tests-within-sub-tests-within-2 t c = search needs
-
 tests-within-tests-within-requires-2 : (t : ℕ) → tests-within-lts.Need-tests-within-requires-2 (tests-within-claims t) (tests-within-at t) tests-within.Post
 tests-within-tests-within-requires-2 t c κs =
-    let h = c .before .before .before .before .before .before .pre in
-    (omega (arith, h .0, c .before .before .before .before .if1 .left), (h .1 .0, h .1 .1, omega (arith, h .1 .2)))
+    let h = c .before .before .before .before .before .before .before .pre in
+    (omega (arith, h .0, c .before .before .before .before .before .if1 .left), (h .1 .0, (h .1 .1 .0, omega (arith, h .1 .1 .1))))
 
 tests-within-add-result : (t : ℕ) → tests-within-lts.Need-add-result (tests-within-claims t) (tests-within-at t) tests-within.Post
 tests-within-add-result t c =
-    let h = c .before .before .before .before .before .before .before .pre .1 in
+    let h = c .before .before .before .before .before .before .before .before .pre .1 in
     let s : c .before .tests-within .result + c .tests-within2 .result ≤ 65535 =
-    tests-fit _ _ _ (omega (arith, h .1, h .2)) (c .before .tests-within .ensures .few) (c .tests-within2 .ensures .few) in
+    tests-fit _ _ _ (omega (arith, h .1)) (c .before .tests-within .ensures .few) (c .tests-within2 .ensures .few) in
     search needs
 
 tests-within-returns-2 : (t : ℕ) → tests-within-lts.Need-returns-2 (tests-within-claims t) (tests-within-at t) tests-within.Post
 tests-within-returns-2 t c =
-    let h = c .before .before .before .before .before .before .before .pre .1 in
-    within-node m16 everywhere _ _ _ _ (tests-within-lengths t (c .before .before .before .before .before .before .before)) (h .1) (h .2) (some-left _ (c .before .before .before .before .before .if1 .left)) _ _ _ refl _ _
+    let h = c .before .before .before .before .before .before .before .before .pre .1 in
+    within-node m16 everywhere _ _ _ _ (tests-within-lengths t (c .before .before .before .before .before .before .before .before)) (h .1 .0) (h .1 .1) (some-left _ (c .before .before .before .before .before .before .if1 .left)) _ _ _ refl _ _
     (c .before .before .before .best .ensures ∙ ap bestOf (c .before .before .before .before .column-of .ensures)) (c .before .before .second .ensures ∙ ap secondOf (c .before .before .before .before .column-of .ensures)) _ _ _
     (c .before .tests-within .ensures) (c .tests-within2 .ensures)
 
@@ -124,16 +121,15 @@ pub +tests-within-spec : {M : Type 1} → statement M
     (tests-within-within-requires t)
     (tests-within-returns t)
     (tests-within-sub-place t)
-    (tests-within-array-read-place t)
+    (tests-within-element-copy-out-place t)
     (tests-within-cast-place t)
+    (tests-within-sub-next t)
     (tests-within-column-of-requires t)
     (tests-within-best-requires t)
     (tests-within-second-requires t)
     (tests-within-array-write-first-word t)
-    (tests-within-sub-tests-within t)
     (tests-within-tests-within-requires t)
     (tests-within-array-write-other-word t)
-    (tests-within-sub-tests-within-2 t)
     (tests-within-tests-within-requires-2 t)
     (tests-within-add-result t)
     (tests-within-returns-2 t)

@@ -10,12 +10,12 @@ use Rattle.known.proofs.filled.Statement.{statement}
 use Rattle.known.proofs.filled.Tie as tie
 
 abbrev Inv-loop : tie.InvT-loop
-Inv-loop doubt left codeword doubtful out₀ i₀ out i =
+Inv-loop codeword doubtful doubt out₀ i₀ out i =
     (length doubtful ≡ 8) × (length out ≡ 64)
-    × (filledOf codeword out₀ (drop (doubt - left) (take doubt doubtful)) ≡ filledOf codeword out (drop i (take doubt doubtful)))
+    × (filledOf codeword out₀ (drop i₀ (take doubt doubtful)) ≡ filledOf codeword out (drop i (take doubt doubtful)))
 
 abbrev μ-loop : tie.MeasureT-loop
-μ-loop doubt left codeword doubtful out₀ i₀ out i = doubt - i
+μ-loop codeword doubtful doubt out₀ i₀ out i = doubt - i
 
 sub-i : tie.Need-sub-i Inv-loop μ-loop
 sub-i c = search needs
@@ -44,14 +44,14 @@ loop-less c = search needs
 loop-again : tie.Need-loop-again Inv-loop μ-loop
 loop-again c =
     let i = c .before .loop .inv in
-    let h : c .before .before .args .doubt ≤ 8 = search needs in
-    let b : c .before .loop .i < c .before .before .args .doubt = search needs in
+    let h : c .before .before .before .before .args .undecided .doubt ≤ 8 = search needs in
+    let b : c .before .loop .i < c .before .before .before .before .args .undecided .doubt = search needs in
     (i .0, search needs, i .2 ∙ filled-turn places _ _ _ _ _ (i .0) h b)
 
 returns : tie.Need-returns Inv-loop μ-loop
 returns c =
     let i = c .before .loop .inv in
-    let h : c .before .before .args .doubt ≤ c .before .loop .i = search needs in
+    let h : c .before .before .before .before .args .undecided .doubt ≤ c .before .loop .i = search needs in
     sym (i .2 ∙ filled-end places _ _ _ _ _ h)
 
 pub filled-spec : {M : Type 1} → statement M

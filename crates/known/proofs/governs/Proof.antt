@@ -31,7 +31,7 @@ measured c = subst (λ n. n ≤ 64) (sym (c .distance .ensures)) (differing-le 6
 
 add-result : tie.Need-add-result
 add-result c =
-    let d = measured c in
+    let d = measured (c .before) in
     search needs
 
 reach-requires : tie.Need-reach-requires
@@ -39,7 +39,7 @@ reach-requires c κs = search needs
 
 add-result-2 : tie.Need-add-result-2
 add-result-2 c =
-    let d = measured (c .before) in
+    let d = measured (c .before .before) in
     let r : c .reach .result ≤ 28 = subst (λ n. n ≤ 28) (sym (c .reach .ensures)) (reach-small _) in
     search needs
 
@@ -48,10 +48,10 @@ least-distance-requires c κs = search needs
 
 returns-2 : tie.Need-returns-2
 returns-2 c =
-    let l : length (c .before .before .before .before .before .before .before .args .doubtful) ≡ 8 = search needs in
-    let h = c .before .before .before .before .before .before .before .pre in
-    let g = c .before .before .before .before .before .enum-told2 .given in
-    governs-some _ _ _ _ _ _ _ _ _ _ _ (g .1) (rest-length _ _ _ l (h .1) (h .2)) (c .before .before .before .filled .ensures) (c .before .before .distance .ensures)
+    let s = c .before .before .before .before .before .before .before .before in
+    let l : length (s .args .undecided .doubtful) ≡ 8 = search needs in
+    let g = c .before .before .before .before .before .before .enum-told2 .given in
+    governs-some _ _ _ _ _ _ _ _ _ _ _ (g .1) (rest-length _ _ _ l (s .pre .1 .0) (s .pre .1 .1)) (c .before .before .before .before .filled .ensures) (c .before .before .before .distance .ensures)
     (c .before .reach .ensures) (c .least-distance .ensures)
 
 pub governs-spec : {M : Type 1} → statement M

@@ -39,10 +39,10 @@ use Rattle.tree.proofs.+branch+search.{statement}
 use Rattle.tree.proofs.+branch+search.Tie.{close}
 
 abbrev μ-branch : Measures 1 branch-kinds.ps ℕ
-μ-branch κs a = a .1 .1 .1 .1 .1 .1 .1 .0 * 2 + 1
+μ-branch κs a = a .1 .1 .1 .1 .1 .0 .left * 2 + 1
 
 abbrev μ-search : Measures 1 search-kinds.ps ℕ
-μ-search κs a = a .1 .1 .1 .1 .1 .1 .1 .0 * 2
+μ-search κs a = a .1 .1 .1 .1 .1 .0 .left * 2
 
 abbrev branch-at : ℕ → In 1 branch-kinds.ps
 branch-at t = and 1 branch-kinds.ps (is 1 branch-kinds.ps μ-branch t) branch.Pre
@@ -117,8 +117,8 @@ branch-below-requires t c κs = search needs
 branch-returns : (t : ℕ) → branch-lts.Need-returns (branch-claims t) (branch-at t) branch.Post
 branch-returns t c =
     let h = c .before .before .before .before .before .before .pre .1 in (
-      subst (BranchOf _ _ _ _ _ _ _ _ _) (sym (c .below .ensures)) (branch-known (h .0) _ _ _ _ _ _ _ _ (branch-lengths t (c .before .before .before .before .before .before)) _ _ _ (h .4) (c .before .before .before .before .governs .ensures) (c .before .before .before .if1 .taken) (c .before .tests-within .ensures)),
-      subst (Sound _ _) (sym (c .below .ensures)) (sound-below (h .4) _),
+      subst (BranchOf _ _ _ _ _ _ _ _ _) (sym (c .below .ensures)) (branch-known (h .0) _ _ _ _ _ _ _ _ (branch-lengths t (c .before .before .before .before .before .before)) _ _ _ (h .3) (c .before .before .before .before .governs .ensures) (c .before .before .before .if1 .taken) (c .before .tests-within .ensures)),
+      subst (Sound _ _) (sym (c .below .ensures)) (sound-below (h .3) _),
     )
 
 branch-largest-key-requires : (t : ℕ) → branch-lts.Need-largest-key-requires (branch-claims t) (branch-at t) branch.Post
@@ -132,7 +132,7 @@ branch-extend-requires t c κs =
 branch-search-requires : (t : ℕ) → branch-lts.Need-search-requires (branch-claims t) (branch-at t) branch.Post
 branch-search-requires t c κs =
     let h = c .before .before .before .before .before .before .pre in
-    (omega (arith, h .0), (h .1 .0, h .1 .1, h .1 .2, h .1 .4))
+    (omega (arith, h .0), (h .1 .0, h .1 .1, h .1 .3))
 
 branch-returns-2 : (t : ℕ) → branch-lts.Need-returns-2 (branch-claims t) (branch-at t) branch.Post
 branch-returns-2 t c =
@@ -140,7 +140,7 @@ branch-returns-2 t c =
     (branch-node (h .0) _ _ _ _ _ _ _ _ (branch-lengths t (c .before .before .before .before .before .before .before)) _ (c .before .before .before .largest-key .ensures) _ _ (c .before .extend .ensures) _ (c .search .ensures .0), c .search .ensures .1)
 
 search-lengths : (t : ℕ) (c : search-lts.Start (search-claims t) (search-at t) search′.Post)
-    → length (c .args .t6) ≡ 8
+    → length (c .args .t6 .doubtful) ≡ 8
 search-lengths t c = search needs
 
 search-largest-key-requires : (t : ℕ) → search-lts.Need-largest-key-requires (search-claims t) (search-at t) search′.Post
@@ -184,11 +184,14 @@ search-returns-2 t c = (
 search-sub-place : (t : ℕ) → search-lts.Need-sub-place (search-claims t) (search-at t) search′.Post
 search-sub-place t c = search needs
 
-search-array-read-place : (t : ℕ) → search-lts.Need-array-read-place (search-claims t) (search-at t) search′.Post
-search-array-read-place t c = search needs
+search-element-copy-out-place : (t : ℕ) → search-lts.Need-element-copy-out-place (search-claims t) (search-at t) search′.Post
+search-element-copy-out-place t c = search needs
 
 search-cast-place : (t : ℕ) → search-lts.Need-cast-place (search-claims t) (search-at t) search′.Post
 search-cast-place t c = search needs
+
+search-sub-next : (t : ℕ) → search-lts.Need-sub-next (search-claims t) (search-at t) search′.Post
+search-sub-next t c = search needs
 
 search-column-of-requires : (t : ℕ) → search-lts.Need-column-of-requires (search-claims t) (search-at t) search′.Post
 search-column-of-requires t c κs = search needs
@@ -199,34 +202,28 @@ search-best-requires t c κs = search needs
 search-second-requires : (t : ℕ) → search-lts.Need-second-requires (search-claims t) (search-at t) search′.Post
 search-second-requires t c κs = search needs
 
-search-sub-branch : (t : ℕ) → search-lts.Need-sub-branch (search-claims t) (search-at t) search′.Post
-search-sub-branch t c = search needs
-
 search-branch-requires : (t : ℕ) → search-lts.Need-branch-requires (search-claims t) (search-at t) search′.Post
 search-branch-requires t c κs =
-    let h = c .before .before .before .before .before .before .before .before .pre in
-    (omega (arith, h .0, c .before .before .before .if2 .left), (h .1 .0, h .1 .1, omega (arith, h .1 .2), search needs, h .1 .3))
-
-search-sub-branch-2 : (t : ℕ) → search-lts.Need-sub-branch-2 (search-claims t) (search-at t) search′.Post
-search-sub-branch-2 t c = search needs
+    let h = c .before .before .before .before .before .before .before .before .before .pre in
+    (omega (arith, h .0, c .before .before .before .before .if2 .left), (h .1 .0, (h .1 .1 .0, omega (arith, h .1 .1 .1)), search needs, h .1 .2))
 
 search-later-requires : (t : ℕ) → search-lts.Need-later-requires (search-claims t) (search-at t) search′.Post
 search-later-requires t c κs = search needs
 
 search-branch-requires-2 : (t : ℕ) → search-lts.Need-branch-requires-2 (search-claims t) (search-at t) search′.Post
 search-branch-requires-2 t c κs =
-    let h = c .before .before .before .before .before .before .before .before .before .before .pre in
-    (omega (arith, h .0, c .before .before .before .before .before .if2 .left), (h .1 .0, h .1 .1, omega (arith, h .1 .2), search needs, subst (Sound _ _) (sym (c .later .ensures)) (sound-later (h .1 .3) (c .before .branch .ensures .1))))
+    let h = c .before .before .before .before .before .before .before .before .before .before .before .pre in
+    (omega (arith, h .0, c .before .before .before .before .before .before .if2 .left), (h .1 .0, (h .1 .1 .0, omega (arith, h .1 .1 .1)), search needs, subst (Sound _ _) (sym (c .later .ensures)) (sound-later (h .1 .2) (c .before .branch .ensures .1))))
 
 search-better-requires : (t : ℕ) → search-lts.Need-better-requires (search-claims t) (search-at t) search′.Post
 search-better-requires t c κs =
-    let h = c .before .before .before .before .before .before .before .before .before .before .before .pre .1 in
-    (h .0 .most, tests-fit _ _ _ (omega (arith, h .1, h .2)) (c .before .before .branch .ensures .0 .few) (c .branch2 .ensures .0 .few))
+    let h = c .before .before .before .before .before .before .before .before .before .before .before .before .pre .1 in
+    (h .0 .most, tests-fit _ _ _ (omega (arith, h .1)) (c .before .before .branch .ensures .0 .few) (c .branch2 .ensures .0 .few))
 
 search-returns-3 : (t : ℕ) → search-lts.Need-returns-3 (search-claims t) (search-at t) search′.Post
 search-returns-3 t c =
-    let h = c .before .before .before .before .before .before .before .before .before .before .before .before .pre .1 in (
-      subst (SearchOf _ _ _ _ _ _ _) (sym (c .better .ensures)) (node-branch _ _ _ (search-lengths t (c .before .before .before .before .before .before .before .before .before .before .before .before)) (h .1) (h .2) (some-left _ (c .before .before .before .before .before .before .before .if2 .left)) _ _ _ _ refl _ _
+    let h = c .before .before .before .before .before .before .before .before .before .before .before .before .before .pre .1 in (
+      subst (SearchOf _ _ _ _ _ _ _) (sym (c .better .ensures)) (node-branch _ _ _ (search-lengths t (c .before .before .before .before .before .before .before .before .before .before .before .before .before)) (h .1 .0) (h .1 .1) (some-left _ (c .before .before .before .before .before .before .before .before .if2 .left)) _ _ _ _ refl _ _
           (c .before .before .before .before .before .best .ensures ∙ ap bestOf (c .before .before .before .before .before .before .column-of .ensures)) (c .before .before .before .before .second .ensures ∙ ap secondOf (c .before .before .before .before .before .before .column-of .ensures)) _ _ _ _ (c .before .before .before .branch .ensures .0) (c .before .branch2 .ensures .0)),
       subst (Sound _ _) (sym (c .better .ensures)) (sound-better (c .before .before .before .branch .ensures .1) (c .before .branch2 .ensures .1)),
     )
@@ -258,14 +255,13 @@ pub +branch+search-spec : {M : Type 1} → statement M
     (search-leaf-requires t)
     (search-returns-2 t)
     (search-sub-place t)
-    (search-array-read-place t)
+    (search-element-copy-out-place t)
     (search-cast-place t)
+    (search-sub-next t)
     (search-column-of-requires t)
     (search-best-requires t)
     (search-second-requires t)
-    (search-sub-branch t)
     (search-branch-requires t)
-    (search-sub-branch-2 t)
     (search-later-requires t)
     (search-branch-requires-2 t)
     (search-better-requires t)
