@@ -16,10 +16,11 @@ use Rattle.book.specs.Capture.{captureOf}
 use Rattle.book.specs.Writing.{Filled, writeOf}
 use Rattle.book.specs.Closing.{Closed}
 use Rattle.book.specs.AlikeDelivery.{deliver-alike}
+use Rattle.book.specs.WithdrawalLaws.{withdraw-alike}
 use Rattle.book.specs.Sentences.{closing-alike}
 use Rattle.book.specs.ReadingSentences.{reading-alike}
 use Rattle.book.specs.Machine.{Likeness, answers-same, after-same}
-use Rattle.book.specs.Calls.{Call, deliver, reading, writing, closing, answer, after, answers, afterAll}
+use Rattle.book.specs.Calls.{Call, deliver, reading, writing, closing, withdraw, answer, after, answers, afterAll}
 use Rattle.book.specs.Here.{someMissing, inPlaceOrder}
 
 -- ---- document 02, #103: two sessions with equal rate, list, places taken and columns 'then write alike, in whichever order their places arrived'
@@ -45,6 +46,7 @@ module _ {a b : Book} (same : Agree a b) where
   answer-alike (writing out) = ap (λ (f : Filled). record { number = f .number; first = f .bytes; second = [] }) (writing-alike out)
   answer-alike (closing message report) =
       ap (λ (c : Closed). record { number = c .number; first = c .message; second = c .report }) (closing-alike modem64 same message report)
+  answer-alike (withdraw p) = ap (λ n. record { number = n; first = []; second = [] }) (withdraw-alike modem64 same p .same-number)
 
   pub after-alike : (call : Call) → Agree (after a call) (after b call)
   unfolding after
@@ -52,6 +54,7 @@ module _ {a b : Book} (same : Agree a b) where
   after-alike (reading out) = same
   after-alike (writing out) = same
   after-alike (closing message report) = same
+  after-alike (withdraw p) = withdraw-alike modem64 same p .same-book
 
 pub likeness : Likeness Agree answer after
 likeness =

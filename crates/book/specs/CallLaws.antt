@@ -1,7 +1,8 @@
 -- What document 01 says of every call and every list of calls, each a theorem of the book of the modem of 64 places.
 --
 --   write-kept, refused-lent, refused-after   a refused call leaves its buffers, and the book, as they were
---   only-delivery        only an accepted delivery changes the book
+--   Changes book call, only-changes   every call leaves the book as it was, or is an accepted delivery, and puts the place and its column at the end of the
+--                        row, or is an accepted withdrawal, and takes the place out of it
 --   rate-held, list-held a list of calls leaves the rate and the doubtful list as they were given at opening
 --   Fits call, AllFit calls   what the types say of the arguments of a call, and of a list of calls: a delivery's column is a column
 --   after-costs          the row that such a list of calls leaves has such columns
@@ -10,30 +11,33 @@ use mathlib.Core.Bool.{Bool, true, false}
 use mathlib.Core.Path.{_≡_, refl, ap}
 use mathlib.Core.List.{List}
 use mathlib.Core.Logic.{_≢_, _⊎_, inl, inr}
-use Prim.Native.Nat.{ℕ, _<_}
-use native.Mathlib.Decide.{decLt}
+use Prim.Native.Nat.{ℕ}
+use native.Mathlib.Decide.{ℕ-discrete}
 use native.Mathlib.Omega.{arith}
 use lib.Dec.{eqb}
 use lib.ListN.{length}
 use borrow.Author.Tests.{eqb-true, eqb-false}
 use Rattle.refusals.specs.Refusal.{accepted}
 use Rattle.book.specs.Model.{modem64}
-use Rattle.book.specs.Book.{Book, newBook, taken, Outcome}
+use Rattle.book.specs.Book.{Book, newBook, Outcome}
 use Rattle.book.specs.Delivery.{withEntry}
 use Rattle.book.specs.Capture.{captureLength}
 use Rattle.book.specs.Writing.{Filled, writeOf}
 use Rattle.book.specs.ReadingLaws.{read-kept}
 use Rattle.book.specs.ClosingLaws.{close-kept}
-use Rattle.book.specs.RowLaws.{deliver-above, deliver-taken, deliver-accepted}
+use Rattle.book.specs.RowLaws.{deliver-accepted, deliver-only}
+use Rattle.book.specs.Withdrawal.{withoutPlace}
+use Rattle.book.specs.WithdrawalLaws.{withdraw-accepted, withdraw-only, withdraw-kept, withdraw-held, withdraw-costs}
 use Rattle.book.specs.RoundTrip.{write-size, write-missing, write-accepted}
 use Rattle.book.specs.Machine.{afterBy, part-held, Each, fit-nil, fit-cons}
-use Rattle.book.specs.Calls.{Call, deliver, reading, writing, closing, firstLent, secondLent, answer, after, afterAll}
+use Rattle.book.specs.Calls.{Call, deliver, reading, writing, closing, withdraw, firstLent, secondLent, answer, after, afterAll}
 use Rattle.book.specs.Sentences.{deliver-kept, deliver-held}
 use Rattle.book.specs.Costs.{new-costs, deliver-costs}
 use Rattle.book.specs.Report.{closing-shows}
-use Rattle.book.specs.Here.{places, someMissing, deliverOf, closeOf, DoubtfulList, RowColumns, IsColumn, ReportedIn}
+use Rattle.book.specs.Here.{someMissing, deliverOf, withdrawOf, closeOf, DoubtfulList, RowColumns, IsColumn, ReportedIn}
 
--- ---- 'Only an accepted delivery changes the book. A refused call leaves its buffers as they were.'
+-- ---- 'Only an accepted delivery changes the book.' Of withdrawals: 'an accepted one takes the place and its column out of the book's row'. 'A refused call
+-- leaves its buffers as they were.'
 
 module _ (book : Book) where
   pub write-kept : (out : List ℕ) → writeOf book out .number ≢ accepted → writeOf book out .bytes ≡ out
@@ -56,6 +60,7 @@ module _ (book : Book) where
   refused-lent (closing message report) n =
       let k = close-kept modem64 book message report n in
       (k .message-kept, k .report-kept)
+  refused-lent (withdraw p) n = (refl, refl)
 
   pub refused-after : (call : Call) → answer book call .number ≢ accepted → after book call ≡ book
   unfolding answer after
@@ -63,25 +68,33 @@ module _ (book : Book) where
   refused-after (reading out) n = refl
   refused-after (writing out) n = refl
   refused-after (closing message report) n = refl
+  refused-after (withdraw p) n = withdraw-kept modem64 book p n
 
-  pub only-delivery : (call : Call)
-      → (after book call ≡ book)
+  abbrev pub Changes : Call → Type 0
+  Changes call =
+      (after book call ≡ book)
       ⊎ ((p : ℕ) × (column : List ℕ) × (call ≡ deliver p column) × (answer book call .number ≡ accepted) × (after book call ≡ withEntry book p column))
+      ⊎ ((p : ℕ) × (call ≡ withdraw p) × (answer book call .number ≡ accepted) × (after book call ≡ withoutPlace book p))
+
+  pub only-changes : (call : Call) → Changes call
   unfolding answer after
-  only-delivery (deliver p column) = go (decLt p places) (taken (book .row) p) refl
+  only-changes (deliver p column) = go (ℕ-discrete (deliverOf book p column .number) accepted)
     where
-      go : Dec (p < places) → (b : Bool) → taken (book .row) p ≡ b
-          → (deliverOf book p column .book ≡ book)
-          ⊎ ((q : ℕ) × (c : List ℕ) × (deliver p column ≡ deliver q c) × (deliverOf book p column .number ≡ accepted)
-          × (deliverOf book p column .book ≡ withEntry book q c))
-      go (yes h) true e = inl (ap (λ (o : Outcome). o .book) (deliver-taken modem64 book p column h e))
-      go (yes h) false e =
-          let d = deliver-accepted modem64 book p column h e in
-          inr (p, column, refl, ap (λ (o : Outcome). o .number) d, ap (λ (o : Outcome). o .book) d)
-      go (no h) b e = inl (ap (λ (o : Outcome). o .book) (deliver-above modem64 book p column (omega arith)))
-  only-delivery (reading out) = inl refl
-  only-delivery (writing out) = inl refl
-  only-delivery (closing message report) = inl refl
+      go : Dec (deliverOf book p column .number ≡ accepted) → Changes (deliver p column)
+      go (yes n) =
+          let d = deliver-only modem64 book p column n in
+          inr (inl (p, column, refl, n, ap (λ (o : Outcome). o .book) (deliver-accepted modem64 book p column (d .0) (d .1))))
+      go (no n) = inl (deliver-kept modem64 book p column n)
+  only-changes (reading out) = inl refl
+  only-changes (writing out) = inl refl
+  only-changes (closing message report) = inl refl
+  only-changes (withdraw p) = go (ℕ-discrete (withdrawOf book p .number) accepted)
+    where
+      go : Dec (withdrawOf book p .number ≡ accepted) → Changes (withdraw p)
+      go (yes n) =
+          let d = withdraw-only modem64 book p n in
+          inr (inr (p, refl, n, ap (λ (o : Outcome). o .book) (withdraw-accepted modem64 book p (d .0) (d .1))))
+      go (no n) = inl (withdraw-kept modem64 book p n)
 
 -- ---- 'It holds the rate and doubtful list given at opening'
 
@@ -91,6 +104,7 @@ held book (deliver p column) = deliver-held modem64 book p column
 held book (reading out) = (refl, refl)
 held book (writing out) = (refl, refl)
 held book (closing message report) = (refl, refl)
+held book (withdraw p) = withdraw-held modem64 book p
 
 pub rate-held : (book : Book) (calls : List Call) → afterAll book calls .rate ≡ book .rate
 rate-held = part-held after (λ (book : Book). book .rate) (λ book call. held book call .0)
@@ -105,6 +119,7 @@ Fits (deliver p column) = IsColumn column
 Fits (reading out) = Unit
 Fits (writing out) = Unit
 Fits (closing message report) = Unit
+Fits (withdraw p) = Unit
 
 abbrev pub AllFit : List Call → Type 0
 AllFit calls = Each Fits calls
@@ -117,6 +132,7 @@ after-costs book (fit-cons {call = deliver p column} c fit) all =
 after-costs book (fit-cons {call = reading out} u fit) all = after-costs book fit all
 after-costs book (fit-cons {call = writing out} u fit) all = after-costs book fit all
 after-costs book (fit-cons {call = closing message report} u fit) all = after-costs book fit all
+after-costs book (fit-cons {call = withdraw p} u fit) all = after-costs (withdrawOf book p .book) fit (withdraw-costs modem64 book p all)
 
 -- ---- the report
 

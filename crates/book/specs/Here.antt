@@ -4,8 +4,8 @@
 --   reportLength, tableLength   the report's 13 bytes and the table's 2,048
 --   pinnedIn, changedIn, markIn, marginIn   the report's bytes 6, 7 and 8, and the number in its last four: pinned-byte, changed-byte, mark-byte, margin-bytes
 --
--- All others mean what they mean in Book, Opening, Delivery, Columns, Entries, RowLaws, OpeningLaws, PlaceOrder, Closing, Table, Sentences, Costs, Report and
--- Repairs.
+-- All others mean what they mean in Book, Opening, Delivery, Withdrawal, Columns, Entries, RowLaws, OpeningLaws, PlaceOrder, Closing, Table, Sentences, Costs,
+-- Report and Repairs.
 use mathlib.Core.Bool.{Bool}
 use mathlib.Core.Path.{_≡_}
 use mathlib.Core.List.{List}
@@ -19,6 +19,7 @@ use Rattle.book.specs.Book as Books
 use Rattle.book.specs.Book.{Entry, Book, Outcome}
 use Rattle.book.specs.Opening as Opening
 use Rattle.book.specs.Delivery as Delivery
+use Rattle.book.specs.Withdrawal as Withdrawal
 use Rattle.book.specs.Columns as Columns
 use Rattle.book.specs.Entries as Entries
 use Rattle.book.specs.RowLaws as RowLaws
@@ -47,7 +48,7 @@ someMissing row = Books.someMissing modem64 row
 abbrev pub Missing : List Entry → ℕ → Type 0
 Missing row p = Entries.Missing modem64 row p
 
--- ---- opening and delivery
+-- ---- opening, delivery and withdrawal
 
 abbrev pub fitPlaces : List ℕ → Bool
 fitPlaces list = Opening.fitPlaces modem64 list
@@ -66,6 +67,9 @@ openOf rate list = Opening.openOf modem64 rate list
 
 abbrev pub deliverOf : Book → ℕ → List ℕ → Outcome
 deliverOf book p column = Delivery.deliverOf modem64 book p column
+
+abbrev pub withdrawOf : Book → ℕ → Outcome
+withdrawOf book p = Withdrawal.withdrawOf modem64 book p
 
 abbrev pub onAccepted : Outcome → (Book → Outcome) → Outcome
 onAccepted o next = Delivery.onAccepted modem64 o next

@@ -3,6 +3,7 @@ pub mod Model
 pub mod Book
 pub mod Opening
 pub mod Delivery
+pub mod Withdrawal
 pub mod Columns
 pub mod RowLaws
 pub mod Entries
@@ -15,6 +16,7 @@ pub mod ClosingLaws
 pub mod Table
 pub mod Sentences
 pub mod Costs
+pub mod WithdrawalLaws
 pub mod Report
 pub mod Repairs
 pub mod Here
@@ -33,4 +35,5 @@ pub mod AnyCalls
 pub mod Calls
 pub mod AlikeCalls
 pub mod CallLaws
+pub mod Undone
 pub mod Captured

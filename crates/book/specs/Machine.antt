@@ -4,7 +4,11 @@
 --   afterBy after book calls   the book after them
 --   carried              what each call carries over, of a book and the calls to come, holds after the last one, with no calls to come
 --   part-held            a part of the book that no call changes is as it was
+--   after-append         the book after one list of calls and another
 --   Each Fits calls      each of the calls fits
+--   acceptedBy accepts after book calls   those of the calls that the book accepts, each of which finds the book that the call before it left
+--   left-out             where every accepted call keeps what the book has, and does the same to the book without it, then a list of calls does to the book,
+--                        but for that, what its accepted calls alone do to the book without it
 --   Run Step s calls given t   the calls, each a step from the session that the one before it left, are given these answers, and the session t is left
 --   Likeness Same answer after   books that are the same in the sense of Same answer every call alike, and are the same after it
 --   answers-same, after-same   so they answer every list of calls alike, and are the same after it
@@ -12,8 +16,9 @@
 --   every-run            if every step from a good session is so, then every run is, with its lists of calls and of answers
 --   one-end              so the calls determine the session left, if its book, up to Same, determines a good session
 --   some-run             and if every fitting call has a step from every good session, then every list of them has a run
-use mathlib.Core.Path.{_≡_, refl, ap₂, _∙_}
-use mathlib.Core.List.{List, [], _∷_}
+use mathlib.Core.Bool.{Bool, true, false, cond}
+use mathlib.Core.Path.{_≡_, refl, sym, ap, ap₂, _∙_, subst}
+use mathlib.Core.List.{List, [], _∷_, _++_}
 
 unfoldable pub answersBy : {B C A : Type 0} → (B → C → A) → (B → C → B) → B → List C → List A
 answersBy answer after book [] = []
@@ -34,9 +39,49 @@ module _ {B C : Type 0} (after : B → C → B) where
       → (book : B) (calls : List C) → part (afterBy book calls) ≡ part book
   part-held part held book calls = carried (λ b l. part b ≡ part book) (λ b call l e. held b call ∙ e) book calls refl
 
+  pub after-append : (book : B) (calls more : List C) → afterBy book (calls ++ more) ≡ afterBy (afterBy book calls) more
+  unfolding afterBy
+  after-append book [] more = refl
+  after-append book (call ∷ calls) more = after-append (after book call) calls more
+
 pub data Each {C : Type 0} (Fits : C → Type 0) : List C → Type 0 where
   fit-nil : Each Fits []
   fit-cons : {call : C} {calls : List C} → Fits call → Each Fits calls → Each Fits (call ∷ calls)
+
+-- ---- leaving calls out
+
+module _ {B C : Type 0} (accepts : B → C → Bool) (after : B → C → B) where
+  unfoldable pub acceptedBy : B → List C → List C
+  acceptedBy book [] = []
+  acceptedBy book (call ∷ calls) =
+      cond (accepts book call) (call ∷ acceptedBy (after book call) calls) (acceptedBy (after book call) calls)
+
+  -- `without` takes out of a book what it Has; a call that Spares it leaves it there
+  module _ (refused : (book : B) (call : C) → accepts book call ≡ false → after book call ≡ book) (without : B → B) {Has : B → Type 0}
+      {Spares : C → Type 0}
+      (turn : (book : B) (call : C) → Has book → Spares call → accepts book call ≡ true
+      → Has (after book call) × (after (without book) call ≡ without (after book call))) where
+    pub left-out : {calls : List C} → Each Spares calls → (book : B) → Has book
+        → Has (afterBy after book calls) × (without (afterBy after book calls) ≡ afterBy after (without book) (acceptedBy book calls))
+    unfolding afterBy acceptedBy
+    left-out fit-nil book has = (has, refl)
+    left-out (fit-cons {call = call} {calls = calls} spares fit) book has = go (accepts book call) refl (left-out fit (after book call))
+      where
+        Left : List C → Type 0
+        Left left = Has (afterBy after (after book call) calls) × (without (afterBy after (after book call) calls) ≡ afterBy after (without book) left)
+
+        go : (b : Bool) → accepts book call ≡ b
+            → (Has (after book call)
+            → Has (afterBy after (after book call) calls)
+            × (without (afterBy after (after book call) calls) ≡ afterBy after (without (after book call)) (acceptedBy (after book call) calls)))
+            → Left (cond b (call ∷ acceptedBy (after book call) calls) (acceptedBy (after book call) calls))
+        go true e ih =
+            let t = turn book call has spares e in
+            let r = ih (t .0) in
+            (r .0, r .1 ∙ ap (λ x. afterBy after x (acceptedBy (after book call) calls)) (sym (t .1)))
+        go false e ih =
+            let r = ih (subst Has (sym (refused book call e)) has) in
+            (r .0, r .1 ∙ ap (λ x. afterBy after (without x) (acceptedBy (after book call) calls)) (refused book call e))
 
 pub data Run {S C A : Type 0} (Step : S → C → A → S → Type 0) : S → List C → List A → S → Type 0 where
   done : {s : S} → Run Step s [] [] s

@@ -2,32 +2,35 @@
 --
 --   placesOf row         the places of a row, in its order
 --   wide row             every column of the row has a cost for each symbol
---   Proper book          what every book has that opening and deliveries lead to: a known rate, a fit list, distinct places of the modem, columns of a
---                        cost for each symbol
+--   Proper book          what every book has that opening, deliveries and withdrawals lead to: a known rate, a fit list, distinct places of the modem,
+--                        columns of a cost for each symbol
 --   columns-wide         every column has a cost for each symbol, those of missing places too
 --   taken-among          a place is taken exactly if it is among the row's places
 --   none-above           the row of a proper book has no place above the last
 --   column-append, column-one   the columns of one row after another, and of one entry
+--   snoc-here, snoc-other   a row with an entry more has the entry's column at the entry's place, if that was free, and those that it had elsewhere
 --   missing-some, some-missing   a place is missing exactly if one of the modem's is not in the row
 --   missing-count        of distinct places of the modem one is missing exactly if there are fewer of them than it has
 --   open-refused-rate, open-refused-list, open-accepted      the three cases of opening
 --   deliver-above, deliver-taken, deliver-accepted           the three cases of delivery
+--   deliver-only         it is accepted in the last case alone
 --   new-proper, entry-proper, deliver-proper   opening gives a proper book, and delivery of a cost for each symbol keeps it so
 use mathlib.Core.Bool.{Bool, true, false, cond, not, _&&_, _||_, true≢false}
 use mathlib.Core.Path.{_≡_, refl, sym, ap, _∙_, fun-ext}
 use mathlib.Core.List.{List, [], _∷_, _++_}
-use mathlib.Core.Option.{none, some}
+use mathlib.Core.Logic.{_≢_}
+use mathlib.Core.Option.{Option, none, some}
 use Prim.Native.Nat.{ℕ, suc, _<_, _≤_}
 use native.Mathlib.Decide.{decLt}
 use native.Mathlib.Omega.{arith}
 use lib.Dec.{eqb, ltb, leb}
 use lib.ListN.{length, length-replicate}
-use borrow.Author.Tests.{lt-ltb, le-ltb, ltb-true, eq-eqb, eqb-true, not-true}
+use borrow.Author.Tests.{lt-ltb, le-ltb, ltb-true, eq-eqb, ne-eqb, eqb-true, not-true}
 use Rattle.refusals.specs.Refusal.{accepted, noPlace, placeTaken, unknownRate, wrongDoubt}
 use Rattle.lists.specs.Every.{every, every-at, every-false, true-T, T-true}
 use Rattle.lists.specs.Distinct.{among, distinct, below, below-among, below-append, below-one, below-nil, distinct-nil, distinct-snoc, distinct-every, and-left, and-right, and-both}
 use Rattle.book.specs.Model.{Model, places, width}
-use Rattle.book.specs.Book.{Entry, Book, newBook, columnIn, present, taken, missing, someMissing}
+use Rattle.book.specs.Book.{Entry, Book, newBook, columnIn, present, taken, missing, someMissing, Outcome}
 use Rattle.book.specs.Columns.{orZeros, columnsOf, column-free}
 use Rattle.book.specs.Opening.{fitDoubt, refusedOpening, openOf}
 use Rattle.book.specs.Delivery.{withEntry, deliverOf}
@@ -70,6 +73,24 @@ column-append (e ∷ a) b p = go (eqb (e .place) p) (column-append a b p)
 pub column-one : (e : Entry) → columnIn (e ∷ []) (e .place) ≡ some (e .column)
 unfolding columnIn
 column-one e = rw (eq-eqb (e .place) (e .place) refl)
+
+one-other : (e : Entry) (p : ℕ) → e .place ≢ p → columnIn (e ∷ []) p ≡ none
+unfolding columnIn
+one-other e p ne = rw (ne-eqb (e .place) p ne)
+
+module _ (row : List Entry) (e : Entry) where
+  pub snoc-here : taken row (e .place) ≡ false → columnIn (row ++ (e ∷ [])) (e .place) ≡ some (e .column)
+  snoc-here free =
+      column-append row (e ∷ []) (e .place)
+      ∙ ap (λ b. cond b (columnIn row (e .place)) (columnIn (e ∷ []) (e .place))) free ∙ column-one e
+
+  pub snoc-other : (p : ℕ) → e .place ≢ p → columnIn (row ++ (e ∷ [])) p ≡ columnIn row p
+  unfolding taken
+  snoc-other p ne = column-append row (e ∷ []) p ∙ ap (cond (present (columnIn row p)) (columnIn row p)) (one-other e p ne) ∙ go (columnIn row p)
+    where
+      go : (o : Option (List ℕ)) → cond (present o) o none ≡ o
+      go none = refl
+      go (some column) = refl
 
 module _ (𝓓 : Model) where
   open Model 𝓓 using (known)
@@ -173,6 +194,14 @@ module _ (𝓓 : Model) where
         → deliverOf 𝓓 book p column ≡ record { number = accepted; book = withEntry book p column }
     unfolding deliverOf
     deliver-accepted h t = rw (lt-ltb p (places 𝓓) h, t)
+
+    pub deliver-only : deliverOf 𝓓 book p column .number ≡ accepted → (p < places 𝓓) × (taken (book .row) p ≡ false)
+    deliver-only n = go (decLt p (places 𝓓)) (taken (book .row) p) refl
+      where
+        go : Dec (p < places 𝓓) → (b : Bool) → taken (book .row) p ≡ b → (p < places 𝓓) × (taken (book .row) p ≡ false)
+        go (yes h) true t = absurd (omega (arith, sym (ap (λ (o : Outcome). o .number) (deliver-taken h t)) ∙ n))
+        go (yes h) false t = (h, t)
+        go (no h) b t = absurd (omega (arith, sym (ap (λ (o : Outcome). o .number) (deliver-above (omega arith))) ∙ n))
 
   -- ---- proper books
 

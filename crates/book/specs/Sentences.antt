@@ -2,7 +2,7 @@
 -- lists of calls stands in ReadingSentences, Captured and CallLaws.)
 --
 --   opening-accepts, opening-only   opening accepts every known rate with every doubtful list, and nothing else
---   testsOf book, tests-different   the test words; no two are equal, in every book that opening and deliveries lead to
+--   testsOf book, tests-different   the test words; no two are equal, in every book that opening, deliveries and withdrawals lead to
 --   IsNear book T m      the codeword of the message m is near: it differs from some test word in at most T places
 --   Dearer book m n      the codeword of n has a larger total than that of m, or an equal total and n is the larger message
 --   HasMargin book T m d   a runner-up: a near codeword other than that of m, of the least total among these, and its total is that of m and d

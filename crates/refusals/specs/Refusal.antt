@@ -12,6 +12,7 @@
 --   noneNear         9: no codeword is near
 --   wrongVersion     10: the version is not 1
 --   wrongLength      11: size or length wrong
+--   notTaken         13: a place that is not taken
 use Prim.Native.Nat.{ℕ}
 
 abbrev pub accepted : ℕ
@@ -49,3 +50,6 @@ wrongVersion = 10
 
 abbrev pub wrongLength : ℕ
 wrongLength = 11
+
+abbrev pub notTaken : ℕ
+notTaken = 13

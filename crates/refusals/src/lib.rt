@@ -30,3 +30,7 @@ pub const NONE_NEAR: u8 = 9;
 pub const WRONG_VERSION: u8 = 10;
 // 11: size or length wrong.
 pub const WRONG_LENGTH: u8 = 11;
+
+// The equaliser.
+// 13: the place is not taken.
+pub const NOT_TAKEN: u8 = 13;

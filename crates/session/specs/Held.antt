@@ -12,6 +12,7 @@
 --   Good h               what holds of every session from opening: a count within its list, a known rate, a fit list, a flag and a column for each
 --                        place, and zeros wherever nothing was put
 --   withColumn h p column    the fields with a place and its column more
+--   withoutColumn h p    the fields with the flag of a place not set, and zeros for its column
 use mathlib.Core.Bool.{Bool, true, false, cond}
 use mathlib.Core.Path.{_≡_}
 use mathlib.Core.List.{List, [], _∷_, _++_}
@@ -74,6 +75,16 @@ module _ (𝓓 : Model) where
         doubtful = h .doubtful;
         taken = set (h .taken) p true;
         costs = putBlock (width 𝓓) p column (h .costs);
+      }
+
+  unfoldable pub withoutColumn : Held → ℕ → Held
+  withoutColumn h p =
+      record {
+        rate = h .rate;
+        doubt = h .doubt;
+        doubtful = h .doubtful;
+        taken = set (h .taken) p false;
+        costs = putBlock (width 𝓓) p (replicate (width 𝓓) 0) (h .costs);
       }
 
   pub record Good (h : Held) : Type 0 where

@@ -1,5 +1,5 @@
--- What follows of the fields of a session: those of a newly opened one are good, and a delivery keeps them so; the book of good ones is proper, and no
--- other good ones have a book that agrees with it. For every modem, so for whatever struct keeps them.
+-- What follows of the fields of a session: those of a newly opened one are good, and a delivery and a withdrawal keep them so; the book of good ones is
+-- proper, and no other good ones have a book that agrees with it. For every modem, so for whatever struct keeps them.
 --
 --   table-column         the row of a table of costs, as a column
 --   row-wide             the places below a bound, each with its column in the table: each column has a cost for each symbol
@@ -8,6 +8,7 @@
 --   book-taken           a place is taken exactly if its flag is set
 --   good-proper          the book of good fields is proper
 --   with-column-agree, with-column-good   with a place and its column more they stand for the longer row, and are good
+--   without-column-agree, without-column-good   with the flag of a place not set, and zeros for its column, they stand for the row without it, and are good
 --   new-book, new-good   those of a newly opened session stand for a new book, if its list has no more places than the largest doubt, and are good, if
 --                        it is fit
 --   columns-table        the columns by place are those of the table, at every place: where nothing was delivered both hold zeros
@@ -18,7 +19,7 @@ use mathlib.Core.Bool.{Bool, true, false, cond, not, true≢false, false≢true}
 use mathlib.Core.Path.{_≡_, refl, sym, ap, ap₂, _∙_, fun-ext}
 use mathlib.Core.List.{List, [], _∷_, _++_}
 use mathlib.Core.Logic.{⊎-elim}
-use mathlib.Core.Option.{Option, none, some}
+use mathlib.Core.Option.{none, some}
 use Prim.Native.Nat.{ℕ, zero, suc, _+_, _*_, _<_, _≤_}
 use native.Mathlib.Nat.{le-step, lt-suc-self, eq-or-lt-of-le, le-of-suc-le-suc, mul-comm, mul-le-mul-left}
 use native.Mathlib.Decide.{decLt, ℕ-discrete}
@@ -26,7 +27,7 @@ use native.Mathlib.Omega.{arith}
 use lib.Dec.{eqb}
 use lib.ListN.{length, getD, set, take, drop, replicate, length-replicate, getD-replicate, length-set, take-append-drop, List·getD-eq-default}
 use lib.Seq.{ext-getD, getD-set-same, getD-set-other, length-take-le}
-use borrow.Author.Tests.{eq-eqb, ne-eqb}
+use borrow.Author.Tests.{eq-eqb}
 use Rattle.refusals.specs.Refusal.{placeMissing}
 use Rattle.lists.specs.Listed.{listed, listed-nil, listed-suc}
 use Rattle.lists.specs.Distinct.{and-both}
@@ -41,34 +42,14 @@ use Rattle.book.specs.Book.{Entry, Book, newBook, columnIn, present, taken, som
 use Rattle.book.specs.Opening.{fitDoubt}
 use Rattle.book.specs.OpeningLaws.{list-short}
 use Rattle.book.specs.Delivery.{withEntry}
+use Rattle.book.specs.Withdrawal.{freed, withoutPlace}
+use Rattle.book.specs.WithdrawalLaws.{freed-here, freed-other}
 use Rattle.book.specs.Columns.{columnsOf, columns-taken, columns-none, none-free, taken-alike, columns-alike, Agree}
-use Rattle.book.specs.RowLaws.{wide, wide-append, Proper, column-append, column-one, new-proper, entry-proper}
+use Rattle.book.specs.RowLaws.{wide, wide-append, Proper, snoc-here, snoc-other, new-proper, entry-proper}
 use Rattle.book.specs.Closing.{reportLength, refusedClosing, decodeOf, closeOf}
 use Rattle.book.specs.ClosingLaws.{fits-of, close-missing, close-decoded}
 use Rattle.book.specs.Table.{column-beyond}
-use Rattle.session.specs.Held.{Held, takenBelow, newHeld, allTaken, entryAt, entriesBelow, bookOf, withColumn, Good}
-
--- ---- a row with one entry more
-
-one-other : (e : Entry) (p : ℕ) → (e .place ≡ p → ⊥) → columnIn (e ∷ []) p ≡ none
-unfolding columnIn
-one-other e p ne = rw (ne-eqb (e .place) p ne)
-
-module _ (row : List Entry) (e : Entry) where
-  -- it has the entry's column at the entry's place, if that was free,
-  snoc-here : taken row (e .place) ≡ false → columnIn (row ++ (e ∷ [])) (e .place) ≡ some (e .column)
-  snoc-here free =
-      column-append row (e ∷ []) (e .place)
-      ∙ ap (λ b. cond b (columnIn row (e .place)) (columnIn (e ∷ []) (e .place))) free ∙ column-one e
-
-  -- and the columns that it had elsewhere
-  snoc-other : (p : ℕ) → (e .place ≡ p → ⊥) → columnIn (row ++ (e ∷ [])) p ≡ columnIn row p
-  unfolding taken
-  snoc-other p ne = column-append row (e ∷ []) p ∙ ap (cond (present (columnIn row p)) (columnIn row p)) (one-other e p ne) ∙ go (columnIn row p)
-    where
-      go : (o : Option (List ℕ)) → cond (present o) o none ≡ o
-      go none = refl
-      go (some column) = refl
+use Rattle.session.specs.Held.{Held, takenBelow, newHeld, allTaken, entryAt, entriesBelow, bookOf, withColumn, withoutColumn, Good}
 
 -- ---- columns of a table
 
@@ -206,61 +187,112 @@ module _ (𝓓 : Model) where
         (none-free (entriesBelow 𝓓 (s .taken) (s .costs) p) p (entries-away (s .taken) (s .costs) p p (λ l. absurd (omega arith))))
         (column-length (s .costs) p (good .table-room) h))
 
-  -- ---- a delivery
+  -- ---- another flag and column at a place
 
-  module _ (s : Held) (p : ℕ) (column : List ℕ) (good : Good 𝓓 s) (h : p < places 𝓓) (free : getD (s .taken) p false ≡ false)
-      (long : length column ≡ width 𝓓) where
+  module _ (s : Held) (p : ℕ) (b : Bool) (column : List ℕ) (good : Good 𝓓 s) (h : p < places 𝓓) (long : length column ≡ width 𝓓)
+      (zeros : b ≡ false → column ≡ replicate (width 𝓓) 0) where
+    abbrev put : Held
+    put =
+        record {
+          rate = s .rate;
+          doubt = s .doubt;
+          doubtful = s .doubtful;
+          taken = set (s .taken) p b;
+          costs = putBlock (width 𝓓) p column (s .costs);
+        }
+
     fits : width 𝓓 * p + width 𝓓 ≤ length (s .costs)
     fits = column-fits (s .costs) p (good .table-room) h
 
-    flag-set : getD (set (s .taken) p true) p false ≡ true
-    flag-set = getD-set-same (s .taken) p true false (omega (arith, good .row-room))
+    flag-put : getD (set (s .taken) p b) p false ≡ b
+    flag-put = getD-set-same (s .taken) p b false (omega (arith, good .row-room))
 
-    flag-kept : (q : ℕ) → (q ≡ p → ⊥) → getD (set (s .taken) p true) q false ≡ getD (s .taken) q false
-    flag-kept q ne = getD-set-other (s .taken) p q true false ne
+    flag-kept : (q : ℕ) → (q ≡ p → ⊥) → getD (set (s .taken) p b) q false ≡ getD (s .taken) q false
+    flag-kept q ne = getD-set-other (s .taken) p q b false ne
+
+    column-put : block (width 𝓓) p (putBlock (width 𝓓) p column (s .costs)) ≡ column
+    column-put = put-same (width 𝓓) p column (s .costs) fits long 0
 
     -- the columns of the other places
     column-kept : (q : ℕ) → q < places 𝓓 → (q ≡ p → ⊥) → block (width 𝓓) q (putBlock (width 𝓓) p column (s .costs)) ≡ block (width 𝓓) q (s .costs)
     column-kept q l ne = put-other (width 𝓓) p column (s .costs) fits long 0 q (column-fits (s .costs) q (good .table-room) l) ne
 
-    pub with-column-good : Good 𝓓 (withColumn 𝓓 s p column)
-    unfolding withColumn
-    with-column-good =
+    put-good : Good 𝓓 put
+    put-good =
         record {
           rate-known = good .rate-known;
           list-room = good .list-room;
           doubt-fits = good .doubt-fits;
           list-fit = good .list-fit;
           list-rest = good .list-rest;
-          row-room = length-set (s .taken) p true ∙ good .row-room;
+          row-room = length-set (s .taken) p b ∙ good .row-room;
           table-room = put-length (width 𝓓) p column (s .costs) fits long ∙ good .table-room;
-          table-rest = λ q l a.
-              let ne : q ≡ p → ⊥ = λ e. true≢false (sym flag-set ∙ ap (λ x. getD (set (s .taken) p true) x false) (sym e) ∙ a) in
-              column-kept q l ne ∙ good .table-rest q l (sym (flag-kept q ne) ∙ a);
+          table-rest = λ q l a. rest q l a (ℕ-discrete q p);
         }
+      where
+        rest : (q : ℕ) → q < places 𝓓 → getD (set (s .taken) p b) q false ≡ false → Dec (q ≡ p)
+            → block (width 𝓓) q (putBlock (width 𝓓) p column (s .costs)) ≡ replicate (width 𝓓) 0
+        rest q l a (yes e) = rw e (column-put ∙ zeros (sym flag-put ∙ ap (λ x. getD (set (s .taken) p b) x false) (sym e) ∙ a))
+        rest q l a (no ne) = column-kept q l ne ∙ good .table-rest q l (sym (flag-kept q ne) ∙ a)
+
+    put-other-column : (q : ℕ) → (q ≡ p → ⊥) → columnIn (bookOf 𝓓 put .row) q ≡ columnIn (bookOf 𝓓 s .row) q
+    put-other-column q ne = go (getD (s .taken) q false) refl
+      where
+        go : (f : Bool) → getD (s .taken) q false ≡ f → columnIn (bookOf 𝓓 put .row) q ≡ columnIn (bookOf 𝓓 s .row) q
+        go true f =
+            column-there put put-good q (flag-kept q ne ∙ f) ∙ ap (λ (c : List ℕ). some c) (column-kept q (flag-below s good q f) ne)
+            ∙ sym (column-there s good q f)
+        go false f = column-away put put-good q (flag-kept q ne ∙ f) ∙ sym (column-away s good q f)
+
+  -- ---- a delivery
+
+  module _ (s : Held) (p : ℕ) (column : List ℕ) (good : Good 𝓓 s) (h : p < places 𝓓) (free : getD (s .taken) p false ≡ false)
+      (long : length column ≡ width 𝓓) where
+    -- the flag is set, so its column need not be zeros
+    set-flag : true ≡ false → column ≡ replicate (width 𝓓) 0
+    set-flag e = absurd (true≢false e)
+
+    pub with-column-good : Good 𝓓 (withColumn 𝓓 s p column)
+    unfolding withColumn
+    with-column-good = put-good s p true column good h long set-flag
 
     pub with-column-agree : Agree (bookOf 𝓓 (withColumn 𝓓 s p column)) (withEntry (bookOf 𝓓 s) p column)
     unfolding bookOf withColumn withEntry
-    with-column-agree =
-        record { same-rate = refl; same-list = refl; same-columns = λ q. go q (ℕ-discrete q p) (getD (s .taken) q false) refl }
+    with-column-agree = record { same-rate = refl; same-list = refl; same-columns = λ q. go q (ℕ-discrete q p) }
       where
         e : Entry
         e = record { place = p; column = column }
 
-        go : (q : ℕ) → Dec (q ≡ p) → (b : Bool) → getD (s .taken) q false ≡ b
-            → columnIn (bookOf 𝓓 (withColumn 𝓓 s p column) .row) q ≡ columnIn (bookOf 𝓓 s .row ++ (e ∷ [])) q
-        go q (yes x) b f =
+        go : (q : ℕ) → Dec (q ≡ p) → columnIn (bookOf 𝓓 (withColumn 𝓓 s p column) .row) q ≡ columnIn (bookOf 𝓓 s .row ++ (e ∷ [])) q
+        go q (yes x) =
             rw x
-            (column-there (withColumn 𝓓 s p column) with-column-good p flag-set
-            ∙ ap (λ (c : List ℕ). some c) (put-same (width 𝓓) p column (s .costs) fits long 0)
+            (column-there (withColumn 𝓓 s p column) with-column-good p (flag-put s p true column good h long set-flag)
+            ∙ ap (λ (c : List ℕ). some c) (column-put s p true column good h long set-flag)
             ∙ sym (snoc-here (bookOf 𝓓 s .row) e (book-taken s good p ∙ free)))
-        go q (no ne) true f =
-            column-there (withColumn 𝓓 s p column) with-column-good q (flag-kept q ne ∙ f)
-            ∙ ap (λ (c : List ℕ). some c) (column-kept q (flag-below s good q f) ne)
-            ∙ sym (snoc-other (bookOf 𝓓 s .row) e q (λ x. ne (sym x)) ∙ column-there s good q f)
-        go q (no ne) false f =
-            column-away (withColumn 𝓓 s p column) with-column-good q (flag-kept q ne ∙ f)
-            ∙ sym (snoc-other (bookOf 𝓓 s .row) e q (λ x. ne (sym x)) ∙ column-away s good q f)
+        go q (no ne) =
+            put-other-column s p true column good h long set-flag q ne ∙ sym (snoc-other (bookOf 𝓓 s .row) e q (λ x. ne (sym x)))
+
+  -- ---- a withdrawal
+
+  module _ (s : Held) (p : ℕ) (good : Good 𝓓 s) (h : p < places 𝓓) where
+    zeros-long : length {A = ℕ} (replicate (width 𝓓) 0) ≡ width 𝓓
+    zeros-long = length-replicate {A = ℕ} (width 𝓓) 0
+
+    pub without-column-good : Good 𝓓 (withoutColumn 𝓓 s p)
+    unfolding withoutColumn
+    without-column-good = put-good s p false (replicate (width 𝓓) 0) good h zeros-long (λ e. refl)
+
+    pub without-column-agree : Agree (bookOf 𝓓 (withoutColumn 𝓓 s p)) (withoutPlace (bookOf 𝓓 s) p)
+    unfolding bookOf withoutColumn withoutPlace
+    without-column-agree = record { same-rate = refl; same-list = refl; same-columns = λ q. go q (ℕ-discrete q p) }
+      where
+        go : (q : ℕ) → Dec (q ≡ p) → columnIn (bookOf 𝓓 (withoutColumn 𝓓 s p) .row) q ≡ columnIn (freed (bookOf 𝓓 s .row) p) q
+        go q (yes x) =
+            rw x
+            (column-away (withoutColumn 𝓓 s p) without-column-good p (flag-put s p false (replicate (width 𝓓) 0) good h zeros-long (λ e. refl))
+            ∙ sym (freed-here (bookOf 𝓓 s .row) p))
+        go q (no ne) =
+            put-other-column s p false (replicate (width 𝓓) 0) good h zeros-long (λ e. refl) q ne ∙ sym (freed-other (bookOf 𝓓 s .row) p q ne)
 
   -- ---- an opening
 

@@ -1,5 +1,5 @@
--- What follows of sessions: a newly opened one is good, and a delivery keeps it so; a good session's book is proper, and no other good session has one
--- that agrees with it. It follows of their fields, in HeldLaws; what is left here is the struct's own.
+-- What follows of sessions: a newly opened one is good, and a delivery and a withdrawal keep it so; a good session's book is proper, and no other good
+-- session has one that agrees with it. It follows of their fields, in HeldLaws; what is left here is the struct's own.
 --
 --   row-wide             the places below a bound, each with its column in the table: each column has sixteen costs
 --   book-taken           a place is taken exactly if its flag is set
@@ -10,6 +10,10 @@
 --   withColumn s p column    the session with a place and its column
 --   with-column-agree, with-column-good   it stands for the longer row, and is good
 --   delivery-above, delivery-taken, delivery-accepted   the three cases of delivery
+--   withoutColumn s p    the session with the flag of a place not set, and zeros for its column
+--   without-column-agree, without-column-good   it stands for the row without the place, and is good
+--   withdrawal-above, withdrawal-free, withdrawal-accepted   the three cases of a withdrawal
+--   withdrawal-frees     an accepted one leaves the place free and its costs zero
 --   one-session          two good sessions whose books agree are one
 use mathlib.Core.Bool.{Bool, true, false}
 use mathlib.Core.Path.{_≡_, refl, sym, ap, _∙_}
@@ -17,25 +21,28 @@ use mathlib.Core.List.{List, []}
 use mathlib.Core.Option.{some}
 use Prim.Native.Nat.{ℕ, _*_, _<_, _≤_}
 use native.Mathlib.Omega.{arith}
-use lib.ListN.{length, getD, set}
-use Rattle.refusals.specs.Refusal.{accepted, unknownRate, wrongDoubt, noPlace, placeTaken}
+use lib.ListN.{length, getD, set, replicate}
+use Rattle.refusals.specs.Refusal.{accepted, unknownRate, wrongDoubt, noPlace, placeTaken, notTaken}
 use Rattle.lists.specs.Listed.{listed}
 use Rattle.lists.specs.Distinct.{below}
 use Rattle.lists.specs.Block.{block, putBlock}
 use Rattle.code.specs.Encoding.{knownRate}
 use Rattle.book.specs.Model.{modem64}
-use Rattle.book.specs.Book.{newBook, columnIn, taken, Outcome}
+use Rattle.book.specs.Book.{Book, newBook, columnIn, taken, Outcome}
 use Rattle.book.specs.Opening.{risingFrom, rising}
 use Rattle.book.specs.Delivery.{withEntry}
-use Rattle.book.specs.Columns.{Agree, agree-trans, agree-path}
+use Rattle.book.specs.Withdrawal.{withoutPlace}
+use Rattle.book.specs.Columns.{none-free, Agree, agree-trans, agree-path}
 use Rattle.book.specs.RowLaws.{deliver-above, deliver-taken, deliver-accepted, open-refused-rate, open-refused-list, open-accepted}
+use Rattle.book.specs.WithdrawalLaws.{freed-here, withdraw-above, withdraw-free, withdraw-accepted, withdraw-only}
 use Rattle.book.specs.Here.{places, width, fitDoubt, refusedOpening, openOf, wide, Proper}
 use Rattle.book.specs.OpeningLaws.{list-short}
 use Rattle.book.specs.Opening as BookOpening
 use Rattle.soft.specs.Doubt.{mostDoubt}
 use Rattle.session.specs.declared.Session.{Session}
+use Rattle.session.specs.declared.Withdrawn.{Withdrawn}
 use Rattle.session.specs.View.{newSession, held, entryAt, bookOf, Good}
-use Rattle.session.specs.Calls.{refusedWith, openedOf, declinedWith, Opening, Delivery}
+use Rattle.session.specs.Calls.{refusedWith, openedOf, declinedWith, Opening, Delivery, deniedWith, Withdrawal}
 use Rattle.session.specs.Held as Fields
 use Rattle.session.specs.HeldLaws as laws
 
@@ -115,6 +122,74 @@ module _ (s : Session) (p : ℕ) (column : List ℕ) where
         good = λ good. with-column-good s p column good h free long;
         kept = λ n. absurd (n refl);
       }
+
+-- ---- withdrawal
+
+unfoldable pub withoutColumn : Session → ℕ → Session
+withoutColumn s p =
+    record {
+      rate = s .rate;
+      doubt = s .doubt;
+      doubtful = s .doubtful;
+      taken = set (s .taken) p false;
+      costs = putBlock width p (replicate width 0) (s .costs);
+    }
+
+module _ (s : Session) (p : ℕ) (good : Good s) (h : p < places) where
+  pub without-column-agree : Agree (bookOf (withoutColumn s p)) (withoutPlace (bookOf s) p)
+  unfolding bookOf withoutColumn Fields.bookOf Fields.withoutColumn
+  without-column-agree = laws.without-column-agree modem64 (held s) p good h
+
+  pub without-column-good : Good (withoutColumn s p)
+  unfolding withoutColumn Fields.withoutColumn
+  without-column-good = laws.without-column-good modem64 (held s) p good h
+
+module _ (s : Session) (p : ℕ) where
+  pub withdrawal-above : places ≤ p → Withdrawal s p (deniedWith noPlace s)
+  unfolding deniedWith
+  withdrawal-above h =
+      record {
+        number = λ good. sym (ap (λ (o : Outcome). o .number) (withdraw-above modem64 (bookOf s) p h));
+        book = λ good. agree-path (sym (ap (λ (o : Outcome). o .book) (withdraw-above modem64 (bookOf s) p h)));
+        good = λ good. good;
+        kept = λ n. refl;
+      }
+
+  pub withdrawal-free : p < places → getD (s .taken) p false ≡ false → Withdrawal s p (deniedWith notTaken s)
+  unfolding deniedWith
+  withdrawal-free h free =
+      record {
+        number = λ good. sym (ap (λ (o : Outcome). o .number) (withdraw-free modem64 (bookOf s) p h (book-taken s good p ∙ free)));
+        book = λ good. agree-path (sym (ap (λ (o : Outcome). o .book) (withdraw-free modem64 (bookOf s) p h (book-taken s good p ∙ free))));
+        good = λ good. good;
+        kept = λ n. refl;
+      }
+
+  pub withdrawal-accepted : p < places → getD (s .taken) p false ≡ true → {left : Session} → left ≡ withoutColumn s p
+      → Withdrawal s p (record { refusal = accepted; session = left })
+  withdrawal-accepted h there e =
+      rw e
+      (record {
+        number = λ good. sym (ap (λ (o : Outcome). o .number) (withdraw-accepted modem64 (bookOf s) p h (book-taken s good p ∙ there)));
+        book = λ good.
+            agree-trans (without-column-agree s p good h)
+            (agree-path (sym (ap (λ (o : Outcome). o .book) (withdraw-accepted modem64 (bookOf s) p h (book-taken s good p ∙ there)))));
+        good = λ good. without-column-good s p good h;
+        kept = λ n. absurd (n refl);
+      })
+
+-- 'the named place becomes free again, its costs return to zero'
+pub withdrawal-frees : {s : Session} {p : ℕ} {r : Withdrawn} → Withdrawal s p r → Good s → r .refusal ≡ accepted
+    → (getD (r .session .taken) p false ≡ false) × (block width p (r .session .costs) ≡ replicate width 0)
+unfolding withoutPlace
+withdrawal-frees {s} {p} {r} w good n =
+    let d = withdraw-only modem64 (bookOf s) p (sym (w .number good) ∙ n) in
+    let left = ap (λ (o : Outcome). o .book) (withdraw-accepted modem64 (bookOf s) p (d .0) (d .1)) in
+    let free : getD (r .session .taken) p false ≡ false =
+    sym (book-taken (r .session) (w .good good) p)
+    ∙ none-free (bookOf (r .session) .row) p
+    (w .book good .same-columns p ∙ ap (λ (b : Book). columnIn (b .row) p) left ∙ freed-here (bookOf s .row) p) in
+    (free, w .good good .table-rest p (d .0) free)
 
 -- ---- opening
 

@@ -1,4 +1,4 @@
-// A session by value: opening one, and delivering one place and its column of sixteen costs.
+// A session by value: opening one, delivering one place and its column of sixteen costs, and withdrawing one place.
 // It keeps what was delivered, by place, and nothing of the order of arrival: sessions from openings that hold the same are equal.
 // It knows of no codeword and no interpolant; what a session stands for is its book (specs/View.antt).
 ghost use mathlib.Core.Path.{_≡_};
@@ -8,7 +8,7 @@ ghost use Rattle.lists.specs.Block.{putBlock};
 ghost use Rattle.lists.specs.Padded.{padded};
 ghost use Rattle.book.specs.Here.{places, width, fitPlaces};
 ghost use Rattle.session.specs.View.{newSession, allTaken};
-ghost use Rattle.session.specs.Calls.{refusedWith, openedOf, declinedWith, Delivery};
+ghost use Rattle.session.specs.Calls.{refusedWith, openedOf, declinedWith, Delivery, deniedWith, Withdrawal};
 use columns::costs::COSTS;
 use columns::costs::PLACES;
 use columns::costs::SYMBOLS;
@@ -31,6 +31,12 @@ pub struct Opened {
 
 // What a delivery answers: 0 or the refusal's number, and the session.
 pub struct Delivered {
+    pub refusal: u8,
+    pub session: Session,
+}
+
+// What a withdrawal answers: 0 or the refusal's number, and the session.
+pub struct Withdrawn {
     pub refusal: u8,
     pub session: Session,
 }
@@ -171,6 +177,45 @@ pub fn deliver(session: Session, place: usize, column: [u16; SYMBOLS]) -> Delive
         costs: costs,
     };
     Delivered {
+        refusal: refusals::ACCEPTED,
+        session: left,
+    }
+}
+
+// A refused withdrawal hands back the session that was given.
+fn denied(number: u8, given: Session) -> Withdrawn
+    ensures { λ r. ⌜ r ≡ deniedWith number given ⌝ }
+{
+    Withdrawn {
+        refusal: number,
+        session: given,
+    }
+}
+
+// Undoes the delivery of a place: it becomes free again, and its costs return to zero.
+pub fn withdraw(session: Session, place: usize) -> Withdrawn
+    ensures { λ r. ⌜ Withdrawal session place r ⌝ }
+{
+    if PLACES <= place {
+        return denied(refusals::NO_PLACE, session);
+    }
+    let taken = session.taken;
+    if !taken[place] {
+        return denied(refusals::NOT_TAKEN, session);
+    }
+    let doubtful = session.doubtful;
+    let table = session.costs;
+    let cleared = with_column(table, place, [0u16; SYMBOLS]);
+    let mut flags = taken;
+    flags[place] = false;
+    let left = Session {
+        rate: session.rate,
+        doubt: session.doubt,
+        doubtful: doubtful,
+        taken: flags,
+        costs: cleared,
+    };
+    Withdrawn {
         refusal: refusals::ACCEPTED,
         session: left,
     }
