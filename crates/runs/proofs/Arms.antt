@@ -1,13 +1,13 @@
 -- From the step that an arm makes to the step of its kind: the buffers that the arm is not lent are as they were.
 --
---   by-delivery, by-reading, by-writing, by-closing   the four arms
+--   by-delivery, by-reading, by-writing, by-closing, by-withdrawal   the five arms
 use mathlib.Core.Path.{_≡_, refl, sym, subst}
 use mathlib.Core.List.{List, []}
 use Prim.Native.Nat.{ℕ}
-use Rattle.book.specs.Calls.{deliver, reading, writing, closing}
+use Rattle.book.specs.Calls.{deliver, reading, writing, closing, withdraw}
 use Rattle.session.specs.declared.Session.{Session}
 use Rattle.runs.specs.declared.Kind.{Kind}
-use Rattle.runs.specs.declared.Kind.the-variants.{Deliver, Read, Write, Close}
+use Rattle.runs.specs.declared.Kind.the-variants.{Deliver, Read, Write, Close, Withdraw}
 use Rattle.runs.specs.declared.Stepped.{Stepped}
 use Rattle.runs.specs.Step.{Step, answerWith}
 use Rattle.runs.specs.Stepping.{callOf, answerOf, Spared, Stepping}
@@ -33,3 +33,8 @@ module _ {kind : Kind} {s : Session} {place : ℕ} {column first second : List �
   unfolding callOf answerOf Spared
   by-closing {first′} {second′} e step =
       subst (λ k. Stepping k s place column first second r first′ second′) (sym e) (record { made = step; spared = tt })
+
+  pub by-withdrawal : kind ≡ Withdraw → Step s (withdraw place) (answerWith (r .refusal) [] []) (r .session)
+      → Stepping kind s place column first second r first second
+  unfolding callOf answerOf Spared
+  by-withdrawal e step = subst (λ k. Stepping k s place column first second r first second) (sym e) (record { made = step; spared = (refl, refl) })

@@ -9,7 +9,7 @@
 -- the contracts of `open` and `open_capture` say. A book with its reach T is one of rate 39 with T = 6 or of rate 49 with T = 1.
 use mathlib.Core.Bool.{true}
 use mathlib.Core.Path.{_≡_}
-use mathlib.Core.List.{List}
+use mathlib.Core.List.{List, [], _∷_, _++_}
 use mathlib.Core.Logic.{_↔_, _≢_, _⊎_}
 use Prim.Native.Nat.{ℕ}
 use lib.ListN.{length}
@@ -19,13 +19,15 @@ use Rattle.book.specs.Book.{Book, columnIn}
 use Rattle.book.specs.Columns.{Agree}
 use Rattle.book.specs.PlaceOrder.{InPlaceOrder}
 use Rattle.book.specs.Delivery.{withEntry}
+use Rattle.book.specs.Withdrawal.{withoutPlace}
 use Rattle.book.specs.CaptureOpening.{recordsIn, openCaptureOf}
 use Rattle.book.specs.OpeningLaws.{Rate}
 use Rattle.book.specs.AnyCalls.{Answer}
-use Rattle.book.specs.Calls.{Call, deliver, writing, closing, firstLent, secondLent, answer, after, answers, afterAll}
+use Rattle.book.specs.Calls.{Call, deliver, writing, closing, withdraw, firstLent, secondLent, answer, after, answers, afterAll}
 use Rattle.book.specs.Here.{openOf, reportLength, Missing, DoubtfulList, IsNear, IsAnswer, Closes}
 use Rattle.book.specs.CallLaws as laws
 use Rattle.book.specs.CallLaws.{AllFit}
+use Rattle.book.specs.Undone.{Spares, acceptedOf}
 use Rattle.session.specs.declared.Session.{Session}
 use Rattle.session.specs.declared.Opened.{Opened}
 use Rattle.session.specs.View.{bookOf, Good}
@@ -36,6 +38,7 @@ use Rattle.runs.specs.Follows.{closedBy, Start, opening-accepted, start-
 use Rattle.runs.specs.Shown.{run-writes, capture-written, capture-back}
 use Rattle.runs.specs.Alike as agreeing
 use Rattle.runs.specs.Alike.{Reached, SameHeld, Alike}
+use Rattle.runs.specs.Undone as undoing
 
 pub data ClosedAfter (T : ℕ) (book : Book) (calls : List Call) (a : Answer) : Type 0 where
   closed-after : {s t u : Session} {given : List Answer} {message report : List ℕ} → Start T book s → Run s calls given t
@@ -45,8 +48,8 @@ pub record Demand3 : Type 0 where
   -- 'For every rate and every strictly rising list of up to 8 doubtful places, none above 63, opening accepts;'
   pub opening-accepts : {rate T : ℕ} {list : List ℕ} {r : Opened} → Rate rate T → DoubtfulList list → Opening (openOf rate list) r
       → r .refusal ≡ accepted
-  -- 'and in every list of deliveries, interpolant readings, capture writings and closings from the session so opened, refused ones included and in
-  -- whatever order, each answer and each lent buffer afterwards are those of document 01's book.'
+  -- 'and in every list of deliveries, withdrawals, interpolant readings, capture writings and closings from the session so opened, refused ones included and
+  -- in whatever order, each answer and each lent buffer afterwards are those of document 01's book.'
   pub answered : {T : ℕ} {book : Book} {s t : Session} {calls : List Call} {given : List Answer} → Start T book s → Run s calls given t
       → given ≡ answers book calls
   -- so is the session left: it is good, its book agrees with the book after the calls, and the calls determine it
@@ -69,10 +72,12 @@ pub record Demand3 : Type 0 where
   -- document 01: 'opening an accepted capture counts as opening with its rate and list and then delivering its records in their order': it is one of
   -- the openings (Start) of which all of this is said
   pub captures : {bytes : List ℕ} {r : Opened} → Opening (openCaptureOf bytes) r → r .refusal ≡ accepted → CaptureStarts bytes r
-  -- document 01: 'Only an accepted delivery changes the book. A refused call leaves its buffers as they were.'
-  pub only-delivery : (book : Book) (call : Call)
+  -- document 01: 'Only an accepted delivery changes the book. A refused call leaves its buffers as they were.' Document 02, of withdrawals: 'an accepted one
+  -- takes the place and its column out of the book's row'
+  pub only-changes : (book : Book) (call : Call)
       → (after book call ≡ book)
       ⊎ ((p : ℕ) × (column : List ℕ) × (call ≡ deliver p column) × (answer book call .number ≡ accepted) × (after book call ≡ withEntry book p column))
+      ⊎ ((p : ℕ) × (call ≡ withdraw p) × (answer book call .number ≡ accepted) × (after book call ≡ withoutPlace book p))
   pub refused-kept : (book : Book) (call : Call) → answer book call .number ≢ accepted
       → (answer book call .first ≡ firstLent call) × (answer book call .second ≡ secondLent call)
   -- 'Two sessions so reached that agree in rate, doubtful list, places taken and the columns held for these read and close alike', and, of document 02, 'then
@@ -92,6 +97,13 @@ pub record Demand3 : Type 0 where
   pub written-back : (bytes : List ℕ) {out : List ℕ} {r : Opened} {a : Answer} {u : Session} → below 256 bytes ≡ true → Opening (openCaptureOf bytes) r
       → r .refusal ≡ accepted → Step (r .session) (writing out) a u → length out ≡ length bytes
       → (p : ℕ) → columnIn (recordsIn (a .first)) p ≡ columnIn (recordsIn bytes) p
+  -- document 02: 'A delivery shall be undone: … the session answers and reads as if that delivery, and every call refused since, had never been made. It need
+  -- not be the latest one.' With that delivery, calls that do not withdraw its place and the withdrawal, and with those of the calls alone that were accepted,
+  -- the session left is the same
+  pub undone : {T : ℕ} {book : Book} {s t u : Session} {calls : List Call} {given other : List Answer} → Start T book s → (before : List Call) (p : ℕ)
+      (column : List ℕ) → answer (afterAll book before) (deliver p column) .number ≡ accepted → Spares p calls
+      → Run s (before ++ (deliver p column ∷ (calls ++ (withdraw p ∷ [])))) given t
+      → Run s (before ++ acceptedOf (after (afterAll book before) (deliver p column)) calls) other u → t ≡ u
 
 closes-after : {T : ℕ} {book : Book} {calls : List Call} {a : Answer} → ClosedAfter T book calls a → Closes (afterAll book calls) T (closedBy a)
 closes-after (closed-after start run step long whole-report) = start-follows start .closed run step long whole-report
@@ -108,7 +120,7 @@ whole =
       none-near = λ c full. closes-after c .none-near full;
       otherwise = λ c full n. closes-after c .otherwise full n;
       captures = λ opened n. capture-starts opened n;
-      only-delivery = laws.only-delivery;
+      only-changes = laws.only-changes;
       refused-kept = laws.refused-lent;
       alike = λ x y same. agreeing.alike x y same;
       one-held = λ x y same. agreeing.held-one x y same;
@@ -116,4 +128,5 @@ whole =
       in-order = λ start run step n. run-writes start run step n;
       unchanged = λ small opened n step long. capture-written small opened n step long;
       written-back = λ bytes small opened n step long p. capture-back bytes small opened n step long p;
+      undone = λ start before p column n spares run without. undoing.undone start before p column n spares run without;
     }

@@ -3,6 +3,7 @@ pub mod Stepping
 pub mod Runs
 pub mod Follows
 pub mod Alike
+pub mod Undone
 pub mod Demand3
 pub mod Repaired
 pub mod Tabled

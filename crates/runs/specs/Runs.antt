@@ -8,7 +8,7 @@
 --   some-step, some-run  every call whose column is one, and every list of them, can be made on every good session: the theorems are not empty
 --
 -- A run is made of steps, and `step` is the function that makes them: its contract says that every call it makes is one (Stepping). It is proved from
--- the contracts of `session::deliver`, `reading::read_interpolant`, `writing::write_capture` and `closing::close`.
+-- the contracts of `session::deliver`, `session::withdraw`, `reading::read_interpolant`, `writing::write_capture` and `closing::close`.
 use mathlib.Core.Bool.{Bool, true, false}
 use mathlib.Core.Path.{_≡_, refl, sym, ap, _∙_}
 use mathlib.Core.List.{List}
@@ -26,16 +26,17 @@ use Rattle.book.specs.Capture.{captureLength}
 use Rattle.book.specs.RoundTrip.{capture-length, write-size, write-missing, write-accepted}
 use Rattle.book.specs.ClosingLaws.{close-sized}
 use Rattle.book.specs.AnyCalls.{Answer}
-use Rattle.book.specs.Calls.{Call, deliver, reading, writing, closing, firstLent, secondLent, answer, after, answers, afterAll}
+use Rattle.book.specs.Calls.{Call, deliver, reading, writing, closing, withdraw, firstLent, secondLent, answer, after, answers, afterAll}
 use Rattle.book.specs.AlikeCalls.{likeness}
 use Rattle.book.specs.Here.{places, width, someMissing, Proper}
 use Rattle.book.specs.CallLaws.{refused-lent, Fits, AllFit}
 use Rattle.session.specs.declared.Session.{Session}
 use Rattle.session.specs.declared.Delivered.{Delivered}
+use Rattle.session.specs.declared.Withdrawn.{Withdrawn}
 use Rattle.session.specs.View.{bookOf, Good}
-use Rattle.session.specs.Calls.{Delivery}
-use Rattle.session.specs.Laws.{delivery-above, delivery-taken, delivery-accepted, one-session, good-proper}
-use Rattle.runs.specs.Step.{Step, kept-step, delivery-step}
+use Rattle.session.specs.Calls.{Delivery, Withdrawal}
+use Rattle.session.specs.Laws.{delivery-above, delivery-taken, delivery-accepted, withdrawal-above, withdrawal-free, withdrawal-accepted, one-session, good-proper}
+use Rattle.runs.specs.Step.{Step, kept-step, delivery-step, withdrawal-step}
 
 abbrev pub Run : Session → List Call → List Answer → Session → Type 0
 Run = machine.Run Step
@@ -66,6 +67,14 @@ some-delivery s p column long = go (decLt p places) (getD (s .taken) p false) re
     go (yes h) false e = (_, delivery-accepted s p column h e long)
     go (no h) b e = (_, delivery-above s p column (omega arith))
 
+some-withdrawal : (s : Session) (p : ℕ) → (r : Withdrawn) × Withdrawal s p r
+some-withdrawal s p = go (decLt p places) (getD (s .taken) p false) refl
+  where
+    go : Dec (p < places) → (b : Bool) → getD (s .taken) p false ≡ b → (r : Withdrawn) × Withdrawal s p r
+    go (yes h) true e = (_, withdrawal-accepted s p h e refl)
+    go (yes h) false e = (_, withdrawal-free s p h e)
+    go (no h) b e = (_, withdrawal-above s p (omega arith))
+
 -- the capture of a proper book fills the buffer that it was asked into
 write-sized : (book : Book) (out : List ℕ) → Proper book → length (writeOf book out .bytes) ≡ length out
 write-sized book out proper = go (ℕ-discrete (length out) (captureLength (length (book .doubtful)))) (someMissing (book .row)) refl
@@ -84,6 +93,7 @@ lent-sized book (deliver p column) proper = (refl, refl)
 lent-sized book (reading out) proper = (read-sized book out, refl)
 lent-sized book (writing out) proper = (write-sized book out proper, refl)
 lent-sized book (closing message report) proper = let l = close-sized modem64 book message report in (l .message-sized, l .report-sized)
+lent-sized book (withdraw p) proper = (refl, refl)
 
 -- a call that leaves the book as it was
 some-kept : (s : Session) (call : Call) → Good s → after (bookOf s) call ≡ bookOf s → Step s call (answer (bookOf s) call) s
@@ -96,6 +106,7 @@ some-step s (deliver p column) good fits = let d = some-delivery s p column (fit
 some-step s (reading out) good u = (_, s, some-kept s (reading out) good refl)
 some-step s (writing out) good u = (_, s, some-kept s (writing out) good refl)
 some-step s (closing message report) good u = (_, s, some-kept s (closing message report) good refl)
+some-step s (withdraw p) good u = let w = some-withdrawal s p in (_, w .0 .session, withdrawal-step (w .1))
 
 pub some-run : {calls : List Call} → AllFit calls → (s : Session) → Good s → (given : List Answer) × (t : Session) × Run s calls given t
 some-run = machine.some-run likeness faithful some-step

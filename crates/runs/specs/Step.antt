@@ -1,13 +1,13 @@
 -- A step: one call, made on a session.
 --
---   delivers call        it is a delivery, the one call that may change a session
+--   changes call         it is a delivery or a withdrawal, the calls that may change a session
 --   Step s call a t      the call, made on the session s, is given the answer a and leaves the session t: of a good session the answer is the book's,
 --                        and the session left is good and its book agrees with the book after the call. Whatever the session, a refused call leaves the
---                        session and the lent buffers as they were, every call but a delivery leaves the session as it was, and no buffer changes its
---                        length
+--                        session and the lent buffers as they were, every call but a delivery and a withdrawal leaves the session as it was, and no buffer
+--                        changes its length
 --   answerWith n first second   a number and what the lent buffers hold afterwards
 --   kept-step            a call that leaves the session as it was
---   delivery-step, reading-step, writing-step, closing-step   what the contract of each call says is such a step
+--   delivery-step, withdrawal-step, reading-step, writing-step, closing-step   what the contract of each call says is such a step
 use mathlib.Core.Bool.{Bool, true, false, true≢false}
 use mathlib.Core.Path.{_≡_, refl, sym}
 use mathlib.Core.List.{List, []}
@@ -17,26 +17,28 @@ use lib.ListN.{length}
 use Rattle.refusals.specs.Refusal.{accepted}
 use Rattle.book.specs.Columns.{Agree, agree-path}
 use Rattle.book.specs.AnyCalls.{Answer}
-use Rattle.book.specs.Calls.{Call, deliver, reading, writing, closing, firstLent, secondLent, answer, after}
+use Rattle.book.specs.Calls.{Call, deliver, reading, writing, closing, withdraw, firstLent, secondLent, answer, after}
 use Rattle.session.specs.declared.Session.{Session}
 use Rattle.session.specs.declared.Delivered.{Delivered}
+use Rattle.session.specs.declared.Withdrawn.{Withdrawn}
 use Rattle.session.specs.View.{bookOf, Good}
-use Rattle.session.specs.Calls.{Delivery}
+use Rattle.session.specs.Calls.{Delivery, Withdrawal}
 use Rattle.session.specs.Answering.{Reading, Closing}
 use Rattle.capture.specs.Calls.{Writing}
 
-unfoldable pub delivers : Call → Bool
-delivers (deliver p column) = true
-delivers (reading out) = false
-delivers (writing out) = false
-delivers (closing message report) = false
+unfoldable pub changes : Call → Bool
+changes (deliver p column) = true
+changes (reading out) = false
+changes (writing out) = false
+changes (closing message report) = false
+changes (withdraw p) = true
 
 pub record Step (s : Session) (call : Call) (a : Answer) (t : Session) : Type 0 where
   pub answered : Good s → a ≡ answer (bookOf s) call
   pub good : Good s → Good t
   pub book : Good s → Agree (bookOf t) (after (bookOf s) call)
   pub refused : a .number ≢ accepted → (t ≡ s) × (a .first ≡ firstLent call) × (a .second ≡ secondLent call)
-  pub kept : delivers call ≡ false → t ≡ s
+  pub kept : changes call ≡ false → t ≡ s
   pub sized : (length (a .first) ≡ length (firstLent call)) × (length (a .second) ≡ length (secondLent call))
 
 abbrev pub answerWith : ℕ → List ℕ → List ℕ → Answer
@@ -47,13 +49,25 @@ answer-path e f g = λ i. answerWith (e i) (f i) (g i)
 
 pub delivery-step : {s : Session} {p : ℕ} {column : List ℕ} {r : Delivered} → Delivery s p column r
     → Step s (deliver p column) (answerWith (r .refusal) [] []) (r .session)
-unfolding delivers firstLent secondLent answer after
+unfolding changes firstLent secondLent answer after
 delivery-step d =
     record {
       answered = λ good. answer-path (d .number good) refl refl;
       good = d .good;
       book = d .book;
       refused = λ n. (d .kept n, refl, refl);
+      kept = λ e. absurd (true≢false e);
+      sized = (refl, refl);
+    }
+
+pub withdrawal-step : {s : Session} {p : ℕ} {r : Withdrawn} → Withdrawal s p r → Step s (withdraw p) (answerWith (r .refusal) [] []) (r .session)
+unfolding changes firstLent secondLent answer after
+withdrawal-step w =
+    record {
+      answered = λ good. answer-path (w .number good) refl refl;
+      good = w .good;
+      book = w .book;
+      refused = λ n. (w .kept n, refl, refl);
       kept = λ e. absurd (true≢false e);
       sized = (refl, refl);
     }

@@ -4,33 +4,40 @@
 --   picked-accepted      opening with the places picked accepts
 --   table-as-run         after every list of calls from there that leaves the table's columns in the row, in whatever order and with whatever else called
 --                        in between, closing answers as table decoding does: number, message and report
---   BringsTable table calls   each of the 64 places is delivered, and no delivery of one of them has another column than the table's
+--   Since p calls rest   `rest` are the calls since the place was last withdrawn: all of them, if it never was
+--   BringsTable table calls   each of the 64 places is delivered since it was last withdrawn, and no delivery of it since then has another column than the
+--                        table's
+--   brings-unwithdrawn   of calls that withdraw nothing: each of the 64 places is delivered, and no delivery of one of them has another column
 --   brings-holds         such calls leave the table's columns in the row
 --   table-as-calls       so closing after them answers as table decoding does
 use mathlib.Core.Bool.{Bool, true, false, cond}
 use mathlib.Core.Path.{_≡_, refl, sym, ap, ap₂, _∙_}
-use mathlib.Core.List.{List, [], _∷_, List·Memᴰ, List·Memᴰ·head, List·Memᴰ·tail, List·Memᴰ·cases-cons, List·Memᴰ·not-nil}
+use mathlib.Core.List.{List, [], _∷_, _++_, List·Memᴰ, List·Memᴰ·head, List·Memᴰ·tail, List·Memᴰ·cases-cons, List·Memᴰ·not-nil}
 use mathlib.Core.Logic.{_⊎_, inl, inr, ⊎-elim}
 use mathlib.Core.Option.{Option, none, some, Option·none-ne-some}
 use Prim.Native.Nat.{ℕ, _<_, _≤_}
+use native.Mathlib.Decide.{ℕ-discrete}
 use lib.Dec.{eqb}
 use lib.ListN.{length}
 use borrow.Author.Tests.{eqb-true, eq-eqb}
 use Rattle.refusals.specs.Refusal.{accepted}
 use Rattle.soft.specs.Doubt.{mostDoubt}
-use Rattle.book.specs.Machine.{carried}
+use Rattle.book.specs.Machine.{afterBy, carried, after-append, fit-cons}
 use Rattle.book.specs.Model.{modem64}
 use Rattle.book.specs.Book.{Entry, Book, newBook, columnIn, present, taken, Outcome}
 use Rattle.book.specs.Delivery.{withEntry}
-use Rattle.book.specs.Columns.{none-free, Agree}
+use Rattle.book.specs.Withdrawal.{withoutPlace}
+use Rattle.book.specs.WithdrawalLaws.{freed-here, freed-other, withdraw-free, withdraw-accepted}
+use Rattle.book.specs.Columns.{column-free, none-free, Agree}
 use Rattle.book.specs.RowLaws.{none-above, column-append, deliver-accepted}
 use Rattle.book.specs.OpeningLaws.{Rate, rate-known, fits-list}
 use Rattle.book.specs.AnyCalls.{Answer}
-use Rattle.book.specs.Calls.{Call, deliver, closing, answer, after, afterAll}
-use Rattle.book.specs.CallLaws.{only-delivery, rate-held, list-held}
+use Rattle.book.specs.Calls.{Call, deliver, closing, withdraw, answer, after, afterAll}
+use Rattle.book.specs.CallLaws.{Changes, only-changes, rate-held, list-held}
+use Rattle.book.specs.Undone.{Spares}
 use Rattle.book.specs.Sentences.{closing-alike}
 use Rattle.book.specs.Table.{picked-fit, table-as-session}
-use Rattle.book.specs.Here.{places, openOf, closeOf, tableLength, tableColumns, pickedOf, tableOf, Delivered}
+use Rattle.book.specs.Here.{places, openOf, withdrawOf, closeOf, tableLength, tableColumns, pickedOf, tableOf, Delivered}
 use Rattle.session.specs.declared.Session.{Session}
 use Rattle.session.specs.declared.Opened.{Opened}
 use Rattle.session.specs.View.{bookOf, Good}
@@ -58,20 +65,24 @@ entry-column : (book : Book) (q : ℕ) (column : List ℕ) (p : ℕ)
 unfolding withEntry columnIn
 entry-column book q column p = column-append (book .row) (record { place = q; column = column } ∷ []) p
 
--- a call leaves the column of a place as it was, or it is the delivery of the first one
+-- a call leaves the column of a place as it was, or it is the delivery of the first one, or it withdraws the place
 data After (p : ℕ) (book : Book) (call : Call) : Type 0 where
   same : columnIn (after book call .row) p ≡ columnIn (book .row) p → After p book call
   first : {c : List ℕ} → deliver p c ≡ call → columnIn (book .row) p ≡ none → columnIn (after book call .row) p ≡ some c → After p book call
+  out : call ≡ withdraw p → After p book call
 
 column-after : (p : ℕ) (book : Book) (call : Call) → After p book call
-unfolding taken
-column-after p book call = go (only-delivery book call)
+unfolding taken withoutPlace
+column-after p book call = go (only-changes book call)
   where
-    go : (after book call ≡ book)
-        ⊎ ((q : ℕ) × (c : List ℕ) × (call ≡ deliver q c) × (answer book call .number ≡ accepted) × (after book call ≡ withEntry book q c))
-        → After p book call
+    go : Changes book call → After p book call
     go (inl e) = same (ap (λ (b : Book). columnIn (b .row) p) e)
-    go (inr (q, c, f, n, w)) =
+    go (inr (inr (q, f, n, w))) = pick (ℕ-discrete p q)
+      where
+        pick : Dec (p ≡ q) → After p book call
+        pick (yes e) = out (f ∙ ap withdraw (sym e))
+        pick (no e) = same (ap (λ (b : Book). columnIn (b .row) p) w ∙ freed-other (book .row) q p e)
+    go (inr (inl (q, c, f, n, w))) =
         pick (columnIn (book .row) p) refl (eqb q p) refl (ap (λ (b : Book). columnIn (b .row) p) w ∙ entry-column book q c p)
       where
         pick : (o : Option (List ℕ)) → columnIn (book .row) p ≡ o → (b : Bool) → eqb q p ≡ b
@@ -89,26 +100,48 @@ column-got p h book column e =
     ∙ entry-column book p column p
     ∙ ap₂ (λ x y. cond x (columnIn (book .row) p) (cond y (some column) none)) (none-free (book .row) p e) (eq-eqb p p refl)
 
+-- a place that is withdrawn has none
+column-lost : (p : ℕ) → p < places → (book : Book) → columnIn (after book (withdraw p) .row) p ≡ none
+unfolding after withoutPlace
+column-lost p h book = go (taken (book .row) p) refl
+  where
+    go : (b : Bool) → taken (book .row) p ≡ b → columnIn (withdrawOf book p .book .row) p ≡ none
+    go true t = ap (λ (o : Outcome). columnIn (o .book .row) p) (withdraw-accepted modem64 book p h t) ∙ freed-here (book .row) p
+    go false t = ap (λ (o : Outcome). columnIn (o .book .row) p) (withdraw-free modem64 book p h t) ∙ column-free (book .row) p t
+
+pub data Since (p : ℕ) : List Call → List Call → Type 0 where
+  never : {calls : List Call} → Spares p calls → Since p calls calls
+  last : (earlier : List Call) {rest : List Call} → Spares p rest → Since p (earlier ++ (withdraw p ∷ rest)) rest
+
 pub record BringsTable (table : List ℕ) (calls : List Call) : Type 0 where
-  pub every-place : (p : ℕ) → p < places → (column : List ℕ) × List·Memᴰ (deliver p column) calls
-  pub columns : (p : ℕ) (column : List ℕ) → p < places → List·Memᴰ (deliver p column) calls → column ≡ tableColumns table p
+  pub rest : ℕ → List Call
+  pub since : (p : ℕ) → p < places → Since p calls (rest p)
+  pub every-place : (p : ℕ) → p < places → (column : List ℕ) × List·Memᴰ (deliver p column) (rest p)
+  pub columns : (p : ℕ) (column : List ℕ) → p < places → List·Memᴰ (deliver p column) (rest p) → column ≡ tableColumns table p
+
+pub brings-unwithdrawn : {table : List ℕ} {calls : List Call} → ((p : ℕ) → p < places → Spares p calls)
+    → ((p : ℕ) → p < places → (column : List ℕ) × List·Memᴰ (deliver p column) calls)
+    → ((p : ℕ) (column : List ℕ) → p < places → List·Memᴰ (deliver p column) calls → column ≡ tableColumns table p) → BringsTable table calls
+brings-unwithdrawn {calls = calls} spares every-place columns =
+    record { rest = λ p. calls; since = λ p h. never (spares p h); every-place = every-place; columns = columns }
 
 module _ (p : ℕ) (h : p < places) (wanted : List ℕ) where
-  -- no call to come delivers another column, and the one wanted is there or is still to be delivered
+  -- no call to come withdraws the place or delivers another column, and the one wanted is there or is still to be delivered
   Coming : Book → List Call → Type 0
   Coming book calls =
-      ((column : List ℕ) → List·Memᴰ (deliver p column) calls → column ≡ wanted)
+      Spares p calls × ((column : List ℕ) → List·Memᴰ (deliver p column) calls → column ≡ wanted)
       × ((columnIn (book .row) p ≡ some wanted) ⊎ ((columnIn (book .row) p ≡ none) × (column : List ℕ) × List·Memᴰ (deliver p column) calls))
 
   turn : (book : Book) (call : Call) (calls : List Call) → Coming book (call ∷ calls) → Coming (after book call) calls
   unfolding Coming
-  turn book call calls (only, had) = (λ c l. only c (List·Memᴰ·tail l), go had (column-after p book call))
+  turn book call calls (fit-cons spare spares, only, had) = (spares, λ c l. only c (List·Memᴰ·tail l), go had (column-after p book call))
     where
       go : (columnIn (book .row) p ≡ some wanted) ⊎ ((columnIn (book .row) p ≡ none) × (c : List ℕ) × List·Memᴰ (deliver p c) (call ∷ calls))
           → After p book call
           → (columnIn (after book call .row) p ≡ some wanted)
           ⊎ ((columnIn (after book call .row) p ≡ none) × (c : List ℕ) × List·Memᴰ (deliver p c) calls)
       go had (first {c = c} q n g) = inl (g ∙ ap some (only c (List·Memᴰ·head q)))
+      go had (out e) = absurd (spare e)
       go (inl e) (same s) = inl (s ∙ e)
       go (inr (e, column, m)) (same s) =
           inr (
@@ -122,14 +155,23 @@ module _ (p : ℕ) (h : p < places) (wanted : List ℕ) where
 
   brought : (book : Book) (calls : List Call) → Coming book calls → columnIn (afterAll book calls .row) p ≡ some wanted
   unfolding Coming
-  brought book calls c = ⊎-elim (λ e. e) (λ r. absurd (List·Memᴰ·not-nil (r .2))) (carried after Coming turn book calls c .1)
+  brought book calls c = ⊎-elim (λ e. e) (λ r. absurd (List·Memᴰ·not-nil (r .2))) (carried after Coming turn book calls c .2)
+
+  -- from a book without the place, by the calls since it was last withdrawn
+  brought-since : {calls rest : List Call} → Since p calls rest → ((column : List ℕ) → List·Memᴰ (deliver p column) rest → column ≡ wanted)
+      → (column : List ℕ) → List·Memᴰ (deliver p column) rest → (book : Book) → columnIn (book .row) p ≡ none
+      → columnIn (afterAll book calls .row) p ≡ some wanted
+  unfolding Coming afterBy
+  brought-since (never {calls = calls} spares) only column m book e = brought book calls (spares, only, inr (e, column, m))
+  brought-since (last earlier {rest = rest} spares) only column m book e =
+      ap (λ (b : Book). columnIn (b .row) p) (after-append after book earlier (withdraw p ∷ rest))
+      ∙ brought (after (afterAll book earlier) (withdraw p)) rest (spares, only, inr (column-lost p h (afterAll book earlier), column, m))
 
 pub brings-holds : {table : List ℕ} {calls : List Call} → BringsTable table calls → (rate : ℕ) (list : List ℕ)
     → HoldsTable table (afterAll (newBook rate list) calls .row)
-unfolding Coming
 brings-holds {table} {calls} brings rate list p h =
     let e = brings .every-place p h in
-    brought p h (tableColumns table p) (newBook rate list) calls (λ column m. brings .columns p column h m, inr (empty, e .0, e .1))
+    brought-since p h (tableColumns table p) (brings .since p h) (λ column m. brings .columns p column h m) (e .0) (e .1) (newBook rate list) empty
   where
     empty : columnIn (newBook rate list .row) p ≡ none
     empty = unfold newBook columnIn in refl

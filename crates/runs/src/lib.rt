@@ -3,7 +3,7 @@
 // is one kind and one arm more. How a call answers is the business of its own crate; nothing here looks into a session.
 ghost use mathlib.Core.List.{[]};
 ghost use Rattle.book.specs.CaptureOpening.{openCaptureOf};
-ghost use Rattle.book.specs.Calls.{deliver, reading, writing, closing};
+ghost use Rattle.book.specs.Calls.{deliver, reading, writing, closing, withdraw};
 ghost use Rattle.book.specs.Here.{openOf};
 ghost use Rattle.session.specs.Calls.{Opening};
 ghost use Rattle.runs.specs.Step.{Step, answerWith};
@@ -18,6 +18,7 @@ pub enum Kind {
     Read,
     Write,
     Close,
+    Withdraw,
 }
 
 // What a call answers beside its lent buffers: 0 or the refusal's number, and the session.
@@ -80,7 +81,18 @@ fn make_closing(session: Session, message: &mut [u8], report: &mut [u8]) -> Step
     }
 }
 
-// Makes one call. Place and column are a delivery's; reading and writing are lent the first buffer, closing both.
+fn make_withdrawal(session: Session, place: usize) -> Stepped
+    ensures { λ r. ⌜ Step session (withdraw place) (answerWith (r .refusal) [] []) (r .session) ⌝ }
+{
+    let withdrawn = session::withdraw(session, place);
+    let freed = withdrawn.session;
+    Stepped {
+        refusal: withdrawn.refusal,
+        session: freed,
+    }
+}
+
+// Makes one call. Place and column are a delivery's, and the place a withdrawal's; reading and writing are lent the first buffer, closing both.
 pub fn step(
     kind: Kind,
     session: Session,
@@ -97,5 +109,6 @@ pub fn step(
         Kind::Read => make_reading(session, first),
         Kind::Write => make_writing(session, first),
         Kind::Close => make_closing(session, first, second),
+        Kind::Withdraw => make_withdrawal(session, place),
     }
 }

@@ -10,7 +10,7 @@
 --   allTaken flags       those of all the modem's places are
 --   bookOf h             the rate, the doubtful list, and the places taken with their columns, rising: of the order of arrival nothing is held
 --   Good h               what holds of every session from opening: a count within its list, a known rate, a fit list, a flag and a column for each
---                        place, and zeros wherever nothing was put
+--                        place, and zeros wherever nothing is held
 --   withColumn h p column    the fields with a place and its column more
 --   withoutColumn h p    the fields with the flag of a place not set, and zeros for its column
 use mathlib.Core.Bool.{Bool, true, false, cond}

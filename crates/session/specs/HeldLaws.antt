@@ -11,7 +11,7 @@
 --   without-column-agree, without-column-good   with the flag of a place not set, and zeros for its column, they stand for the row without it, and are good
 --   new-book, new-good   those of a newly opened session stand for a new book, if its list has no more places than the largest doubt, and are good, if
 --                        it is fit
---   columns-table        the columns by place are those of the table, at every place: where nothing was delivered both hold zeros
+--   columns-table        the columns by place are those of the table, at every place: where a place is free both hold zeros
 --   missing-taken        a place is missing exactly if not every flag is set
 --   close-early, close-full   so closing into buffers of the right sizes is early, or decodes the table's columns by the doubtful list
 --   one-held             two good ones whose books agree are one

@@ -13,7 +13,7 @@
 --   withoutColumn s p    the session with the flag of a place not set, and zeros for its column
 --   without-column-agree, without-column-good   it stands for the row without the place, and is good
 --   withdrawal-above, withdrawal-free, withdrawal-accepted   the three cases of a withdrawal
---   withdrawal-frees     an accepted one leaves the place free and its costs zero
+--   withdrawn-cleared    a good session that is left by an accepted one has the place free and its costs zero
 --   one-session          two good sessions whose books agree are one
 use mathlib.Core.Bool.{Bool, true, false}
 use mathlib.Core.Path.{_≡_, refl, sym, ap, _∙_}
@@ -35,12 +35,11 @@ use Rattle.book.specs.Withdrawal.{withoutPlace}
 use Rattle.book.specs.Columns.{none-free, Agree, agree-trans, agree-path}
 use Rattle.book.specs.RowLaws.{deliver-above, deliver-taken, deliver-accepted, open-refused-rate, open-refused-list, open-accepted}
 use Rattle.book.specs.WithdrawalLaws.{freed-here, withdraw-above, withdraw-free, withdraw-accepted, withdraw-only}
-use Rattle.book.specs.Here.{places, width, fitDoubt, refusedOpening, openOf, wide, Proper}
+use Rattle.book.specs.Here.{places, width, fitDoubt, refusedOpening, openOf, withdrawOf, wide, Proper}
 use Rattle.book.specs.OpeningLaws.{list-short}
 use Rattle.book.specs.Opening as BookOpening
 use Rattle.soft.specs.Doubt.{mostDoubt}
 use Rattle.session.specs.declared.Session.{Session}
-use Rattle.session.specs.declared.Withdrawn.{Withdrawn}
 use Rattle.session.specs.View.{newSession, held, entryAt, bookOf, Good}
 use Rattle.session.specs.Calls.{refusedWith, openedOf, declinedWith, Opening, Delivery, deniedWith, Withdrawal}
 use Rattle.session.specs.Held as Fields
@@ -179,17 +178,16 @@ module _ (s : Session) (p : ℕ) where
       })
 
 -- 'the named place becomes free again, its costs return to zero'
-pub withdrawal-frees : {s : Session} {p : ℕ} {r : Withdrawn} → Withdrawal s p r → Good s → r .refusal ≡ accepted
-    → (getD (r .session .taken) p false ≡ false) × (block width p (r .session .costs) ≡ replicate width 0)
+pub withdrawn-cleared : (t : Session) (p : ℕ) (book : Book) → Good t → Agree (bookOf t) (withdrawOf book p .book) → withdrawOf book p .number ≡ accepted
+    → (getD (t .taken) p false ≡ false) × (block width p (t .costs) ≡ replicate width 0)
 unfolding withoutPlace
-withdrawal-frees {s} {p} {r} w good n =
-    let d = withdraw-only modem64 (bookOf s) p (sym (w .number good) ∙ n) in
-    let left = ap (λ (o : Outcome). o .book) (withdraw-accepted modem64 (bookOf s) p (d .0) (d .1)) in
-    let free : getD (r .session .taken) p false ≡ false =
-    sym (book-taken (r .session) (w .good good) p)
-    ∙ none-free (bookOf (r .session) .row) p
-    (w .book good .same-columns p ∙ ap (λ (b : Book). columnIn (b .row) p) left ∙ freed-here (bookOf s .row) p) in
-    (free, w .good good .table-rest p (d .0) free)
+withdrawn-cleared t p book good same n =
+    let d = withdraw-only modem64 book p n in
+    let left = ap (λ (o : Outcome). o .book) (withdraw-accepted modem64 book p (d .0) (d .1)) in
+    let free : getD (t .taken) p false ≡ false =
+    sym (book-taken t good p)
+    ∙ none-free (bookOf t .row) p (same .same-columns p ∙ ap (λ (b : Book). columnIn (b .row) p) left ∙ freed-here (book .row) p) in
+    (free, good .table-rest p (d .0) free)
 
 -- ---- opening
 

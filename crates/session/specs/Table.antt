@@ -1,6 +1,6 @@
 -- The book of a good session, read off its fields.
 --
---   columns-table      the columns by place are those of the table, at every place: where nothing was delivered both hold zeros
+--   columns-table      the columns by place are those of the table, at every place: where a place is free both hold zeros
 --   missing-taken      a place is missing exactly if not every flag is set
 --   settled-taken      a place is settled exactly if its flag is set and it is not in the doubtful list
 --   settled-table      its best symbol is the best of its column in the table

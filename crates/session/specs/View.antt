@@ -5,8 +5,8 @@
 --   entryAt costs p      a place and its column in the table
 --   allTaken flags       the flags of all 64 places are set
 --   bookOf s             the session's rate, its doubtful list, and the places taken with their columns, rising: of the order of arrival nothing is held
---   Good s               what holds of every session from opening: a count within its array, a known rate, a fit list, and zeros wherever nothing was
---                        put (Held)
+--   Good s               what holds of every session from opening: a count within its array, a known rate, a fit list, and zeros wherever nothing is
+--                        held (Held)
 use mathlib.Core.Bool.{Bool, false}
 use mathlib.Core.List.{List}
 use Prim.Native.Nat.{ℕ, _*_}

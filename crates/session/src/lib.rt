@@ -1,5 +1,5 @@
 // A session by value: opening one, delivering one place and its column of sixteen costs, and withdrawing one place.
-// It keeps what was delivered, by place, and nothing of the order of arrival: sessions from openings that hold the same are equal.
+// It holds the columns by place, and nothing of the order of arrival: sessions from openings that hold the same are equal.
 // It knows of no codeword and no interpolant; what a session stands for is its book (specs/View.antt).
 ghost use mathlib.Core.Path.{_≡_};
 ghost use Prim.Native.Nat.{_<_};

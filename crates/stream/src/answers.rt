@@ -11,7 +11,7 @@ ghost use lib.ListN.{length};
 ghost use Rattle.soft.specs.Column.{symbols, costsFrom};
 ghost use Rattle.book.specs.CaptureOpening.{openCaptureOf};
 ghost use Rattle.book.specs.Here.{openOf};
-ghost use Rattle.stream.specs.Changes.{delivered, changeBy, numberedChange, changeOf, StandsFor, Leaves};
+ghost use Rattle.stream.specs.Changes.{delivered, withdrawn, changeBy, numberedChange, changeOf, StandsFor, Leaves};
 
 // What lent buffers hold before a call.
 const LENT: u8 = 0xEE;
@@ -144,6 +144,13 @@ fn close(current: Session, size: usize, rest: &[u8]) -> Session
     close_into(current, size, bytes::number(rest[0], rest[1]))
 }
 
+fn withdraw(current: Session, place: usize) -> Session
+    ensures { λ r. ⌜ Leaves current (withdrawn place) r ⌝ }
+{
+    let none = [0u16; SYMBOLS];
+    lend(Kind::Withdraw, current, place, none, 0, 0)
+}
+
 fn look_up(current: Session, place: usize, bytes: &[u8]) -> Session
     ensures { λ r. ⌜ r ≡ current ⌝ }
 {
@@ -164,6 +171,7 @@ fn answer_numbered(current: Session, letter: u8, number: usize, rest: &[u8]) -> 
         b'W' => write_capture(current, number),
         b'X' => close(current, number, rest),
         b'L' => look_up(current, number, rest),
+        b'U' => withdraw(current, number),
         _ => current,
     }
 }

@@ -1,6 +1,6 @@
 -- `step` meets its contract: each arm makes the call of its kind.
 use borrow.Author.Needs.{needs}
-use Rattle.runs.proofs.Arms.{by-delivery, by-reading, by-writing, by-closing}
+use Rattle.runs.proofs.Arms.{by-delivery, by-reading, by-writing, by-closing, by-withdrawal}
 use Rattle.runs.proofs.step.Statement.{statement}
 use Rattle.runs.proofs.step.Tie as tie
 
@@ -28,6 +28,12 @@ enum-told-4 c = search needs
 make-closing-requires : tie.Need-make-closing-requires
 make-closing-requires c κs = search needs
 
+enum-told-5 : tie.Need-enum-told-5
+enum-told-5 c = search needs
+
+make-withdrawal-requires : tie.Need-make-withdrawal-requires
+make-withdrawal-requires c κs = search needs
+
 returns : tie.Need-returns
 returns c = by-delivery (c .before .enum-told .given .1) (c .make-delivery .ensures)
 
@@ -54,6 +60,9 @@ returns-4 c =
     by-closing (c .before .before .before .before .before .before .before .enum-told4 .given .1)
     (c .before .before .before .before .make-closing .ensures)
 
+returns-5 : tie.Need-returns-5
+returns-5 c = by-withdrawal (c .before .enum-told5 .given .1) (c .make-withdrawal .ensures)
+
 pub step-spec : {M : Type 1} → statement M
 step-spec =
     tie.close
@@ -66,6 +75,8 @@ step-spec =
     make-writing-requires
     enum-told-4
     make-closing-requires
+    enum-told-5
+    make-withdrawal-requires
     returns
     same-length
     returns-2
@@ -73,4 +84,5 @@ step-spec =
     returns-3
     same-length-3
     same-length-4
-    returns-4)
+    returns-4
+    returns-5)

@@ -1,9 +1,9 @@
--- Each arm leaves the session that its letter's change does: only `O` and `D` change it.
+-- Each arm leaves the session that its letter's change does: only `O`, `D` and `U` change it.
 use mathlib.Core.Path.{refl}
 use native.Mathlib.Omega.{arith}
 use borrow.Author.Needs.{needs}
 use Rattle.stream.specs.Changes.{leaves-renewed, leaves-kept}
-use Rattle.stream.proofs.Answering.{leaves-as, numbered-open, numbered-deliver, numbered-kept}
+use Rattle.stream.proofs.Answering.{leaves-as, numbered-open, numbered-deliver, numbered-withdraw, numbered-kept}
 use Rattle.stream.proofs.answers.answer_numbered.Statement.{statement}
 use Rattle.stream.proofs.answers.answer_numbered.Tie as tie
 
@@ -25,6 +25,9 @@ close-requires c κs = search needs
 look-up-requires : tie.Need-look-up-requires
 look-up-requires c κs = search needs
 
+withdraw-requires : tie.Need-withdraw-requires
+withdraw-requires c κs = search needs
+
 returns : tie.Need-returns
 returns c =
     let a = c .before .before .before .args in
@@ -38,27 +41,34 @@ returns-2 c =
 returns-3 : tie.Need-returns-3
 returns-3 c =
     let a = c .before .before .before .args in
-    leaves-as (numbered-kept (a .letter) (a .number) (a .rest .now) (λ e. omega arith) (λ e. omega arith)) (leaves-kept (c .read .ensures))
+    leaves-as (numbered-kept (a .letter) (a .number) (a .rest .now) (λ e. omega arith) (λ e. omega arith) (λ e. omega arith)) (leaves-kept (c .read .ensures))
 
 returns-4 : tie.Need-returns-4
 returns-4 c =
     let a = c .before .before .before .args in
-    leaves-as (numbered-kept (a .letter) (a .number) (a .rest .now) (λ e. omega arith) (λ e. omega arith)) (leaves-kept (c .write-capture .ensures))
+    leaves-as (numbered-kept (a .letter) (a .number) (a .rest .now) (λ e. omega arith) (λ e. omega arith) (λ e. omega arith)) (leaves-kept (c .write-capture .ensures))
 
 returns-5 : tie.Need-returns-5
 returns-5 c =
     let a = c .before .before .before .args in
-    leaves-as (numbered-kept (a .letter) (a .number) (a .rest .now) (λ e. omega arith) (λ e. omega arith)) (leaves-kept (c .close .ensures))
+    leaves-as (numbered-kept (a .letter) (a .number) (a .rest .now) (λ e. omega arith) (λ e. omega arith) (λ e. omega arith)) (leaves-kept (c .close .ensures))
 
 returns-6 : tie.Need-returns-6
 returns-6 c =
     let a = c .before .before .before .args in
-    leaves-as (numbered-kept (a .letter) (a .number) (a .rest .now) (λ e. omega arith) (λ e. omega arith)) (leaves-kept (c .look-up .ensures))
+    leaves-as (numbered-kept (a .letter) (a .number) (a .rest .now) (λ e. omega arith) (λ e. omega arith) (λ e. omega arith)) (leaves-kept (c .look-up .ensures))
 
 returns-7 : tie.Need-returns-7
 returns-7 c =
+    let a = c .before .before .before .args in
+    leaves-as (numbered-withdraw (a .letter) (a .number) (a .rest .now) (c .before .match .keys7)) (c .withdraw .ensures)
+
+returns-8 : tie.Need-returns-8
+returns-8 c =
     let a = c .before .before .args in
-    leaves-as (numbered-kept (a .letter) (a .number) (a .rest .now) (c .match .rest .0 .0 .0 .0 .0 .1) (c .match .rest .0 .0 .0 .0 .1)) (leaves-kept refl)
+    leaves-as
+    (numbered-kept (a .letter) (a .number) (a .rest .now) (c .match .rest .0 .0 .0 .0 .0 .0 .1) (c .match .rest .0 .0 .0 .0 .0 .1) (c .match .rest .1))
+    (leaves-kept refl)
 
 pub answer-numbered-spec : {M : Type 1} → statement M
 answer-numbered-spec =
@@ -70,10 +80,12 @@ answer-numbered-spec =
     write-capture-requires
     close-requires
     look-up-requires
+    withdraw-requires
     returns
     returns-2
     returns-3
     returns-4
     returns-5
     returns-6
-    returns-7)
+    returns-7
+    returns-8)
