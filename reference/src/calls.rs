@@ -15,6 +15,7 @@
 //! | `W` | write a capture | the buffer's size |
 //! | `X` | close | the sizes of the message buffer and of the report |
 //! | `L` | look-up | place, then the capture |
+//! | `U` | withdraw | place |
 //!
 //! The session that an opening returns, accepted or not, is the one that the calls after it use.
 //! Every byte of a lent buffer is [`LENT`] before the call. The answer is the refusal's number or
@@ -22,7 +23,7 @@
 //! the part.
 //!
 //! - [`Call`], [`Call::bytes`], [`Call::read`]: one call, to and from bytes.
-//! - [`Call::answer`]: the bytes that document 01 asks for.
+//! - [`Call::answer`]: the bytes that documents 01 and 02 ask for.
 //! - [`answer_all`]: the answers to a stream of calls.
 
 use crate::capture::{look_up, open_capture, write_capture};
@@ -46,6 +47,7 @@ pub enum Call {
     WriteCapture { size: u16 },
     Close { message: u16, report: u16 },
     LookUp { place: u16, capture: Vec<u8> },
+    Withdraw { place: u16 },
 }
 
 impl Call {
@@ -58,6 +60,7 @@ impl Call {
             Call::WriteCapture { .. } => b'W',
             Call::Close { .. } => b'X',
             Call::LookUp { .. } => b'L',
+            Call::Withdraw { .. } => b'U',
         }
     }
 
@@ -81,6 +84,7 @@ impl Call {
             Call::ReadInterpolant { size } | Call::WriteCapture { size } => join(*size, &[]),
             Call::Close { message, report } => join(*message, &report.to_be_bytes()),
             Call::LookUp { place, capture } => join(*place, capture),
+            Call::Withdraw { place } => join(*place, &[]),
         }
     }
 
@@ -117,6 +121,7 @@ impl Call {
                 place: number,
                 capture: rest.to_vec(),
             },
+            b'U' => Call::Withdraw { place: number },
             _ => return None,
         };
         Some(call)
@@ -143,6 +148,7 @@ impl Call {
                 let part = look_up(capture, u64::from(*place));
                 [&(part.len() as u16).to_be_bytes(), part].concat()
             }
+            Call::Withdraw { place } => vec![number(&session.withdraw(u64::from(*place)))],
         }
     }
 }
@@ -181,4 +187,22 @@ pub fn answer_all(mut stream: &[u8]) -> Option<Vec<u8>> {
         stream = rest;
     }
     Some(answers)
+}
+
+#[cfg(test)]
+mod tests {
+    use super::*;
+
+    #[test]
+    fn a_withdrawal_is_its_letter_and_place() {
+        let calls = [0x0107, 7].map(|place| Call::Withdraw { place }.bytes());
+        assert_eq!(calls, [[85, 0, 2, 1, 7], [85, 0, 2, 0, 7]]);
+        let delivery = Call::Deliver {
+            place: 7,
+            column: [1; 16],
+        };
+        let [unknown, seven] = &calls;
+        let stream = [&delivery.bytes(), &unknown[..], seven, seven].concat();
+        assert_eq!(answer_all(&stream), Some(vec![0, 5, 0, 13]));
+    }
 }

@@ -7,8 +7,9 @@
 //! - the least Q is found by elimination over its terms ([`least`]);
 //! - each test word is decoded by itself, with an error locator ([`nearest`]); answer and margin are
 //!   the first two totals of all codewords found ([`decode`]);
-//! - a session keeps the row of the book, as its places arrived, and computes each answer from it
-//!   ([`session`]); a capture is written from the row sorted by place ([`capture`]).
+//! - a session keeps the row of the book, as its places arrived, and computes each answer from it; a
+//!   withdrawal takes an entry out of the row ([`session`]); a capture is written from the row sorted
+//!   by place ([`capture`]).
 //!
 //! One frame from opening to closing, with a wrong symbol at place 7:
 //!

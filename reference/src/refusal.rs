@@ -1,6 +1,7 @@
 //! "Refusals, by who can cause them."
 //!
-//! - [`Refusal`]: the eleven refusals; [`Refusal::number`] is document 01's number.
+//! - [`Refusal`]: the twelve refusals; [`Refusal::number`] is the number that documents 01 and 02
+//!   give them.
 //! - [`number`]: the number a call returns, 0 where it is accepted.
 
 /// Why a call is refused.
@@ -29,6 +30,8 @@ pub enum Refusal {
     Version = 10,
     /// "11 size or length wrong"
     Length = 11,
+    /// "13: the place is not taken", which a withdrawal asks for.
+    NotTaken = 13,
 }
 
 impl Refusal {

@@ -1,9 +1,10 @@
-//! Sessions: opening, delivery, closing, interpolant reading.
+//! Sessions: opening, delivery, withdrawal, closing, interpolant reading.
 //!
 //! - [`Session`]: the rate, the doubtful list and the row of places with their columns, as in "The
 //!   book of a session"; [`Session::in_place_order`] is the row as it is written.
-//! - [`Session::open`], [`Session::deliver`], [`Session::close`], [`Session::read_interpolant`]:
-//!   document 01's calls. Writing a capture is [`crate::capture::write_capture`].
+//! - [`Session::open`], [`Session::deliver`], [`Session::withdraw`], [`Session::close`],
+//!   [`Session::read_interpolant`]: the calls of documents 01 and 02. Writing a capture is
+//!   [`crate::capture::write_capture`].
 
 use crate::code::{check_size, Code};
 use crate::curve::PLACES;
@@ -55,7 +56,7 @@ impl Session {
         &self.doubtful
     }
 
-    /// Places and columns in the order in which they were accepted.
+    /// The places taken and their columns, in the order in which they were accepted.
     pub fn row(&self) -> &[(u8, Column)] {
         &self.row
     }
@@ -67,8 +68,8 @@ impl Session {
         row
     }
 
-    /// "A newly opened session holds 1,024 costs of zero": the columns by place, zero where none
-    /// was accepted.
+    /// "A newly opened session holds 1,024 costs of zero": the columns by place, zero where the
+    /// place is not taken.
     pub fn columns(&self) -> Columns {
         let mut columns = [[0; 16]; PLACES];
         for (place, column) in &self.row {
@@ -88,6 +89,18 @@ impl Session {
             return Err(Refusal::Taken);
         }
         self.row.push((place, column));
+        Ok(())
+    }
+
+    /// "An accepted one takes the place and its column out of the book's row"; the others keep their
+    /// order. "13: the place is not taken; after the place range."
+    pub fn withdraw(&mut self, place: u64) -> Result<(), Refusal> {
+        if place >= PLACES as u64 {
+            return Err(Refusal::Place);
+        }
+        let held = |(taken, _): &(u8, Column)| u64::from(*taken) == place;
+        let at = self.row.iter().position(held).ok_or(Refusal::NotTaken)?;
+        self.row.remove(at);
         Ok(())
     }
 
@@ -176,6 +189,25 @@ mod tests {
         for place in [64, 255, 256 + 6, u64::MAX] {
             assert_eq!(session.deliver(place, [2; 16]), Err(Refusal::Place));
         }
+        assert_eq!(session, before);
+    }
+
+    #[test]
+    fn withdrawals_check_the_range_then_the_row() {
+        let mut session = Session::open(39, &[]).unwrap();
+        for place in [64, 255, 256 + 5, 65535, u64::MAX] {
+            assert_eq!(session.withdraw(place), Err(Refusal::Place));
+        }
+        assert_eq!(session.withdraw(5), Err(Refusal::NotTaken));
+        for place in [9, 5, 7] {
+            session.deliver(place, [place as u16; 16]).unwrap();
+        }
+        assert_eq!(session.withdraw(5), Ok(()));
+        assert_eq!(session.row(), [(9, [9; 16]), (7, [7; 16])]);
+        assert_eq!(session.columns()[5], [0; 16]);
+        let before = session.clone();
+        assert_eq!(session.withdraw(5), Err(Refusal::NotTaken));
+        assert_eq!(session.withdraw(256 + 7), Err(Refusal::Place));
         assert_eq!(session, before);
     }
 
