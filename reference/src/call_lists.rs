@@ -16,6 +16,9 @@ const READING_SIZES: [u16; 4] = [82, 0, 81, 83];
 const REPORT_SIZES: [u16; 5] = [REPORT_SIZE, 0, 8, REPORT_SIZE - 1, REPORT_SIZE + 1];
 const REPORT_SIZE: u16 = REPORT_BYTES as u16;
 
+/// Places above 63; some have a place below 64 in their low byte.
+pub(crate) const UNKNOWN_PLACES: [u16; 9] = [64, 65, 127, 128, 255, 256, 256 + 7, 32768, 65535];
+
 /// The calls made with one frame of a seed: openings, refused ones among them; deliveries in
 /// random order, and between them refused deliveries, readings, and closings and writings that
 /// come too early or into buffers of wrong sizes; then closing, twice, writing, reading, and the
@@ -49,7 +52,7 @@ pub fn call_list(seed: u64, number: u64) -> Vec<Call> {
     calls
 }
 
-fn opening(frame: &Frame) -> Call {
+pub(crate) fn opening(frame: &Frame) -> Call {
     Call::Open {
         rate: frame.rate as u16,
         doubtful: frame.doubtful.clone(),
@@ -64,7 +67,7 @@ fn delivery(frame: &Frame, place: u8) -> Call {
 }
 
 /// Reading, closing and writing into buffers of the right sizes.
-fn whole(frame: &Frame) -> [Call; 3] {
+pub(crate) fn whole(frame: &Frame) -> [Call; 3] {
     [
         Call::ReadInterpolant { size: 82 },
         Call::Close {
@@ -125,7 +128,7 @@ fn refused_opening(random: &mut Random) -> Vec<Call> {
 }
 
 /// One of the calls that change nothing, with the places of `taken` delivered.
-fn between(frame: &Frame, taken: &[u8], random: &mut Random) -> Call {
+pub(crate) fn between(frame: &Frame, taken: &[u8], random: &mut Random) -> Call {
     match random.below(6) {
         0 | 1 => Call::ReadInterpolant { size: 82 },
         2 => Call::ReadInterpolant {
@@ -145,7 +148,7 @@ fn between(frame: &Frame, taken: &[u8], random: &mut Random) -> Call {
 /// A place above 63, or one that is taken, with other costs.
 fn refused_delivery(taken: &[u8], random: &mut Random) -> Call {
     let place = if taken.is_empty() || random.once_in(2) {
-        random.one_of(&[64, 65, 127, 128, 255, 256, 256 + 7, 32768, 65535])
+        random.one_of(&UNKNOWN_PLACES)
     } else {
         u16::from(random.one_of(taken))
     };
@@ -155,7 +158,7 @@ fn refused_delivery(taken: &[u8], random: &mut Random) -> Call {
     }
 }
 
-fn any_column(random: &mut Random) -> Column {
+pub(crate) fn any_column(random: &mut Random) -> Column {
     [(); 16].map(|_| random.below(1000) as u16)
 }
 

@@ -32,9 +32,9 @@
 //!
 //! [`frames`] makes frames of thirteen kinds from a seed, [`pairs`] those between codewords at least
 //! distance, [`damage`] captures with faults, [`arrivals`] five sorts of order in which places
-//! arrive. The binary `compare` runs them in two ways. It counts the frames with a margin and the
-//! captures written after each sort of order, and fails where they are too few to try it
-//! ([`margins`], [`written`]).
+//! arrive. The binary `compare` runs them in two ways. It counts the frames with a margin, the
+//! captures written after each sort of order and the withdrawals of each sort, and fails where they
+//! are too few to try it ([`margins`], [`written`], [`withdrawals`]).
 //!
 //! Calls that cross as numbers and byte slices are linked: with the feature `proved`, and with
 //! `MODEM_LIB_DIR` naming the folder of `libmodem.a`, `compare code` runs the trials of
@@ -42,12 +42,12 @@
 //!
 //! Sessions and captures are compared by stream: a program reads calls on its standard input and
 //! writes answers on its standard output, laid out as in [`calls`]; `compare run` starts it on the
-//! lists of [`call_lists`] and names the first answer that differs. `compare shows` does the same
-//! with a program that prints as `show` does.
+//! lists of [`call_lists`] and [`withdrawal_lists`] and names the first answer that differs.
+//! `compare shows` does the same with a program that prints as `show` does.
 //!
 //! ```text
 //! cargo test --offline
-//! cargo run --offline --release --bin compare -- run OCDRWXL 1 3000 PROGRAM
+//! cargo run --offline --release --bin compare -- run OCDRWXLU 1 3000 PROGRAM
 //! MODEM_LIB_DIR=.. cargo run --offline --release --features proved --bin compare -- code 1 20000
 //! ```
 //!
@@ -86,4 +86,6 @@ pub mod show;
 pub mod soft;
 pub mod streams;
 pub mod trials;
+pub mod withdrawal_lists;
+pub mod withdrawals;
 pub mod written;

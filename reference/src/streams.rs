@@ -20,15 +20,18 @@ use crate::margins::Margins;
 use crate::random::Random;
 use crate::session::Session;
 use crate::show::show;
+use crate::withdrawal_lists::withdrawal_list;
+use crate::withdrawals::{Since, Withdrawals};
 use crate::written::Written;
 
-/// How often each call was answered with each number, the captures written after each sort of
-/// order, and the margins, a frame each.
+/// How often each call was answered with each number; the withdrawals; and, from sessions without
+/// one, the captures written after each sort of order, and the margins, a frame each.
 #[derive(Clone, Debug, Default, PartialEq, Eq)]
 pub struct Tally {
     /// By letter and number; a look-up's number is the part's length.
     answers: BTreeMap<(char, u16), usize>,
     pub written: Written,
+    pub withdrawals: Withdrawals,
     pub margins: Margins,
 }
 
@@ -52,6 +55,7 @@ impl Tally {
             *self.answers.entry(answer).or_default() += times;
         }
         self.written.add(other.written);
+        self.withdrawals.add(other.withdrawals);
         self.margins.add(other.margins);
     }
 }
@@ -67,13 +71,23 @@ impl fmt::Display for Tally {
             write!(out, " {number}: {times}")?;
             last = *letter;
         }
-        write!(out, "; {}; {}", self.written, self.margins)
+        let Tally {
+            written,
+            withdrawals,
+            margins,
+            ..
+        } = self;
+        write!(out, "; {written}; {withdrawals}; {margins}")
     }
 }
 
-/// The calls of one numbered frame whose letters are among those chosen.
+/// The calls of one numbered frame whose letters are among those chosen; the list with withdrawals
+/// comes after the other one, where their letter is chosen.
 pub fn chosen_calls(letters: &str, seed: u64, number: u64) -> Vec<Call> {
     let mut calls = call_list(seed, number);
+    if letters.contains('U') {
+        calls.extend(withdrawal_list(seed, number));
+    }
     calls.retain(|call| letters.contains(char::from(call.letter())));
     calls
 }
@@ -107,9 +121,12 @@ pub fn check_answers(frames: &[(u64, Vec<Call>)], answers: &[u8]) -> Result<Tall
     let mut tally = Tally::default();
     let mut session = Session::default();
     let mut opened = None;
+    let mut since = Since::default();
     for (number, calls) in frames {
         let mut closed = None;
+        let mut withdrawals = Withdrawals::default();
         for (at, call) in calls.iter().enumerate() {
+            let before = session.clone();
             let expected = call.answer(&mut session);
             rest = rest.strip_prefix(&expected[..]).ok_or_else(|| {
                 let letter = char::from(call.letter());
@@ -117,6 +134,12 @@ pub fn check_answers(frames: &[(u64, Vec<Call>)], answers: &[u8]) -> Result<Tall
                 format!("frame {number}, call {at} ({letter}): {difference}")
             })?;
             tally.count(call, &expected);
+            for event in since.events(call, expected[0], &before) {
+                withdrawals.count(event);
+            }
+            if !since.nothing() {
+                continue;
+            }
             opened = capture_after(call, &expected, opened);
             if let (Call::WriteCapture { .. }, [0, bytes @ ..]) = (call, &expected[..]) {
                 let places: Vec<u8> = session.row().iter().map(|(place, _)| *place).collect();
@@ -127,6 +150,7 @@ pub fn check_answers(frames: &[(u64, Vec<Call>)], answers: &[u8]) -> Result<Tall
         if let Some(margin) = closed {
             tally.margins.count(margin);
         }
+        tally.withdrawals.add_list(withdrawals);
     }
     if rest.is_empty() {
         Ok(tally)
@@ -266,7 +290,7 @@ mod tests {
     use super::*;
     use crate::calls::answer_all;
 
-    const ALL: &str = "OCDRWXL";
+    const ALL: &str = "OCDRWXLU";
 
     #[test]
     fn right_answers_pass_and_any_changed_byte_is_named() {
@@ -317,6 +341,26 @@ mod tests {
         assert_eq!(tally.written.check(25), Ok(()));
         assert!(tally.written.check(30).is_err());
         assert!(tally.to_string().contains(&tally.written.to_string()));
+    }
+
+    /// The list with withdrawals leaves the other counts as they are.
+    #[test]
+    fn withdrawals_are_counted_apart() {
+        let tally = |letters: &str| {
+            let frames: Vec<_> = (0..26).map(|n| (n, chosen_calls(letters, 75, n))).collect();
+            let calls = frames.iter().flat_map(|(_, calls)| calls);
+            let answers = answer_all(&calls.flat_map(Call::bytes).collect::<Vec<u8>>()).unwrap();
+            check_answers(&frames, &answers).unwrap()
+        };
+        let (with, without) = (tally(ALL), tally("OCDRWXL"));
+        assert_eq!(with.withdrawals.check(26), Ok(()));
+        assert!(with.to_string().contains(&with.withdrawals.to_string()));
+        assert!(without.withdrawals.check(1).is_err());
+        assert_eq!(without.withdrawals, Withdrawals::default());
+        assert_eq!(
+            (with.written, with.margins),
+            (without.written, without.margins)
+        );
     }
 
     #[test]

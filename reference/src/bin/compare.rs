@@ -25,11 +25,14 @@ compare shows SEED COUNT PROGRAM ..         run a program on COUNT captures and 
 compare time COUNT                          decode COUNT frames of each sort and time them
 compare code SEED COUNT                     the proved encoding and reading back (feature proved)
 compare tables SEED COUNT                   the proved table decoding (feature proved)
-LETTERS are those of the calls wanted, of OCDRWXL.
+LETTERS are those of the calls wanted, of OCDRWXLU.
 The count of frames with a margin is printed; fewer than one in six are a failure.
 The counts of captures written after places that arrived in each sort of order are printed; fewer
 than one in five frames after deliveries, or one a frame after captures, are a failure, and so is a
-capture that comes back unchanged and is not in place order, or the other way round.";
+capture that comes back unchanged and is not in place order, or the other way round.
+The counts of withdrawals are printed, by the place's sort or the refusal, and those of deliveries,
+readings, closings and writings after them; fewer than one a frame are a failure, or than one in six
+frames where the place is doubtful.";
 
 fn main() -> ExitCode {
     let arguments: Vec<String> = std::env::args().skip(1).collect();
@@ -57,8 +60,12 @@ fn run(arguments: &[String]) -> Result<(), String> {
             if letters.contains('X') {
                 tally.margins.check(number(count)?)?;
             }
-            if "OCDW".chars().all(|letter| letters.contains(letter)) {
+            let chosen = |wanted: &str| wanted.chars().all(|letter| letters.contains(letter));
+            if chosen("OCDW") {
                 tally.written.check(number(count)?)?;
+            }
+            if chosen("OCDRWXU") {
+                tally.withdrawals.check(number(count)?)?;
             }
             Ok(())
         }
