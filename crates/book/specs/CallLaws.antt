@@ -3,6 +3,7 @@
 --   write-kept, refused-lent, refused-after   a refused call leaves its buffers, and the book, as they were
 --   Changes book call, only-changes   every call leaves the book as it was, or is an accepted delivery, and puts the place and its column at the end of the
 --                        row, or is an accepted withdrawal, and takes the place out of it
+--   withdrawn-after      an accepted withdrawal takes the place and its column out of the row
 --   rate-held, list-held a list of calls leaves the rate and the doubtful list as they were given at opening
 --   Fits call, AllFit calls   what the types say of the arguments of a call, and of a list of calls: a delivery's column is a column
 --   after-costs          the row that such a list of calls leaves has such columns
@@ -95,6 +96,14 @@ module _ (book : Book) where
           let d = withdraw-only modem64 book p n in
           inr (inr (p, refl, n, ap (λ (o : Outcome). o .book) (withdraw-accepted modem64 book p (d .0) (d .1))))
       go (no n) = inl (withdraw-kept modem64 book p n)
+
+-- ---- of a withdrawal: 'an accepted one takes the place and its column out of the book's row'
+
+pub withdrawn-after : (book : Book) (p : ℕ) → answer book (withdraw p) .number ≡ accepted → after book (withdraw p) ≡ withoutPlace book p
+unfolding answer after
+withdrawn-after book p n =
+    let d = withdraw-only modem64 book p n in
+    ap (λ (o : Outcome). o .book) (withdraw-accepted modem64 book p (d .0) (d .1))
 
 -- ---- 'It holds the rate and doubtful list given at opening'
 

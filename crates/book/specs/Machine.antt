@@ -48,6 +48,10 @@ pub data Each {C : Type 0} (Fits : C → Type 0) : List C → Type 0 where
   fit-nil : Each Fits []
   fit-cons : {call : C} {calls : List C} → Fits call → Each Fits calls → Each Fits (call ∷ calls)
 
+pub each-append : {C : Type 0} {Fits : C → Type 0} {a b : List C} → Each Fits a → Each Fits b → Each Fits (a ++ b)
+each-append fit-nil y = y
+each-append (fit-cons fits x) y = fit-cons fits (each-append x y)
+
 -- ---- leaving calls out
 
 module _ {B C : Type 0} (accepts : B → C → Bool) (after : B → C → B) where
@@ -55,6 +59,17 @@ module _ {B C : Type 0} (accepts : B → C → Bool) (after : B → C → B) whe
   acceptedBy book [] = []
   acceptedBy book (call ∷ calls) =
       cond (accepts book call) (call ∷ acceptedBy (after book call) calls) (acceptedBy (after book call) calls)
+
+  -- what fits of all calls fits of those that are accepted
+  pub accepted-each : {Fits : C → Type 0} {calls : List C} → Each Fits calls → (book : B) → Each Fits (acceptedBy book calls)
+  unfolding acceptedBy
+  accepted-each fit-nil book = fit-nil
+  accepted-each {Fits = Fits} (fit-cons {call = call} {calls = calls} fits fit) book = go (accepts book call) (accepted-each fit (after book call))
+    where
+      go : (b : Bool) → Each Fits (acceptedBy (after book call) calls)
+          → Each Fits (cond b (call ∷ acceptedBy (after book call) calls) (acceptedBy (after book call) calls))
+      go true rest = fit-cons fits rest
+      go false rest = rest
 
   -- `without` takes out of a book what it Has; a call that Spares it leaves it there
   module _ (refused : (book : B) (call : C) → accepts book call ≡ false → after book call ≡ book) (without : B → B) {Has : B → Type 0}

@@ -290,7 +290,7 @@ module _ (𝓓 : Model) where
         → marginFor 𝓓 (a .rate) (columnsOf 𝓓 (a .row)) (a .doubtful) m ≡ marginFor 𝓓 (b .rate) (columnsOf 𝓓 (b .row)) (b .doubtful) m
     margin-alike m = cc (columns-alike 𝓓 (a .row) (b .row) (same .same-columns), same .same-rate, same .same-list)
 
-  -- ---- 'Only an accepted delivery changes the book.'
+  -- ---- a refused delivery leaves the book as it was
 
   module _ (book : Book) where
     pub deliver-kept : (p : ℕ) (column : List ℕ) → deliverOf 𝓓 book p column .number ≢ accepted → deliverOf 𝓓 book p column .book ≡ book

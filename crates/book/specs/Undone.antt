@@ -3,6 +3,7 @@
 --
 --   Spares p calls       no call of the list withdraws the place p
 --   acceptedOf book calls   those of the calls that the book accepts, each of which finds the book that the call before it left
+--   accepted-stays, refused-goes   a call that the book accepts is one of them, and one that it refuses is not
 --   withdrawn            calls that spare a place that is taken leave it so, and without it do what the accepted ones alone do to the book without it
 --   undone               so the place of an accepted delivery, taken out of the row after such calls, leaves the book of the accepted ones alone
 --   undone-calls         the same with the delivery and the withdrawal as calls: that withdrawal is accepted, and it leaves that book
@@ -17,7 +18,7 @@ use mathlib.Core.Option.{some}
 use Prim.Native.Nat.{ℕ, _<_}
 use lib.Dec.{eqb}
 use lib.Seq.{append-snoc}
-use borrow.Author.Tests.{eqb-true, eqb-false}
+use borrow.Author.Tests.{eqb-true, eqb-false, eq-eqb, ne-eqb}
 use Rattle.refusals.specs.Refusal.{accepted}
 use Rattle.book.specs.Model.{modem64}
 use Rattle.book.specs.Book.{Book, columnIn, present, taken, Outcome}
@@ -42,6 +43,15 @@ accepts book call = eqb (answer book call .number) accepted
 
 abbrev pub acceptedOf : Book → List Call → List Call
 acceptedOf book calls = acceptedBy accepts after book calls
+
+module _ (book : Book) (call : Call) (calls : List Call) where
+  pub accepted-stays : answer book call .number ≡ accepted → acceptedOf book (call ∷ calls) ≡ call ∷ acceptedOf (after book call) calls
+  unfolding accepts acceptedBy
+  accepted-stays n = rw (eq-eqb (answer book call .number) accepted n)
+
+  pub refused-goes : answer book call .number ≢ accepted → acceptedOf book (call ∷ calls) ≡ acceptedOf book calls
+  unfolding accepts acceptedBy
+  refused-goes n = rw (ne-eqb (answer book call .number) accepted n) (ap (λ b. acceptedOf b calls) (refused-after book call n))
 
 -- ---- one call
 

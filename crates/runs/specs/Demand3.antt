@@ -48,8 +48,8 @@ pub record Demand3 : Type 0 where
   -- 'For every rate and every strictly rising list of up to 8 doubtful places, none above 63, opening accepts;'
   pub opening-accepts : {rate T : ℕ} {list : List ℕ} {r : Opened} → Rate rate T → DoubtfulList list → Opening (openOf rate list) r
       → r .refusal ≡ accepted
-  -- 'and in every list of deliveries, withdrawals, interpolant readings, capture writings and closings from the session so opened, refused ones included and
-  -- in whatever order, each answer and each lent buffer afterwards are those of document 01's book.'
+  -- 'and in every list of deliveries, interpolant readings, capture writings and closings from the session so opened, refused ones included and in
+  -- whatever order, each answer and each lent buffer afterwards are those of document 01's book.' Document 02: 'Withdrawals stand in demand 3's list too'
   pub answered : {T : ℕ} {book : Book} {s t : Session} {calls : List Call} {given : List Answer} → Start T book s → Run s calls given t
       → given ≡ answers book calls
   -- so is the session left: it is good, its book agrees with the book after the calls, and the calls determine it
@@ -72,12 +72,13 @@ pub record Demand3 : Type 0 where
   -- document 01: 'opening an accepted capture counts as opening with its rate and list and then delivering its records in their order': it is one of
   -- the openings (Start) of which all of this is said
   pub captures : {bytes : List ℕ} {r : Opened} → Opening (openCaptureOf bytes) r → r .refusal ≡ accepted → CaptureStarts bytes r
-  -- document 01: 'Only an accepted delivery changes the book. A refused call leaves its buffers as they were.' Document 02, of withdrawals: 'an accepted one
-  -- takes the place and its column out of the book's row'
+  -- document 01: 'Only an accepted delivery changes the book. A refused call leaves its buffers as they were.' Of document 02 an accepted withdrawal does, too
   pub only-changes : (book : Book) (call : Call)
       → (after book call ≡ book)
       ⊎ ((p : ℕ) × (column : List ℕ) × (call ≡ deliver p column) × (answer book call .number ≡ accepted) × (after book call ≡ withEntry book p column))
       ⊎ ((p : ℕ) × (call ≡ withdraw p) × (answer book call .number ≡ accepted) × (after book call ≡ withoutPlace book p))
+  -- document 02: 'an accepted one takes the place and its column out of the book's row'
+  pub takes-out : (book : Book) (p : ℕ) → answer book (withdraw p) .number ≡ accepted → after book (withdraw p) ≡ withoutPlace book p
   pub refused-kept : (book : Book) (call : Call) → answer book call .number ≢ accepted
       → (answer book call .first ≡ firstLent call) × (answer book call .second ≡ secondLent call)
   -- 'Two sessions so reached that agree in rate, doubtful list, places taken and the columns held for these read and close alike', and, of document 02, 'then
@@ -121,6 +122,7 @@ whole =
       otherwise = λ c full n. closes-after c .otherwise full n;
       captures = λ opened n. capture-starts opened n;
       only-changes = laws.only-changes;
+      takes-out = laws.withdrawn-after;
       refused-kept = laws.refused-lent;
       alike = λ x y same. agreeing.alike x y same;
       one-held = λ x y same. agreeing.held-one x y same;

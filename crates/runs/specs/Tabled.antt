@@ -8,6 +8,7 @@
 --   BringsTable table calls   each of the 64 places is delivered since it was last withdrawn, and no delivery of it since then has another column than the
 --                        table's
 --   brings-unwithdrawn   of calls that withdraw nothing: each of the 64 places is delivered, and no delivery of one of them has another column
+--   brought-since        a place holds the one column that was delivered since it was last withdrawn, whatever came before, in between and after
 --   brings-holds         such calls leave the table's columns in the row
 --   table-as-calls       so closing after them answers as table decoding does
 use mathlib.Core.Bool.{Bool, true, false, cond}
@@ -158,7 +159,7 @@ module _ (p : ℕ) (h : p < places) (wanted : List ℕ) where
   brought book calls c = ⊎-elim (λ e. e) (λ r. absurd (List·Memᴰ·not-nil (r .2))) (carried after Coming turn book calls c .2)
 
   -- from a book without the place, by the calls since it was last withdrawn
-  brought-since : {calls rest : List Call} → Since p calls rest → ((column : List ℕ) → List·Memᴰ (deliver p column) rest → column ≡ wanted)
+  pub brought-since : {calls rest : List Call} → Since p calls rest → ((column : List ℕ) → List·Memᴰ (deliver p column) rest → column ≡ wanted)
       → (column : List ℕ) → List·Memᴰ (deliver p column) rest → (book : Book) → columnIn (book .row) p ≡ none
       → columnIn (afterAll book calls .row) p ≡ some wanted
   unfolding Coming afterBy

@@ -6,6 +6,7 @@
 --                        the calls that were accepted leave by themselves
 --   undone-brought       also if the delivery was one of a capture's records, which count as delivered at its opening: then it is the session that an opening
 --                        without them and the other calls leave
+--   as-if                there is such a run without it, where the columns that are delivered are columns
 --   undone-later         so all that is called from there on is answered alike, and leaves the same session
 use mathlib.Core.Bool.{false}
 use mathlib.Core.Path.{_≡_, refl, sym, ap, _∙_, subst}
@@ -16,10 +17,11 @@ use Rattle.refusals.specs.Refusal.{accepted}
 use Rattle.lists.specs.Block.{block}
 use Rattle.book.specs.Book.{Book}
 use Rattle.book.specs.Columns.{agree-sym, agree-trans, agree-path}
-use Rattle.book.specs.Machine.{afterBy, after-append}
+use Rattle.book.specs.Machine.{afterBy, after-append, each-append, accepted-each}
 use Rattle.book.specs.AnyCalls.{Answer}
 use Rattle.book.specs.Calls.{Call, deliver, withdraw, answer, after, afterAll}
-use Rattle.book.specs.Undone.{Spares, acceptedOf, undone-calls}
+use Rattle.book.specs.CallLaws.{AllFit}
+use Rattle.book.specs.Undone.{Spares, accepts, acceptedOf, undone-calls}
 use Rattle.book.specs.Here.{width}
 use Rattle.session.specs.declared.Session.{Session}
 use Rattle.session.specs.View.{bookOf, Good}
@@ -69,3 +71,8 @@ module _ {T : ℕ} {book : Book} {s t u : Session} {calls : List Call} {given ot
       let good : Good t = start-follows start .left run .0 in
       let c : Run t later second w = subst (λ x. Run x later second w) (sym undone) b in
       (every-run a good ∙ sym (every-run c good), one-end good a c)
+
+pub as-if : {T : ℕ} {book : Book} {s : Session} → Start T book s → {before calls : List Call} → AllFit before → AllFit calls → (p : ℕ) (column : List ℕ)
+    → (given : List Answer) × (u : Session) × Run s (before ++ acceptedOf (after (afterAll book before) (deliver p column)) calls) given u
+as-if {book = book} start {before} fits fit p column =
+    start-follows start .not-empty (each-append fits (accepted-each accepts after fit (after (afterAll book before) (deliver p column))))
