@@ -12,13 +12,13 @@
  *   word      exactly 64 bytes, one symbol each, place 0 first
  *   frame     any length; the codeword takes 64 bytes of it from start on
  *   table     exactly 2048 bytes: 64 columns of sixteen costs, place 0 and symbol 0 first,
- *             two bytes each, high byte first
+ *             two bytes each, high byte first; a place whose sixteen costs are equal is blank
  *   report    exactly 13 bytes, high byte first: the total (4), the test words with a
  *             codeword within T (2), the pinned places (1), the changed places (1); 1 if
  *             another codeword is near too, else 0 (1), and the margin: the least total of
  *             such another one minus the answer's, 0 where there is none (4)
  *
- * Stack: table decoding with eight doubtful places touches some 45 KiB of it (bench/stack).
+ * Stack: table decoding with eight doubtful places touches some 47 KiB of it (bench/stack).
  *
  * What C cannot check and the caller must see to:
  *   - a pointer is not null, also where its length is 0, and its bytes may be read, or
@@ -49,7 +49,8 @@ enum hermitian_refusal {
     HERMITIAN_NO_SYMBOL = 3,    /* a symbol above 15 */
     HERMITIAN_WRONG_DOUBT = 4,  /* a doubt above 8 */
     HERMITIAN_NO_CODEWORD = 8,  /* the word is not a codeword */
-    HERMITIAN_NONE_NEAR = 9     /* no codeword is near */
+    HERMITIAN_NONE_NEAR = 9,    /* no codeword is near */
+    HERMITIAN_TOO_BLANK = 12    /* more than 13 blank places at rate 39, more than 3 at rate 49 */
 };
 
 /* Writes the codeword of the message into frame[start] to frame[start + 63]; the other
@@ -70,9 +71,11 @@ uint8_t hermitian_read_back(size_t rate,
                             uint8_t *message, size_t message_length);
 
 /* Decodes a table of costs with doubt 0 to 8: writes the message of the near codeword of
- * least total cost, and its report. The doubtful places are those of smallest gap.
+ * least total cost, and its report. The doubtful places are those of smallest gap. A blank
+ * place is never doubtful, wrong or changed, but each two of them take one from the wrong
+ * places that are repaired.
  * Checks, in this order: rate; table of 2048, message buffer of k and report of 13 bytes;
- * doubt; nearness. Refusals: 1, 2, 4, 9. */
+ * doubt; blank places; nearness. Refusals: 1, 2, 4, 12, 9. */
 uint8_t hermitian_decode_table(size_t rate,
                                const uint8_t *table, size_t table_length,
                                size_t doubt,

@@ -24,8 +24,8 @@ pub enum Arrival {
     Shuffled,
 }
 
-/// Five, which has no divisor in common with the numbers of kinds, rates and doubts: frames whose
-/// numbers go round all of these have every sort with each of them.
+/// Five, which has no divisor in common with the numbers of kinds, rates, doubts and blank places:
+/// frames whose numbers go round all of these have every sort with each of them.
 pub const ARRIVALS: [Arrival; 5] = [
     Arrival::Rising,
     Arrival::Falling,

@@ -217,6 +217,7 @@ mod tests {
     use crate::calls::answer_all;
     use crate::capture::bytes_of;
     use crate::session::Session;
+    use crate::soft::{best, gap, is_blank};
     use crate::streams::check_answers;
 
     #[test]
@@ -253,7 +254,7 @@ mod tests {
             ('D', &[0, 5, 6]),
             ('R', &[0, 2]),
             ('W', &[0, 2, 7]),
-            ('X', &[0, 2, 7, 9]),
+            ('X', &[0, 2, 7, 9, 12]),
         ];
         let expected: Vec<(char, u8)> = expected
             .iter()
@@ -264,6 +265,58 @@ mod tests {
         reached.sort_unstable();
         sorted.sort_unstable();
         assert_eq!(reached, sorted);
+    }
+
+    /// What a program takes the column of a session's place for.
+    type Taken = fn(&Session, u8, Column) -> Column;
+
+    /// Whether a list shows a program that takes columns so in the calls of a letter.
+    fn shows(letter: u8, taken: Taken, calls: &[Call]) -> bool {
+        let mut session = Session::default();
+        calls.iter().any(|call| {
+            let mut seen = Session::open(session.rate(), session.doubtful()).unwrap();
+            for (place, column) in session.row() {
+                let column = taken(&session, *place, *column);
+                seen.deliver(u64::from(*place), column).unwrap();
+            }
+            let answer = call.answer(&mut session);
+            call.letter() == letter && call.answer(&mut seen) != answer
+        })
+    }
+
+    /// Frames with one to four blank places, doubtful ones among them: a program that does not take
+    /// these for blank, all of them or the doubtful ones alone, or takes every column without a gap
+    /// for blank.
+    #[test]
+    fn columns_not_taken_for_blank_are_found() {
+        let any: Taken = |_, _, mut column| {
+            column[15] ^= u16::from(is_blank(&column));
+            column
+        };
+        let doubtful: Taken = |session, place, mut column| {
+            let doubled = is_blank(&column) && session.doubtful().contains(&place);
+            column[15] ^= u16::from(doubled);
+            column
+        };
+        let level: Taken = |_, _, column| match gap(&column) {
+            0 => [column[usize::from(best(&column))]; 16],
+            _ => column,
+        };
+        let numbers = [1, 3, 5, 7]
+            .into_iter()
+            .flat_map(|round| 26 * round..26 * (round + 1));
+        let lists: Vec<Vec<Call>> = numbers.map(|number| call_list(58, number)).collect();
+        let found = |letter, taken| {
+            let found = lists.iter().filter(|calls| shows(letter, taken, calls));
+            found.count()
+        };
+        assert!(found(b'R', any) >= 80);
+        assert!(found(b'X', any) >= 70);
+        assert!(found(b'X', doubtful) >= 15);
+        assert_eq!(found(b'R', doubtful), 0);
+        assert!(found(b'R', level) >= 10);
+        assert!(found(b'X', level) >= 10);
+        assert_eq!(found(b'W', |_, _, column| column), 0);
     }
 
     /// The records that a program writes for a session.

@@ -2,6 +2,7 @@
 //!
 //! - [`Code`]: one code, with what elimination computes once for it; [`Code::of_rate`].
 //! - [`Code::codeword`], [`Code::message`]: from message to word and back.
+//! - [`Code::reach_with`], [`Code::blank_limit`]: T with blank places, and how many there may be.
 //! - [`encode`], [`read_back`]: document 01's calls, with its checks.
 
 use std::sync::OnceLock;
@@ -17,7 +18,8 @@ pub struct Code {
     pub symbols: usize,
     /// M, the largest order.
     pub top: usize,
-    /// T: a codeword is near a test word that differs from it in at most T places.
+    /// T where no place is blank: a codeword is near a test word that differs from it in at most T
+    /// places.
     pub reach: usize,
     /// The values of the monomials by rising order.
     pub monomials: Vec<Row>,
@@ -37,7 +39,7 @@ impl Code {
         Code {
             symbols: monomials.len(),
             top,
-            reach: reach(top),
+            reach: reach(top, 0).expect("M below 58"),
             monomials,
             echelon,
         }
@@ -52,6 +54,17 @@ impl Code {
             49 => Ok(RATE_49.get_or_init(|| Code::new(54))),
             _ => Err(Refusal::Rate),
         }
+    }
+
+    /// T with so many blank places; none where they are too many.
+    pub fn reach_with(&self, blanks: usize) -> Option<usize> {
+        reach(self.top, blanks)
+    }
+
+    /// The most blank places with which there is a T.
+    pub fn blank_limit(&self) -> usize {
+        let some = (0..PLACES).take_while(|blanks| self.reach_with(*blanks).is_some());
+        some.last().expect("M below 58")
     }
 
     /// "Message symbol number 0 multiplies the lowest order, and so on upwards. The codeword holds
@@ -72,13 +85,10 @@ impl Code {
     }
 }
 
-/// "In general the largest T with 2T < 64 − M − 6."
-fn reach(top: usize) -> usize {
+/// "With b blank places T is the largest number with 2T + b < 64 − M − 6."
+fn reach(top: usize, blanks: usize) -> Option<usize> {
     let limit = PLACES - GENUS - top;
-    (0..limit)
-        .rev()
-        .find(|t| 2 * t < limit)
-        .expect("M below 58")
+    (0..limit).rev().find(|t| 2 * t + blanks < limit)
 }
 
 /// "Encode: rate; message of exactly k bytes and 64 bytes of the lent frame from a given start;
@@ -140,6 +150,29 @@ mod tests {
         assert_eq!(numbers, [(39, 44, 6), (49, 54, 1)]);
         for rate in [0, 38, 40, 48, 50, 39 + 256, u64::MAX] {
             assert_eq!(Code::of_rate(rate).err(), Some(Refusal::Rate));
+        }
+    }
+
+    /// "13 blanks at rate 39 leave T = 0."
+    #[test]
+    fn blank_places_take_from_t() {
+        let reaches = RATES.map(|rate| -> Vec<usize> {
+            let code = Code::of_rate(rate).unwrap();
+            assert_eq!(code.reach_with(0), Some(code.reach));
+            assert_eq!(code.reach_with(code.blank_limit() + 1), None);
+            let blanks = 0..=code.blank_limit();
+            blanks.filter_map(|b| code.reach_with(b)).collect()
+        });
+        assert_eq!(reaches[0], [6, 6, 5, 5, 4, 4, 3, 3, 2, 2, 1, 1, 0, 0]);
+        assert_eq!(reaches[1], [1, 1, 0, 0]);
+        for top in 0..58 {
+            let code = Code::new(top);
+            assert_eq!(code.blank_limit(), 57 - top);
+            for blanks in 0..=57 - top {
+                let reach = code.reach_with(blanks).unwrap();
+                assert!(2 * reach + blanks < 58 - top);
+                assert!(2 * (reach + 1) + blanks >= 58 - top);
+            }
         }
     }
 

@@ -2,7 +2,7 @@
 //!
 //! - [`Answer`]: the message, and the five numbers of the report; [`margin_of`] reads the last.
 //! - [`test_words`]: all test words of columns and a doubtful list.
-//! - [`decode`]: the near codeword of least total cost.
+//! - [`near_codewords`]: all near codewords with their totals; [`decode`]: the one of least total.
 //! - [`decode_table`]: document 01's call, with its checks.
 
 use crate::code::{check_size, Code};
@@ -60,11 +60,14 @@ pub fn margin_of(report: &[u8]) -> Option<u32> {
 }
 
 /// "Each doubtful place, lowest first, doubles them, once with its best and once with its second
-/// symbol. All other places are settled and carry their best symbol."
+/// symbol. All other places are settled and carry their best symbol." A blank place is not "doubled
+/// as doubtful", and what stands there counts for nothing.
 pub fn test_words(columns: &Columns, doubtful: &[u8]) -> Vec<Row> {
     let mut words = vec![Row::from_elements(columns.iter().map(soft::best))];
-    for place in doubtful {
-        let place = usize::from(*place);
+    for place in doubtful.iter().map(|place| usize::from(*place)) {
+        if soft::is_blank(&columns[place]) {
+            continue;
+        }
         let second = soft::second(&columns[place]);
         let doubled = words.iter().flat_map(|word| {
             let mut other = *word;
@@ -76,19 +79,32 @@ pub fn test_words(columns: &Columns, doubtful: &[u8]) -> Vec<Row> {
     words
 }
 
-/// "A codeword is near when it differs from some test word in at most T places. The answer is the
-/// near codeword of least total cost." The runner-up is the next of all near codewords.
-pub fn decode(finder: &Finder, columns: &Columns, doubtful: &[u8]) -> Option<Answer> {
+/// "A codeword is near when it differs from some test word in at most T places", of those that are
+/// not blank, with the T that the blank ones leave. All near codewords, cheapest first, with their
+/// totals; and the number of test words with a codeword within T. Refused where too many are blank.
+pub fn near_codewords(
+    finder: &Finder,
+    columns: &Columns,
+    doubtful: &[u8],
+) -> Result<(Vec<(u32, Near)>, u16), Refusal> {
+    let blank = soft::blank_places(columns);
+    let unblanked = finder.unblanked(&blank).ok_or(Refusal::TooBlank)?;
     let words = test_words(columns, doubtful);
     let found: Vec<Near> = words
         .iter()
-        .filter_map(|word| finder.nearest(word))
+        .filter_map(|word| unblanked.nearest(word))
         .collect();
     let tests = found.len() as u16;
-    let ranking = ranking(columns, found);
-    let (total, cheapest) = ranking.first()?;
+    Ok((ranking(columns, found), tests))
+}
+
+/// "The answer is the near codeword of least total cost." The runner-up is the next of all near
+/// codewords. Refused "after the doubt or missing-place check": too many blank, then none near.
+pub fn decode(finder: &Finder, columns: &Columns, doubtful: &[u8]) -> Result<Answer, Refusal> {
+    let (ranking, tests) = near_codewords(finder, columns, doubtful)?;
+    let (total, cheapest) = ranking.first().ok_or(Refusal::NoneNear)?;
     let codeword = cheapest.codeword.elements();
-    Some(Answer {
+    Ok(Answer {
         message: cheapest.message.clone(),
         total: *total,
         tests,
@@ -110,7 +126,7 @@ fn ranking(columns: &Columns, found: Vec<Near>) -> Vec<(u32, Near)> {
 }
 
 /// Table decoding, with its checks in their order: rate; table of 2,048 bytes, place 0 first,
-/// message buffer of k bytes and report; doubt; nearness.
+/// message buffer of k bytes and report; doubt; blank places; nearness.
 pub fn decode_table(
     rate: u64,
     table: &[u8],
@@ -127,7 +143,7 @@ pub fn decode_table(
     }
     let columns = columns_of_table(table);
     let doubtful = soft::doubtful_places(&columns, doubt as usize);
-    let answer = decode(Finder::of_rate(rate)?, &columns, &doubtful).ok_or(Refusal::NoneNear)?;
+    let answer = decode(Finder::of_rate(rate)?, &columns, &doubtful)?;
     message.copy_from_slice(&answer.message);
     report.copy_from_slice(&answer.report());
     Ok(())
@@ -146,6 +162,45 @@ pub fn table_of_columns(columns: &Columns) -> Vec<u8> {
 #[cfg(test)]
 mod tests {
     use super::*;
+    use crate::frames::frame_s;
+
+    /// Doubtful places that are blank double nothing.
+    #[test]
+    fn test_words_are_as_many_as_the_doubtful_places_that_are_not_blank() {
+        let mut columns = frame_s(7);
+        assert_eq!(test_words(&columns, &[0, 5, 10]).len(), 8);
+        columns[5] = [3; 16];
+        let words = test_words(&columns, &[0, 5, 10]);
+        assert_eq!(words, test_words(&columns, &[0, 10]));
+        assert_eq!(words.len(), 4);
+        columns[0] = [3; 16];
+        columns[10] = [0; 16];
+        assert_eq!(test_words(&columns, &[0, 5, 10]).len(), 1);
+    }
+
+    /// "After the doubt or missing-place check, before 'none near'": each fault beside the later
+    /// ones.
+    #[test]
+    fn tables_are_checked_in_order() {
+        let decoded = |rate, columns: &Columns, doubt, size: usize| {
+            let table = table_of_columns(columns);
+            let (mut message, mut report) = (vec![9; size], [9; REPORT_BYTES]);
+            let result = decode_table(rate, &table, doubt, &mut message, &mut report);
+            assert!(result.is_ok() || message == vec![9; size] && report == [9; REPORT_BYTES]);
+            result
+        };
+        let mut columns = [[7; 16]; PLACES];
+        assert_eq!(decoded(40, &columns, 9, 40), Err(Refusal::Rate));
+        assert_eq!(decoded(39, &columns, 9, 40), Err(Refusal::Size));
+        assert_eq!(decoded(39, &columns, 9, 39), Err(Refusal::Doubt));
+        assert_eq!(decoded(39, &columns, 8, 39), Err(Refusal::TooBlank));
+        columns[14..].copy_from_slice(&frame_s(7)[14..]);
+        assert_eq!(decoded(39, &columns, 0, 39), Err(Refusal::TooBlank));
+        columns[13] = frame_s(0)[13];
+        assert_eq!(decoded(39, &columns, 0, 39), Err(Refusal::NoneNear));
+        columns[14..].copy_from_slice(&frame_s(0)[14..]);
+        assert_eq!(decoded(39, &columns, 0, 39), Ok(()));
+    }
 
     /// Zero is a margin, and not the same as none.
     #[test]

@@ -1,17 +1,18 @@
 //! Frames for tests: columns and a doubtful list, made at random around known codewords.
 //!
 //! - [`Frame`], [`Frame::numbered`]: frame `number` of a seed; the number goes round the kinds, the
-//!   rates and the doubts.
-//! - [`Kind`], [`KINDS`], [`frame`]: what a frame is made to try.
+//!   rates, the doubts and the numbers of blank places.
+//! - [`Kind`], [`KINDS`], [`frame`]: what a frame is made to try; [`faded`]: the same with blank
+//!   places.
 //! - [`some_places`], [`random_codeword`]: what they are made from.
 //! - [`frame_s`]: the columns of the bench sheet's frames.
 
 use crate::code::Code;
 use crate::curve::PLACES;
-use crate::pairs::{pair, trio, Gaps};
+use crate::pairs::{pair, trio, Gaps, Planted};
 use crate::random::Random;
 use crate::row::Row;
-use crate::soft::{second, Column, Columns, CEILING, DOUBT_LIMIT};
+use crate::soft::{best, second, Column, Columns, CEILING, DOUBT_LIMIT};
 
 /// The gaps of doubtful places are at most this, those of settled ones larger, so that table
 /// decoding picks the frame's own list.
@@ -26,7 +27,7 @@ pub struct Frame {
     pub columns: Columns,
 }
 
-/// What a frame is made to try.
+/// What a frame is made to try. T is that of its number of blank places.
 #[derive(Clone, Copy, Debug, PartialEq, Eq)]
 pub enum Kind {
     /// Every settled place has the sent symbol as its best.
@@ -40,7 +41,8 @@ pub enum Kind {
     Pair,
     /// A pair with equal totals: the margin is zero.
     EqualPair,
-    /// A pair whose totals differ by one of [`APART`].
+    /// A pair whose totals differ by one of [`APART`], where T is above zero: else no settled place
+    /// is left to set them apart.
     ApartPair,
     /// A pair with costs up to the ceiling: the margin may need three bytes.
     WidePair,
@@ -51,7 +53,7 @@ pub enum Kind {
     Trio,
     /// As `Wrong`, with costs at the ceiling.
     Ceiling,
-    /// As `Valid`, with some columns, or all, of sixteen equal costs.
+    /// As `Valid`, with some columns, or all, that are blank but for one cost; or all are blank.
     Level,
     /// Costs 0 to 2 only, some best costs equal.
     Tied,
@@ -81,59 +83,101 @@ pub const APART: [u32; 8] = [0, 1, 2, 255, 256, 257, 4095, 64_000];
 /// The rates, which are also their numbers of message symbols.
 pub const RATES: [u64; 2] = [39, 49];
 
-impl Frame {
-    /// Frame `number` of a seed.
-    pub fn numbered(seed: u64, number: u64) -> Frame {
-        let mut random = Random::new(seed, number);
-        let number = number as usize;
-        let kind = KINDS[number % KINDS.len()];
-        let rate = RATES[number / KINDS.len() % RATES.len()];
-        let doubt = number / (KINDS.len() * RATES.len()) % (DOUBT_LIMIT + 1);
-        frame(kind, rate, doubt, &mut random)
+impl Kind {
+    /// The kind of a numbered frame.
+    pub fn numbered(number: u64) -> Kind {
+        KINDS[number as usize % KINDS.len()]
     }
 }
 
-/// A frame of a kind. Pairs and trios have eight doubtful places whatever the doubt asked for.
+impl Frame {
+    /// Frame `number` of a seed. In every second round through kinds and rates the frames have blank
+    /// places, each time one more, from 1 to one too many.
+    pub fn numbered(seed: u64, number: u64) -> Frame {
+        let kind = Kind::numbered(number);
+        let mut random = Random::new(seed, number);
+        let number = number as usize;
+        let rate = RATES[number / KINDS.len() % RATES.len()];
+        let round = number / (KINDS.len() * RATES.len());
+        let doubt = round % (DOUBT_LIMIT + 1);
+        let blanks = match round % 2 {
+            0 => 0,
+            _ => 1 + round / 2 % (blank_limit(rate) + 1),
+        };
+        faded(kind, rate, doubt, blanks, &mut random)
+    }
+}
+
+/// The most blank places at a rate that are not refused.
+pub fn blank_limit(rate: u64) -> usize {
+    Code::of_rate(rate).expect("a known rate").blank_limit()
+}
+
+/// A frame of a kind, with no blank place but where the kind has some.
 pub fn frame(kind: Kind, rate: u64, doubt: usize, random: &mut Random) -> Frame {
+    faded(kind, rate, doubt, 0, random)
+}
+
+/// A frame of a kind with so many blank places, some of them doubtful; there are more where all are
+/// blank by the kind. Pairs and trios have eight doubtful places whatever the doubt asked for.
+pub fn faded(kind: Kind, rate: u64, doubt: usize, blanks: usize, random: &mut Random) -> Frame {
     let code = Code::of_rate(rate).expect("a known rate");
-    let reach = code.reach;
-    let planted = match kind {
-        Kind::Pair => Some(pair(rate, reach, Gaps::Mixed, random)),
-        Kind::EqualPair => Some(pair(rate, reach, Gaps::Alike, random)),
-        Kind::ApartPair => {
-            let apart = random.one_of(&APART);
-            Some(pair(rate, reach, Gaps::Mixed, random).apart(apart))
-        }
-        Kind::WidePair => Some(pair(rate, reach, Gaps::Wide, random)),
-        Kind::UnevenPair => Some(pair(rate, reach + 1, Gaps::Mixed, random)),
-        Kind::Trio => Some(trio(rate, DOUBT_LIMIT, Gaps::Mixed, random)),
-        _ => None,
-    };
-    if let Some(planted) = planted {
+    if let Some(planted) = planted(kind, code, blanks, random) {
         return planted.frame;
     }
+    let reach = code.reach_with(blanks).unwrap_or(0);
     let doubtful = some_places(doubt, random);
+    let blank = fade(blanks, &doubtful, random);
     let sent = random_codeword(code, random);
-    let columns = match kind {
-        Kind::Wrong => around(&sent, &doubtful, random.between(0, reach), random),
-        Kind::Beyond => around(&sent, &doubtful, reach + random.between(1, 4), random),
+    let spared = [&doubtful[..], &blank].concat();
+    let around = |wrong, random: &mut Random| {
+        let wrong = places_but(wrong, &spared, random);
+        around(&sent, &doubtful, &wrong, random)
+    };
+    let mut columns = match kind {
+        Kind::Wrong => around(random.between(0, reach), random),
+        Kind::Beyond => around(reach + random.between(1, 4), random),
         Kind::Ceiling => {
             let wrong = random.between(0, reach);
-            around(&sent, &doubtful, wrong, random).map(|column| lifted(column, random))
+            around(wrong, random).map(|column| lifted(column, random))
         }
-        Kind::Level => levelled(around(&sent, &doubtful, 0, random), reach, random),
+        Kind::Level => levelled(around(0, random), &sent, reach, random),
         Kind::Tied => sent.elements().map(|symbol| tied(symbol, random)),
         Kind::Random => {
             let limit = random.one_of(&[4, 1000, 65536]);
             [(); PLACES].map(|_| [(); 16].map(|_| random.below(limit) as u16))
         }
-        _ => around(&sent, &doubtful, 0, random),
+        _ => around(0, random),
     };
+    for place in blank {
+        columns[usize::from(place)] = blank_column(random);
+    }
     Frame {
         rate,
         doubtful,
         columns,
     }
+}
+
+/// The frames between codewords. Those with equal totals have no blank place that is doubtful, so
+/// that as many doubtful places lean each way.
+fn planted(kind: Kind, code: &Code, blanks: usize, random: &mut Random) -> Option<Planted> {
+    let (rate, reach) = (code.symbols as u64, code.reach);
+    let planted = match kind {
+        Kind::Pair | Kind::ApartPair => pair(rate, reach, Gaps::Mixed, random),
+        Kind::EqualPair => pair(rate, reach, Gaps::Alike, random),
+        Kind::WidePair => pair(rate, reach, Gaps::Wide, random),
+        Kind::UnevenPair => pair(rate, reach + 1, Gaps::Mixed, random),
+        Kind::Trio => trio(rate, DOUBT_LIMIT, Gaps::Mixed, random),
+        _ => return None,
+    };
+    let doubtful = kind != Kind::EqualPair && random.once_in(2);
+    let planted = planted.faded(blanks, doubtful, random);
+    let raisable = code.reach_with(blanks).is_some_and(|reach| reach > 0);
+    if kind == Kind::ApartPair && raisable {
+        return Some(planted.apart(random.one_of(&APART)));
+    }
+    Some(planted)
 }
 
 /// "Frame S(m), rate 39: at the first m of places 0, 10, 20, 30, 40, 50, 60, symbol 1 costs 0,
@@ -175,10 +219,37 @@ pub(crate) fn column(best: u8, second: u8, gap: usize, random: &mut Random) -> C
     column
 }
 
-/// Columns around a codeword, with `wrong` of the settled places wrong.
-pub(crate) fn around(sent: &Row, doubtful: &[u8], wrong: usize, random: &mut Random) -> Columns {
-    let settled = (0..PLACES as u8).filter(|place| !doubtful.contains(place));
-    let wrong = random.shuffled(settled)[..wrong].to_vec();
+/// "Fades deliver columns with all sixteen costs equal."
+pub(crate) fn blank_column(random: &mut Random) -> Column {
+    [random.one_of(&[0, 7, 300, CEILING - 1, CEILING]); 16]
+}
+
+/// So many places for a fade to blank: one after the other once in four, else any, of which each
+/// number may be doubtful.
+fn fade(count: usize, doubtful: &[u8], random: &mut Random) -> Vec<u8> {
+    if count == 0 {
+        return Vec::new();
+    }
+    if random.once_in(4) {
+        let first = random.below(PLACES);
+        let places = (first..first + count).map(|place| (place % PLACES) as u8);
+        return places.collect();
+    }
+    let of_doubtful = random.between(0, count.min(doubtful.len()));
+    let mut places = random.shuffled(doubtful.to_vec());
+    places.truncate(of_doubtful);
+    places.extend(places_but(count - of_doubtful, doubtful, random));
+    places
+}
+
+/// So many places that are not among those spared.
+fn places_but(count: usize, spared: &[u8], random: &mut Random) -> Vec<u8> {
+    let others = (0..PLACES as u8).filter(|place| !spared.contains(place));
+    random.shuffled(others)[..count].to_vec()
+}
+
+/// Columns around a codeword, with these of the settled places wrong.
+fn around(sent: &Row, doubtful: &[u8], wrong: &[u8], random: &mut Random) -> Columns {
     std::array::from_fn(|place| {
         let symbol = sent.get(place);
         let other = random.other_symbol(symbol);
@@ -213,28 +284,46 @@ fn doubted(symbol: u8, other: u8, random: &mut Random) -> (u8, u8) {
     }
 }
 
-/// Half of the columns are lifted until the second cost is at the ceiling, a few until all are.
+/// Half of the columns are lifted until the second cost is at the ceiling, a few until the best is
+/// next to it, so that they do not become blank.
 fn lifted(column: Column, random: &mut Random) -> Column {
-    let to_second = CEILING - column[usize::from(second(&column))];
+    let to = |symbol: u8| CEILING - column[usize::from(symbol)];
+    let most = to(best(&column)) - 1;
     let lift = match random.below(80) {
-        0 => CEILING,
-        1..=40 => to_second,
+        0 => most,
+        1..=40 => to(second(&column)).min(most),
         _ => 0,
     };
     column.map(|cost| cost.saturating_add(lift))
 }
 
-/// Some columns become sixteen equal costs; once in eight all do, with the same cost.
-fn levelled(mut columns: Columns, reach: usize, random: &mut Random) -> Columns {
-    let costs = [0, 7, CEILING - 1, CEILING];
-    if random.once_in(8) {
-        return [[random.one_of(&costs); 16]; PLACES];
+/// Some columns become blank but for one cost; once in eight all do, with the same costs, and once in
+/// eight all become blank.
+fn levelled(mut columns: Columns, sent: &Row, reach: usize, random: &mut Random) -> Columns {
+    match random.below(8) {
+        0 => return [blank_column(random); PLACES],
+        1 => return [nearly_blank_column(0, random); PLACES],
+        _ => (),
     }
     let count = random.between(1, reach + 4);
     for place in random.shuffled(0..PLACES).into_iter().take(count) {
-        columns[place] = [random.one_of(&costs); 16];
+        columns[place] = nearly_blank_column(sent.get(place), random);
     }
     columns
+}
+
+/// Fifteen equal costs; this symbol costs one less, or any symbol one more.
+fn nearly_blank_column(symbol: u8, random: &mut Random) -> Column {
+    let low = random.one_of(&[0, 6, 300, CEILING - 1]);
+    if random.once_in(2) {
+        let mut column = [low + 1; 16];
+        column[usize::from(symbol)] = low;
+        column
+    } else {
+        let mut column = [low; 16];
+        column[random.below(16)] = low + 1;
+        column
+    }
 }
 
 /// The sent symbol costs 0; so does once in ten columns another one.
@@ -252,7 +341,8 @@ mod tests {
     use super::*;
     use crate::decode::{decode, Answer};
     use crate::nearest::Finder;
-    use crate::soft::doubtful_places;
+    use crate::refusal::Refusal;
+    use crate::soft::{blank_places, doubtful_places, gap, is_blank};
 
     const PLANTED: [Kind; 6] = [
         Kind::Pair,
@@ -263,28 +353,110 @@ mod tests {
         Kind::Trio,
     ];
 
-    fn answers(kind: Kind, rate: u64, count: u64) -> Vec<Option<Answer>> {
-        let finder = Finder::of_rate(rate).unwrap();
+    fn decoded(frame: &Frame) -> Result<Answer, Refusal> {
+        let finder = Finder::of_rate(frame.rate).unwrap();
+        decode(finder, &frame.columns, &frame.doubtful)
+    }
+
+    fn answers(kind: Kind, rate: u64, count: u64) -> Vec<Result<Answer, Refusal>> {
         let answer = |number| {
             let doubt = number as usize % 9;
-            let frame = frame(kind, rate, doubt, &mut Random::new(30, number));
-            decode(finder, &frame.columns, &frame.doubtful)
+            decoded(&frame(kind, rate, doubt, &mut Random::new(30, number)))
         };
         (0..count).map(answer).collect()
     }
 
+    /// The list, but for blank places, and others in their stead.
     #[test]
     fn table_decoding_picks_the_list_of_most_frames() {
-        for number in 0..360 {
+        for number in 0..1500 {
             let frame = Frame::numbered(32, number);
-            let kind = KINDS[number as usize % KINDS.len()];
             let otherwise = [Kind::Ceiling, Kind::Level, Kind::Tied, Kind::Random];
+            if otherwise.contains(&Kind::numbered(number)) {
+                continue;
+            }
             let picked = doubtful_places(&frame.columns, frame.doubtful.len());
-            assert!(
-                otherwise.contains(&kind) || picked == frame.doubtful,
-                "{number}"
-            );
+            let blank = blank_places(&frame.columns);
+            let picks = |place: &u8| blank.contains(place) != picked.contains(place);
+            assert!(frame.doubtful.iter().all(picks), "{number}");
+            assert_eq!(picked.len(), frame.doubtful.len());
         }
+    }
+
+    /// Each kind at each rate comes with each number of blank places, from none to one too many.
+    #[test]
+    fn numbers_go_round_the_blank_places() {
+        let mut seen = std::collections::BTreeSet::new();
+        let mut doubtful = 0;
+        for number in 0..26 * 28 {
+            let frame = Frame::numbered(36, number);
+            let blank = blank_places(&frame.columns);
+            let kind = Kind::numbered(number);
+            let round = number as usize / 26;
+            let (limit, all) = (blank_limit(frame.rate), blank.len() == PLACES);
+            let blanks = round % 2 * (1 + round / 2 % (limit + 1));
+            assert!(blank.len() == blanks || kind == Kind::Level && all);
+            seen.insert((number % 26, blanks));
+            doubtful += u32::from(blank.iter().any(|place| frame.doubtful.contains(place)));
+        }
+        assert_eq!(seen.len(), 13 * (15 + 5));
+        assert!(doubtful >= 100, "{doubtful}");
+    }
+
+    /// "More than 13 blanks at rate 39, more than 3 at rate 49" are refused. With fewer, no doubt and
+    /// at most T wrong places the sent codeword comes back, with more none is near.
+    #[test]
+    fn kinds_answer_with_blank_places_as_without() {
+        for rate in RATES {
+            for blanks in 0..=blank_limit(rate) + 1 {
+                for number in 0..20 {
+                    let made = |kind| {
+                        let mut random = Random::new(37, number);
+                        let frame = faded(kind, rate, 0, blanks, &mut random);
+                        assert_eq!(blank_places(&frame.columns).len(), blanks);
+                        decoded(&frame)
+                    };
+                    if blanks > blank_limit(rate) {
+                        for kind in PLANTED.into_iter().chain([Kind::Valid, Kind::Random]) {
+                            assert_eq!(made(kind), Err(Refusal::TooBlank));
+                        }
+                        continue;
+                    }
+                    for kind in [Kind::Valid, Kind::Wrong, Kind::Ceiling] {
+                        assert!(made(kind).is_ok());
+                    }
+                    assert_eq!(made(Kind::Beyond), Err(Refusal::NoneNear));
+                    for kind in PLANTED {
+                        let margin = made(kind).unwrap().margin;
+                        assert_eq!(margin.is_none(), kind == Kind::UnevenPair);
+                    }
+                    assert_eq!(made(Kind::EqualPair).unwrap().margin, Some(0));
+                }
+            }
+        }
+    }
+
+    /// Fifteen costs are equal, and the gap is zero or one.
+    #[test]
+    fn level_frames_have_columns_that_are_nearly_blank() {
+        let (mut nearly, mut with_gap, mut all) = (0, 0, 0);
+        for number in 0..200 {
+            let frame = frame(Kind::Level, 39, 0, &mut Random::new(38, number));
+            if frame.columns.iter().all(is_blank) {
+                all += 1;
+                continue;
+            }
+            for column in &frame.columns {
+                let alike = |cost: &&u16| column.iter().filter(|c| c == cost).count();
+                assert!(!is_blank(column));
+                if column.iter().any(|cost| alike(&cost) == 15) && gap(column) < 2 {
+                    nearly += 1;
+                    with_gap += u32::from(gap(column) > 0);
+                }
+            }
+        }
+        assert!((10..50).contains(&all), "{all}");
+        assert!(nearly >= 1000 && with_gap >= 200, "{nearly} {with_gap}");
     }
 
     #[test]
@@ -302,9 +474,10 @@ mod tests {
             assert!((5..60).contains(&near(Kind::Tied)));
             let lifted = answers(Kind::Ceiling, rate, 60);
             let pinned = lifted.iter().flatten().filter(|a| a.pinned > 0);
-            assert!(pinned.count() >= 10);
+            assert!(pinned.count() >= 5);
         }
     }
+
     /// Every sort of margin comes at both rates, and only with two test words that have a codeword
     /// within T, of eight doubtful places.
     #[test]
@@ -333,17 +506,12 @@ mod tests {
             assert!(those(&margins(Kind::Trio), |m| (1..=255).contains(&m)) >= 6);
         }
         for number in 0..390 {
-            let Frame {
-                rate,
-                doubtful,
-                columns,
-            } = Frame::numbered(34, number);
-            let finder = Finder::of_rate(rate).unwrap();
-            let Some(answer) = decode(finder, &columns, &doubtful) else {
+            let frame = Frame::numbered(34, number);
+            let Ok(answer) = decoded(&frame) else {
                 continue;
             };
             if answer.margin.is_some() {
-                assert_eq!((doubtful.len(), answer.tests), (DOUBT_LIMIT, 2));
+                assert_eq!((frame.doubtful.len(), answer.tests), (DOUBT_LIMIT, 2));
             }
         }
     }

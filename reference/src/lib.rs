@@ -5,8 +5,9 @@
 //! - the points of the curve are searched for, the monomials enumerated ([`curve`]);
 //! - encoding sums monomials, reading back solves linear equations ([`code`], [`linear`]);
 //! - the least Q is found by elimination over its terms ([`least`]);
-//! - each test word is decoded by itself, with an error locator ([`nearest`]); answer and margin are
-//!   the first two totals of all codewords found ([`decode`]);
+//! - each test word is decoded by itself, with an error locator and checks from which blank places
+//!   are eliminated ([`nearest`]); answer and margin are the first two totals of all codewords found
+//!   ([`decode`]);
 //! - a session keeps the row of the book, as its places arrived, and computes each answer from it; a
 //!   withdrawal takes an entry out of the row ([`session`]); a capture is written from the row sorted
 //!   by place ([`capture`]).
@@ -30,11 +31,12 @@
 //!
 //! # Comparing
 //!
-//! [`frames`] makes frames of thirteen kinds from a seed, [`pairs`] those between codewords at least
-//! distance, [`damage`] captures with faults, [`arrivals`] five sorts of order in which places
-//! arrive. The binary `compare` runs them in two ways. It counts the frames with a margin, the
-//! captures written after each sort of order and the withdrawals of each sort, and fails where they
-//! are too few to try it ([`margins`], [`written`], [`withdrawals`]).
+//! [`frames`] makes frames of thirteen kinds from a seed, each with every number of blank places,
+//! [`pairs`] those between codewords at least distance, [`damage`] captures with faults, [`arrivals`]
+//! five sorts of order in which places arrive. The binary `compare` runs them in two ways. It counts
+//! the frames with blank places and with a margin, the captures written after each sort of order and
+//! the withdrawals of each sort, and fails where they are too few to try it ([`blanks`], [`margins`],
+//! [`written`], [`withdrawals`]).
 //!
 //! Calls that cross as numbers and byte slices are linked: with the feature `proved`, and with
 //! `MODEM_LIB_DIR` naming the folder of `libmodem.a`, `compare code` runs the trials of
@@ -58,6 +60,7 @@
 //! [`channel`] and draws curves ([`plot`]).
 
 pub mod arrivals;
+pub mod blanks;
 pub mod call_lists;
 pub mod calls;
 pub mod capture;

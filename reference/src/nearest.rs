@@ -1,23 +1,33 @@
 //! The codeword within T of one word, by an error locator and linear solving.
 //!
 //! - [`Finder`]: a code with the checks that elimination computes once for it.
-//! - [`Finder::nearest`]: the codeword within T of a word, or none.
+//! - [`Finder::unblanked`]: the places that are not blank, with what elimination computes once for a
+//!   frame; none where too many are blank.
+//! - [`Unblanked::nearest`]: the codeword that differs from a word in at most T of them, or none.
 //!
-//! Let f be a function of order at most M that differs from the word t in at most T places. The
-//! functions of order at most T + 6 have dimension above T, so one of them, E ≠ 0, is zero at all
-//! these places, and E·t is there and everywhere the word of N = E·f, of order at most T + 6 + M.
+//! Of the 64 places b are blank. Let f be a function of order at most M that differs from the word t
+//! in at most T of the others. The functions of order at most T + 6 have dimension above T, so one of
+//! them, E ≠ 0, is zero where they differ, and at every place that is not blank E·t is N = E·f, a
+//! function of order at most T + 6 + M.
 //!
-//! Conversely take any E ≠ 0 of order at most T + 6 whose product with t is the word of some N of
-//! order at most T + 6 + M. Then E·f − N is zero wherever f and t agree, in 64 − T places or more,
-//! and has fewer zeros than that if it isn't zero, since T + 6 + M < 64 − T. So E·f = N: where E is
-//! not zero, f agrees with t. The zeros of E are at most T + 6, fewer than the least distance
-//! 64 − M, so the symbols of f there are determined by the code's checks. Whatever is found that
-//! way is a codeword, and its differences from t are counted.
+//! Conversely take any E ≠ 0 of order at most T + 6 whose product with t is, at the places that are
+//! not blank, some N of order at most T + 6 + M. Then E·f − N is zero wherever f and t agree there, in
+//! 64 − b − T places or more, and has fewer zeros than that if it isn't zero, since
+//! 2T + b < 64 − M − 6. So E·f = N: where E is not zero, f agrees with t. The zeros of E, at most
+//! T + 6, and the blank places are fewer than the least distance 64 − M, so the symbols of f there are
+//! determined by the code's checks. Whatever is found that way is a codeword, and its differences
+//! from t are counted.
+//!
+//! Which words are such an N at the places that are not blank is said by the combinations of N's
+//! checks that are zero at the blank ones: the blank places are eliminated from these checks (the
+//! checks of the punctured code).
 
+use std::borrow::Cow;
 use std::sync::OnceLock;
 
 use crate::code::Code;
 use crate::curve::{monomials, GENUS, PLACES};
+use crate::field;
 use crate::linear::Span;
 use crate::refusal::Refusal;
 use crate::row::{Row, LANES};
@@ -32,37 +42,52 @@ pub struct Near {
 /// Finds near codewords of one code.
 pub struct Finder<'a> {
     code: &'a Code,
-    /// The monomials that a locator is a sum of, each with what the key equation makes of it.
-    locator_terms: Vec<LocatorTerm>,
+    /// The key equation of each T, up to the one without blank places.
+    keys: Vec<Key>,
+    /// The terms of a locator where no place is blank.
+    whole: Vec<LocatorTerm>,
     /// Lane r of entry p is check r of the code at place p.
     check_columns: Vec<Row>,
     /// The checks of the code.
     checks: Vec<Row>,
 }
 
-/// A monomial of order at most T + 6.
+/// What a locator is made of, and what its product with a word has to pass, with one T.
+struct Key {
+    /// The monomials of order at most T + 6.
+    monomials: Vec<Row>,
+    /// The checks of the functions of order at most T + 6 + M.
+    checks: Vec<Row>,
+}
+
+/// A monomial that a locator is a sum of.
+#[derive(Clone)]
 struct LocatorTerm {
     values: Row,
-    /// Its values times each check of the functions of order at most T + 6 + M.
+    /// Its values times each check of the key equation.
     checked: Vec<Row>,
+}
+
+/// The places of a code that are not blank, and what finds codewords by them.
+pub struct Unblanked<'a> {
+    finder: &'a Finder<'a>,
+    blank: Vec<usize>,
+    /// T, as the blank places leave it.
+    reach: usize,
+    locator_terms: Cow<'a, [LocatorTerm]>,
 }
 
 impl<'a> Finder<'a> {
     pub fn new(code: &'a Code) -> Finder<'a> {
-        let locator_order = code.reach + GENUS;
-        let product_checks = checks(&values_up_to(locator_order + code.top));
-        let locator_terms = values_up_to(locator_order).into_iter().map(|values| {
-            let checked = product_checks
-                .iter()
-                .map(|check| check.product(&values))
-                .collect();
-            LocatorTerm { values, checked }
-        });
+        let keys: Vec<Key> = (0..=code.reach)
+            .map(|reach| Key::new(code, reach))
+            .collect();
         let checks = checks(&code.monomials);
         let check_column = |place| Row::from_elements(checks.iter().map(|check| check.get(place)));
         Finder {
             code,
-            locator_terms: locator_terms.collect(),
+            whole: keys[code.reach].terms(&[]),
+            keys,
             check_columns: (0..PLACES).map(check_column).collect(),
             checks,
         }
@@ -77,14 +102,70 @@ impl<'a> Finder<'a> {
         Ok(finder.get_or_init(|| Finder::new(code)))
     }
 
-    /// The codeword that differs from the word in at most T places, if there is one.
+    /// All places but the blank ones; none where there is no T with so many blank.
+    pub fn unblanked(&self, blank: &[u8]) -> Option<Unblanked<'_>> {
+        let reach = self.code.reach_with(blank.len())?;
+        let blank: Vec<usize> = blank.iter().map(|place| usize::from(*place)).collect();
+        let locator_terms = if blank.is_empty() {
+            Cow::Borrowed(&self.whole[..])
+        } else {
+            Cow::Owned(self.keys[reach].terms(&blank))
+        };
+        Some(Unblanked {
+            finder: self,
+            blank,
+            reach,
+            locator_terms,
+        })
+    }
+
+    /// The word's differences from a codeword, if they can all lie at the locator's zeros.
+    fn errors_at_zeros(&self, word: &Row, locator: &Row) -> Option<Row> {
+        let mut span = Span::default();
+        for place in (0..PLACES).filter(|place| locator.get(*place) == 0) {
+            let dependent = span.add(place, self.check_columns[place]);
+            assert_eq!(
+                dependent, None,
+                "fewer places than the least distance are independent"
+            );
+        }
+        span.express(Row::from_elements(
+            self.checks.iter().map(|check| check.dot(word)),
+        ))
+    }
+}
+
+impl Key {
+    fn new(code: &Code, reach: usize) -> Key {
+        let locator_order = reach + GENUS;
+        Key {
+            monomials: values_up_to(locator_order),
+            checks: checks(&values_up_to(locator_order + code.top)),
+        }
+    }
+
+    /// The terms of a locator, with the checks that pass over the blank places.
+    fn terms(&self, blank: &[usize]) -> Vec<LocatorTerm> {
+        let checks = punctured(&self.checks, blank);
+        let term = |values: &Row| LocatorTerm {
+            values: *values,
+            checked: checks.iter().map(|check| check.product(values)).collect(),
+        };
+        self.monomials.iter().map(term).collect()
+    }
+}
+
+impl Unblanked<'_> {
+    /// The codeword that differs from the word in at most T of these places, if there is one. The
+    /// word's symbols at blank places count for nothing.
     pub fn nearest(&self, word: &Row) -> Option<Near> {
-        let locator = self.locator(word)?;
-        let errors = self.errors_at_zeros(word, &locator)?;
+        let locator = self.cleared(self.locator(word)?);
+        let errors = self.finder.errors_at_zeros(word, &locator)?;
         let mut codeword = *word;
         codeword.add(&errors);
-        let message = self.code.message(&codeword)?;
-        (errors.weight() <= self.code.reach).then_some(Near { message, codeword })
+        let message = self.finder.code.message(&codeword)?;
+        let differing = self.cleared(errors).weight();
+        (differing <= self.reach).then_some(Near { message, codeword })
     }
 
     /// The values of an E ≠ 0 whose product with the word passes the checks of N.
@@ -103,19 +184,13 @@ impl<'a> Finder<'a> {
         None
     }
 
-    /// The word's differences from a codeword, if they can all lie at the locator's zeros.
-    fn errors_at_zeros(&self, word: &Row, locator: &Row) -> Option<Row> {
-        let mut span = Span::default();
-        for place in (0..PLACES).filter(|place| locator.get(*place) == 0) {
-            let dependent = span.add(place, self.check_columns[place]);
-            assert_eq!(
-                dependent, None,
-                "fewer places than the least distance are independent"
-            );
+    /// The row with zeros at the blank places: there a codeword's symbols are unknown, and never
+    /// count "as differing".
+    fn cleared(&self, mut row: Row) -> Row {
+        for place in &self.blank {
+            row.set(*place, 0);
         }
-        span.express(Row::from_elements(
-            self.checks.iter().map(|check| check.dot(word)),
-        ))
+        row
     }
 }
 
@@ -140,9 +215,27 @@ fn checks(words: &[Row]) -> Vec<Row> {
     (0..LANES).filter_map(dependence).collect()
 }
 
+/// The combinations of the checks that are zero at the blank places: at each of these one check is
+/// taken out, and its multiples off the others.
+fn punctured(checks: &[Row], blank: &[usize]) -> Vec<Row> {
+    let mut checks = checks.to_vec();
+    for place in blank {
+        let Some(at) = checks.iter().position(|check| check.get(*place) != 0) else {
+            continue;
+        };
+        let taken = checks.swap_remove(at);
+        let taken = taken.scaled(field::inverse(taken.get(*place)));
+        for check in &mut checks {
+            check.add_scaled(check.get(*place), &taken);
+        }
+    }
+    checks
+}
+
 #[cfg(test)]
 mod tests {
     use super::*;
+    use crate::frames::some_places;
     use crate::random::Random;
 
     const RATES: [u64; 2] = [39, 49];
@@ -151,17 +244,26 @@ mod tests {
         (0..code.symbols).map(|_| random.symbol()).collect()
     }
 
-    fn with_errors(word: &Row, count: usize, random: &mut Random) -> Row {
+    /// Any symbols at the blank places, and wrong ones at so many of the others.
+    fn damaged(word: &Row, blank: &[u8], wrong: usize, random: &mut Random) -> Row {
         let mut damaged = *word;
-        for place in random.shuffled(0..PLACES).into_iter().take(count) {
+        for place in blank {
+            damaged.set(usize::from(*place), random.symbol());
+        }
+        let others = (0..PLACES).filter(|place| !blank.contains(&(*place as u8)));
+        for place in random.shuffled(others).into_iter().take(wrong) {
             damaged.set(place, random.other_symbol(word.get(place)));
         }
         damaged
     }
 
-    fn distance(a: &Row, b: &Row) -> usize {
+    /// How many places that are not blank the words differ in.
+    fn distance(a: &Row, b: &Row, blank: &[u8]) -> usize {
         let mut difference = *a;
         difference.add(b);
+        for place in blank {
+            difference.set(usize::from(*place), 0);
+        }
         difference.weight()
     }
 
@@ -177,17 +279,81 @@ mod tests {
         }
     }
 
+    /// The checks of a code with the symbols at some places left out: as many as the length that is
+    /// left exceeds the dimension.
+    #[test]
+    fn punctured_checks_are_zero_at_blank_places_and_pass_what_is_there() {
+        let mut random = Random::new(14, 0);
+        for rate in RATES {
+            let code = Code::of_rate(rate).unwrap();
+            let checks = checks(&code.monomials);
+            for blanks in (0..=code.blank_limit()).cycle().take(60) {
+                let blank = some_places(blanks, &mut random);
+                let places: Vec<usize> = blank.iter().map(|place| usize::from(*place)).collect();
+                let punctured = punctured(&checks, &places);
+                assert_eq!(punctured.len(), PLACES - code.symbols - blanks);
+                let mut span = Span::default();
+                for (number, check) in punctured.iter().enumerate() {
+                    assert!(places.iter().all(|place| check.get(*place) == 0));
+                    assert_eq!(span.add(number, *check), None);
+                    for word in &code.monomials {
+                        let any = damaged(word, &blank, 0, &mut random);
+                        assert_eq!(check.dot(&any), 0);
+                    }
+                }
+            }
+        }
+    }
+
+    /// With each number of blank places, whatever stands there.
     #[test]
     fn up_to_t_errors_are_always_repaired() {
         let mut random = Random::new(10, 0);
         for rate in RATES {
             let code = Code::of_rate(rate).unwrap();
             let finder = Finder::of_rate(rate).unwrap();
-            for round in 0..4000 {
-                let message = random_message(code, &mut random);
-                let codeword = code.codeword(&message);
-                let word = with_errors(&codeword, round % (code.reach + 1), &mut random);
-                assert_eq!(finder.nearest(&word), Some(Near { message, codeword }));
+            for blanks in 0..=code.blank_limit() {
+                let reach = code.reach_with(blanks).unwrap();
+                let rounds = if blanks == 0 { 4000 } else { 500 };
+                for round in 0..rounds {
+                    let message = random_message(code, &mut random);
+                    let codeword = code.codeword(&message);
+                    let blank = some_places(blanks, &mut random);
+                    let word = damaged(&codeword, &blank, round % (reach + 1), &mut random);
+                    let unblanked = finder.unblanked(&blank).unwrap();
+                    assert_eq!(unblanked.nearest(&word), Some(Near { message, codeword }));
+                }
+            }
+        }
+    }
+
+    /// Thirteen consecutive places, or all those of three x and one more, are as good as any others.
+    #[test]
+    fn thirteen_blank_places_and_none_wrong_are_repaired_at_rate_39() {
+        let mut random = Random::new(15, 0);
+        let code = Code::of_rate(39).unwrap();
+        let finder = Finder::of_rate(39).unwrap();
+        for first in 0..PLACES as u8 {
+            let mut blank: Vec<u8> = (first..first + 13).map(|place| place % 64).collect();
+            blank.sort_unstable();
+            let message = random_message(code, &mut random);
+            let codeword = code.codeword(&message);
+            let word = damaged(&codeword, &blank, 0, &mut random);
+            let unblanked = finder.unblanked(&blank).unwrap();
+            assert_eq!(unblanked.nearest(&word), Some(Near { message, codeword }));
+            let word = damaged(&codeword, &blank, 1, &mut random);
+            assert_eq!(unblanked.nearest(&word), None);
+        }
+    }
+
+    #[test]
+    fn too_many_blank_places_leave_no_t() {
+        for (rate, limit) in [(39, 13), (49, 3)] {
+            let finder = Finder::of_rate(rate).unwrap();
+            let all: Vec<u8> = (0..PLACES as u8).collect();
+            for blanks in 0..=PLACES {
+                let unblanked = finder.unblanked(&all[..blanks]);
+                assert_eq!(unblanked.is_some(), blanks <= limit);
             }
         }
     }
@@ -201,44 +367,73 @@ mod tests {
             let finder = Finder::of_rate(rate).unwrap();
             for round in 0..4000 {
                 let codeword = code.codeword(&random_message(code, &mut random));
-                let count = code.reach + 1 + round % 8;
-                let word = with_errors(&codeword, count, &mut random);
-                if let Some(near) = finder.nearest(&word) {
+                let blanks = round / 8 % (code.blank_limit() + 1);
+                let blank = some_places(blanks, &mut random);
+                let reach = code.reach_with(blanks).unwrap();
+                let word = damaged(&codeword, &blank, reach + 1 + round % 8, &mut random);
+                if let Some(near) = finder.unblanked(&blank).unwrap().nearest(&word) {
                     assert_ne!(near.codeword, codeword);
                     assert_eq!(near.codeword, code.codeword(&near.message));
-                    assert!(distance(&near.codeword, &word) <= code.reach);
+                    assert!(distance(&near.codeword, &word, &blank) <= reach);
                 }
             }
         }
     }
 
-    /// At rate 49 a near codeword differs in one place at most: 961 words are tried.
+    /// The words that differ from this one in at most T places, of those that are not blank.
+    fn within(word: &Row, blank: &[u8], reach: usize) -> Vec<Row> {
+        let change = |words: Vec<Row>, places: &[u8]| -> Vec<Row> {
+            let changes = places
+                .iter()
+                .flat_map(|p| (0..16).map(move |s| (usize::from(*p), s)));
+            let changes: Vec<(usize, u8)> = changes.collect();
+            let changed = words.iter().flat_map(|word| {
+                changes.iter().map(move |(place, symbol)| {
+                    let mut changed = *word;
+                    changed.set(*place, *symbol);
+                    changed
+                })
+            });
+            changed.collect()
+        };
+        let filled = blank
+            .iter()
+            .fold(vec![*word], |words, place| change(words, &[*place]));
+        let others: Vec<u8> = (0..PLACES as u8)
+            .filter(|place| !blank.contains(place))
+            .collect();
+        (0..reach).fold(filled, |words, _| change(words, &others))
+    }
+
+    /// At rate 49 a near codeword differs in one place at most, and in any blank ones: 16,000 words
+    /// are tried at most.
     #[test]
-    fn rate_49_agrees_with_trying_every_change_of_one_place() {
+    fn rate_49_agrees_with_trying_every_change() {
         let mut random = Random::new(12, 0);
         let code = Code::of_rate(49).unwrap();
         let finder = Finder::of_rate(49).unwrap();
-        let mut found = [0; 2];
-        for round in 0..200 {
-            let codeword = code.codeword(&random_message(code, &mut random));
-            let word = with_errors(&codeword, [0, 1, 2, 3, 9][round % 5], &mut random);
-            let changes = (0..PLACES).flat_map(|place| (0..16).map(move |symbol| (place, symbol)));
-            let near: Vec<Row> = changes
-                .filter_map(|(place, symbol)| {
-                    let mut changed = word;
-                    changed.set(place, symbol);
-                    code.message(&changed).map(|_| changed)
-                })
-                .collect();
-            let answer = finder.nearest(&word).map(|near| near.codeword);
-            assert_eq!(answer, near.first().copied());
-            assert!(near.iter().all(|changed| Some(*changed) == answer));
-            found[usize::from(answer.is_some())] += 1;
+        for blanks in 0..=3 {
+            let reach = code.reach_with(blanks).unwrap();
+            let mut found = [0; 2];
+            for round in 0..[200, 15, 100, 20][blanks] {
+                let codeword = code.codeword(&random_message(code, &mut random));
+                let blank = some_places(blanks, &mut random);
+                let wrong = [0, 1, 2, 3, 9][round % 5];
+                let word = damaged(&codeword, &blank, wrong, &mut random);
+                let mut near = within(&word, &blank, reach);
+                near.retain(|changed| code.message(changed).is_some());
+                let answer = finder.unblanked(&blank).unwrap().nearest(&word);
+                let answer = answer.map(|near| near.codeword);
+                assert_eq!(answer, near.first().copied());
+                assert!(near.iter().all(|changed| Some(*changed) == answer));
+                found[usize::from(answer.is_some())] += 1;
+            }
+            assert!(found[0] >= 4 && found[1] >= 3, "{found:?}");
         }
-        assert!(found[0] >= 40 && found[1] >= 80);
     }
 
-    /// Codes small enough to try all messages, with their own large T.
+    /// Codes small enough to try all messages, with their own large T and with any number of blank
+    /// places.
     #[test]
     fn small_codes_agree_with_trying_every_message() {
         let mut random = Random::new(13, 0);
@@ -255,20 +450,29 @@ mod tests {
                 })
                 .collect();
             let mut found = [0; 2];
-            for round in 0..60 {
+            for round in 0..180 {
                 let sent = all[random.below(all.len())];
-                let errors = code.reach + 3 - round % 7;
-                let word = with_errors(&sent, errors, &mut random);
+                let limit = code.blank_limit();
+                let blanks = match round {
+                    0..60 => 0,
+                    60..65 => limit,
+                    _ => random.between(1, limit),
+                };
+                let blank = some_places(blanks, &mut random);
+                let reach = code.reach_with(blanks).unwrap();
+                let errors = (reach + 3).saturating_sub(round % 7);
+                let word = damaged(&sent, &blank, errors, &mut random);
                 let near: Vec<&Row> = all
                     .iter()
-                    .filter(|c| distance(c, &word) <= code.reach)
+                    .filter(|c| distance(c, &word, &blank) <= reach)
                     .collect();
                 assert!(near.len() <= 1);
-                let answer = finder.nearest(&word).map(|near| near.codeword);
+                let answer = finder.unblanked(&blank).unwrap().nearest(&word);
+                let answer = answer.map(|near| near.codeword);
                 assert_eq!(answer.as_ref(), near.first().copied());
                 found[usize::from(answer.is_some())] += 1;
             }
-            assert!(found[0] >= 20 && found[1] >= 30);
+            assert!(found[0] >= 60 && found[1] >= 90, "{found:?}");
         }
     }
 }

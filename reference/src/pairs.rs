@@ -2,6 +2,7 @@
 //!
 //! - [`pair`]: a frame that has two near codewords, or nearly; [`between`]: of any two codewords.
 //! - [`Gaps`]: how far their totals are apart; [`Planted::apart`]: by a number given.
+//! - [`Planted::faded`]: the frame with blank places.
 //! - [`trio`]: a frame with a third codeword, at least distance from both.
 //!
 //! Two codewords differ in 64 − M places or more, 20 at rate 39 and 10 at rate 49. If both are near,
@@ -10,14 +11,18 @@
 //! the other the second symbol there, and they are at least distance apart. A third near codeword
 //! would have to differ from both in the doubtful places, with one of the same two symbols: there is
 //! none as long as eight places are the most that can be doubtful. With twelve there can be one.
+//!
+//! With b blank places 2T + b is 12 or 13 at rate 39 and 2 or 3 at rate 49, the larger where b is odd.
+//! So two near codewords differ at every blank place, or, where b is odd, at all but one of the blank
+//! and doubtful ones.
 
 use crate::code::Code;
 use crate::curve::PLACES;
-use crate::frames::{column, random_codeword, Frame, DOUBTFUL_GAP, SETTLED_GAP};
+use crate::frames::{blank_column, column, random_codeword, Frame, DOUBTFUL_GAP, SETTLED_GAP};
 use crate::light::{light_pair, lightest};
 use crate::random::Random;
 use crate::row::Row;
-use crate::soft::{best, total, CEILING, DOUBT_LIMIT};
+use crate::soft::{best, is_blank, total, CEILING, DOUBT_LIMIT};
 
 /// With wide gaps those of doubtful places are at most this, those of settled ones larger.
 const WIDE_DOUBTFUL_GAP: usize = 30_000;
@@ -66,6 +71,40 @@ impl Planted {
         self.codewords.iter().map(total).collect()
     }
 
+    /// So many places become blank: half of them where the first codeword is wrong and the second is
+    /// not, and half the other way round, so that whichever of the two is near stays so with the T
+    /// that is left, and the other does not become near. An odd one, and those for which there is no
+    /// such place, are any others, doubtful ones first if that is asked for and last if not.
+    pub fn faded(mut self, blanks: usize, doubtful: bool, random: &mut Random) -> Planted {
+        let wrong = [0, 1].map(|number| random.shuffled(self.wrong(number)));
+        let halves = wrong
+            .iter()
+            .flat_map(|places| places.iter().take(blanks / 2));
+        let mut blank: Vec<usize> = halves.copied().collect();
+        let others = (0..PLACES).filter(|place| !wrong.concat().contains(place));
+        let mut others = random.shuffled(others);
+        others.sort_by_key(|place| self.is_doubtful(*place) != doubtful);
+        blank.extend(others.iter().take(blanks - blank.len()));
+        for place in blank {
+            self.frame.columns[place] = blank_column(random);
+        }
+        self
+    }
+
+    fn is_doubtful(&self, place: usize) -> bool {
+        self.frame.doubtful.contains(&(place as u8))
+    }
+
+    /// The settled places where the first two codewords differ and one of them is wrong.
+    fn wrong(&self, number: usize) -> Vec<usize> {
+        let [first, second] = [0, 1].map(|number| &self.codewords[number]);
+        let differ = |place: &usize| first.get(*place) != second.get(*place);
+        let wrong =
+            |place: &usize| best(&self.frame.columns[*place]) != self.codewords[number].get(*place);
+        let settled = (0..PLACES).filter(|place| !self.is_doubtful(*place));
+        settled.filter(differ).filter(wrong).collect()
+    }
+
     /// The second codeword's total becomes the first one's and `margin` more. One of the two gets
     /// higher costs at settled places where it is wrong, so the test words stay the same.
     pub fn apart(mut self, margin: u32) -> Planted {
@@ -85,7 +124,8 @@ impl Planted {
         } = &mut self.frame;
         for (place, column) in columns.iter_mut().enumerate() {
             let symbol = self.codewords[number].get(place);
-            if doubtful.contains(&(place as u8)) || best(column) == symbol {
+            let settled = !doubtful.contains(&(place as u8)) && !is_blank(column);
+            if !settled || best(column) == symbol {
                 continue;
             }
             let cost = &mut column[usize::from(symbol)];
@@ -228,9 +268,10 @@ impl Draft {
 #[cfg(test)]
 mod tests {
     use super::*;
-    use crate::decode::{decode, test_words, Answer};
+    use crate::decode::{decode, near_codewords, Answer};
     use crate::frames::RATES;
     use crate::nearest::Finder;
+    use crate::soft::blank_places;
 
     /// The planted codewords that are near, cheapest first, with their totals. Every codeword found
     /// is one of them.
@@ -241,16 +282,13 @@ mod tests {
             columns,
         } = &planted.frame;
         let finder = Finder::of_rate(*rate).unwrap();
-        let words = test_words(columns, doubtful);
-        let found: Vec<_> = words.iter().filter_map(|w| finder.nearest(w)).collect();
-        assert!(found
-            .iter()
-            .all(|n| planted.codewords.contains(&n.codeword)));
-        let with_totals = planted.codewords.iter().zip(planted.totals());
-        let mut near: Vec<(u32, Vec<u8>)> = with_totals
-            .filter_map(|(codeword, total)| {
-                let near = found.iter().find(|near| near.codeword == *codeword)?;
-                Some((total, near.message.clone()))
+        let (found, _) = near_codewords(finder, columns, doubtful).unwrap();
+        let found = found.into_iter().map(|(_, near)| near);
+        let mut near: Vec<(u32, Vec<u8>)> = found
+            .map(|near| {
+                let mut codewords = planted.codewords.iter().zip(planted.totals());
+                let planted = codewords.find(|(codeword, _)| near.codeword == **codeword);
+                (planted.unwrap().1, near.message)
             })
             .collect();
         near.sort();
@@ -260,7 +298,7 @@ mod tests {
     fn answer(planted: &Planted) -> Option<Answer> {
         let frame = &planted.frame;
         let finder = Finder::of_rate(frame.rate).unwrap();
-        decode(finder, &frame.columns, &frame.doubtful)
+        decode(finder, &frame.columns, &frame.doubtful).ok()
     }
 
     /// The answer is the cheapest of the near codewords, and its margin, which is returned, what the
@@ -295,6 +333,61 @@ mod tests {
             margins.sort_unstable();
             margins.dedup();
             assert!(margins.len() >= 30);
+        }
+    }
+
+    /// "Never counts as differing": the two codewords of a frame with blank places differ at these, at
+    /// all of them or at all but one.
+    #[test]
+    fn faded_pairs_have_a_margin_and_differ_at_blank_places() {
+        for rate in RATES {
+            let (mut doubtful, mut elsewhere) = (0, 0);
+            let limit = Code::of_rate(rate).unwrap().blank_limit();
+            for number in 0..20 * limit {
+                let mut random = Random::new(42, number as u64);
+                let blanks = 1 + number % limit;
+                let gaps = random.one_of(&[Gaps::Mixed, Gaps::Wide]);
+                let planted = pair(rate, reach(rate), gaps, &mut random);
+                let planted = planted.faded(blanks, random.once_in(2), &mut random);
+                assert_eq!(near(&planted).len(), 2);
+                assert!(margin(&planted).is_some());
+                let blank = blank_places(&planted.frame.columns);
+                assert_eq!(blank.len(), blanks);
+                let [first, second] = [0, 1].map(|n| planted.codewords[n]);
+                let differ = |place: &&u8| {
+                    let place = usize::from(**place);
+                    first.get(place) != second.get(place)
+                };
+                let differing = blank.iter().filter(differ).count();
+                assert!(differing >= blanks / 2 * 2);
+                elsewhere += u32::from(differing < blanks);
+                let of_doubtful = |place: &u8| planted.frame.doubtful.contains(place);
+                doubtful += u32::from(blank.iter().any(of_doubtful));
+            }
+            assert!(doubtful >= 5 && elsewhere >= 5, "{doubtful} {elsewhere}");
+        }
+    }
+
+    #[test]
+    fn faded_pairs_are_uneven_or_apart_as_without_blank_places() {
+        for rate in RATES {
+            let limit = Code::of_rate(rate).unwrap().blank_limit();
+            for blanks in 0..=limit {
+                for seed in [43, 44, 45] {
+                    let mut random = Random::new(seed, blanks as u64);
+                    let odd = random.once_in(2);
+                    let planted = pair(rate, reach(rate) + 1, Gaps::Mixed, &mut random);
+                    let planted = planted.faded(blanks, odd, &mut random);
+                    assert_eq!(margin(&planted), None);
+                    assert_eq!(answer(&planted).unwrap().total, planted.totals()[1]);
+                    if blanks + 2 <= limit {
+                        let planted = pair(rate, reach(rate), Gaps::Mixed, &mut random);
+                        let planted = planted.faded(blanks, odd, &mut random).apart(64_000);
+                        assert_eq!(blank_places(&planted.frame.columns).len(), blanks);
+                        assert_eq!(margin(&planted), Some(64_000));
+                    }
+                }
+            }
         }
     }
 

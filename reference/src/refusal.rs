@@ -1,6 +1,6 @@
 //! "Refusals, by who can cause them."
 //!
-//! - [`Refusal`]: the twelve refusals; [`Refusal::number`] is the number that documents 01 and 02
+//! - [`Refusal`]: the thirteen refusals; [`Refusal::number`] is the number that documents 01 and 02
 //!   give them.
 //! - [`number`]: the number a call returns, 0 where it is accepted.
 
@@ -30,6 +30,8 @@ pub enum Refusal {
     Version = 10,
     /// "11 size or length wrong"
     Length = 11,
+    /// "12: more than 13 blanks at rate 39, more than 3 at rate 49"
+    TooBlank = 12,
     /// "13: the place is not taken", which a withdrawal asks for.
     NotTaken = 13,
 }

@@ -12,7 +12,7 @@ use crate::decode::{decode, REPORT_BYTES};
 use crate::least::{least, INTERPOLANT_BYTES};
 use crate::nearest::Finder;
 use crate::refusal::Refusal;
-use crate::soft::{best, Column, Columns, DOUBT_LIMIT};
+use crate::soft::{best, is_blank, Column, Columns, DOUBT_LIMIT};
 
 /// "It holds the rate and doubtful list given at opening, and a row of places with their columns,
 /// empty at first."
@@ -106,25 +106,26 @@ impl Session {
 
     /// "Closing: 2 if a buffer has the wrong size; 7 if a place is missing; 9 if no codeword is
     /// near, by the row's columns and the doubtful list; else the answer's message and its report."
+    /// "A closing with no place missing but too many blank gives 12."
     pub fn close(&self, message: &mut [u8], report: &mut [u8]) -> Result<(), Refusal> {
         check_size(message, self.code().symbols)?;
         check_size(report, REPORT_BYTES)?;
         self.check_missing()?;
         let finder = Finder::of_rate(self.rate)?;
-        let answer = decode(finder, &self.columns(), &self.doubtful).ok_or(Refusal::NoneNear)?;
+        let answer = decode(finder, &self.columns(), &self.doubtful)?;
         message.copy_from_slice(&answer.message);
         report.copy_from_slice(&answer.report());
         Ok(())
     }
 
     /// "Interpolant reading: 2 for a wrong size; else the 82 bytes of the least Q for the row's
-    /// settled places."
+    /// settled places." A blank place "is not interpolated".
     pub fn read_interpolant(&self, out: &mut [u8]) -> Result<(), Refusal> {
         check_size(out, INTERPOLANT_BYTES)?;
         let settled = self
             .row
             .iter()
-            .filter(|(place, _)| !self.doubtful.contains(place));
+            .filter(|(place, column)| !self.doubtful.contains(place) && !is_blank(column));
         let settled: Vec<(u8, u8)> = settled
             .map(|(place, column)| (*place, best(column)))
             .collect();
@@ -161,6 +162,7 @@ pub fn check_doubtful(doubtful: &[u8]) -> Result<(), Refusal> {
 #[cfg(test)]
 mod tests {
     use super::*;
+    use crate::frames::frame_s;
 
     #[test]
     fn opening_checks_rate_then_list() {
@@ -212,7 +214,7 @@ mod tests {
     }
 
     #[test]
-    fn closing_checks_sizes_then_missing_places() {
+    fn closing_checks_sizes_then_missing_places_then_blank_ones() {
         let mut session = Session::open(39, &[]).unwrap();
         let (mut message, mut report) = ([9; 40], [9; REPORT_BYTES + 1]);
         assert_eq!(
@@ -230,6 +232,18 @@ mod tests {
         for place in 0..64 {
             assert_eq!(session.check_missing(), Err(Refusal::Missing));
             session.deliver(place, [0; 16]).unwrap();
+        }
+        assert_eq!(
+            session.close(&mut message, &mut report[1..]),
+            Err(Refusal::Size)
+        );
+        for place in 13..64 {
+            let refused = session.close(&mut message[1..], &mut report[1..]);
+            assert_eq!(refused, Err(Refusal::TooBlank));
+            session.withdraw(place).unwrap();
+            let refused = session.close(&mut message[1..], &mut report[1..]);
+            assert_eq!(refused, Err(Refusal::Missing));
+            session.deliver(place, frame_s(0)[place as usize]).unwrap();
         }
         assert_eq!((message, report), ([9; 40], [9; REPORT_BYTES + 1]));
         let before = session.clone();

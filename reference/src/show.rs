@@ -18,8 +18,7 @@ pub fn show(capture: &[u8]) -> String {
 fn lines(capture: &[u8]) -> Result<String, Refusal> {
     let session = open_capture(capture)?;
     let finder = Finder::of_rate(session.rate())?;
-    let answer = decode(finder, &session.columns(), session.doubtful());
-    let answer = answer.ok_or(Refusal::NoneNear)?;
+    let answer = decode(finder, &session.columns(), session.doubtful())?;
     let message: String = answer
         .message
         .iter()

@@ -1,7 +1,8 @@
-//! Columns of costs: best and second symbols, gaps, doubtful places, totals.
+//! Columns of costs: best and second symbols, gaps, blank and doubtful places, totals.
 //!
 //! - [`Column`], [`Columns`], [`column_of_bytes`], [`column_bytes`]: sixteen costs, and 64 of those.
 //! - [`best`], [`second`], [`gap`]: what a column says by itself.
+//! - [`is_blank`], [`blank_places`]: columns that say nothing.
 //! - [`doubtful_places`]: the places that table decoding doubles.
 //! - [`total`], [`pinned`], [`changed`]: what a codeword costs, and the counts of the report.
 
@@ -57,10 +58,23 @@ pub fn gap(column: &Column) -> u16 {
     column[usize::from(second(column))] - column[usize::from(best(column))]
 }
 
+/// "Columns with all sixteen costs equal": "such a place is blank." (An erasure.)
+pub fn is_blank(column: &Column) -> bool {
+    column.iter().all(|cost| *cost == column[0])
+}
+
+/// The blank places; the list rises.
+pub fn blank_places(columns: &Columns) -> Vec<u8> {
+    let blank = |place: &u8| is_blank(&columns[usize::from(*place)]);
+    (0..PLACES as u8).filter(blank).collect()
+}
+
 /// "Table decoding with doubt d (0 to 8) takes the d places of smallest gap. Equal gaps go to the
-/// lower place." The list rises.
+/// lower place." A blank place is "not chosen": they are the d of the others, or all of these where
+/// they are fewer. The list rises.
 pub fn doubtful_places(columns: &Columns, doubt: usize) -> Vec<u8> {
-    let mut places: Vec<u8> = (0..PLACES as u8).collect();
+    let unblanked = |place: &u8| !is_blank(&columns[usize::from(*place)]);
+    let mut places: Vec<u8> = (0..PLACES as u8).filter(unblanked).collect();
     places.sort_by_key(|place| (gap(&columns[usize::from(*place)]), *place));
     places.truncate(doubt);
     places.sort_unstable();
@@ -85,9 +99,10 @@ pub fn pinned(columns: &Columns, word: &[u8; PLACES]) -> u8 {
     costs(columns, word).filter(|cost| *cost == CEILING).count() as u8
 }
 
-/// "Changed places, where the answer is not the best symbol."
+/// "Changed places, where the answer is not the best symbol." A blank place "never counts as
+/// differing or changed".
 pub fn changed(columns: &Columns, word: &[u8; PLACES]) -> u8 {
-    let differs = |(column, symbol): &(&Column, &u8)| best(column) != **symbol;
+    let differs = |(column, symbol): &(&Column, &u8)| !is_blank(column) && best(column) != **symbol;
     columns.iter().zip(word).filter(differs).count() as u8
 }
 
@@ -103,14 +118,51 @@ mod tests {
         }
         assert_eq!(doubtful_places(&columns, 3), [1, 3, 5]);
         assert_eq!(doubtful_places(&columns, 0), []);
-        columns[40][3] = 9;
+        columns[40][3] = 8;
+        assert_eq!(doubtful_places(&columns, 3), [1, 3, 40]);
+        columns[40][5] = 8;
         assert_eq!(doubtful_places(&columns, 3), [1, 3, 40]);
     }
 
     #[test]
+    fn blank_means_all_sixteen_equal() {
+        for cost in [0, 1, 7, CEILING - 1, CEILING] {
+            assert!(is_blank(&[cost; SYMBOLS]));
+            for symbol in 0..SYMBOLS {
+                let mut column = [cost; SYMBOLS];
+                column[symbol] ^= 1;
+                assert!(!is_blank(&column));
+            }
+        }
+    }
+
+    /// A blank place has gap zero, and one with a single other cost may have.
+    #[test]
+    fn blank_places_are_not_chosen() {
+        let mut columns = [[9; SYMBOLS]; PLACES];
+        assert_eq!(blank_places(&columns), (0..64).collect::<Vec<u8>>());
+        assert_eq!(doubtful_places(&columns, 8), []);
+        for place in [2, 60, 61, 63] {
+            columns[place][15] = 10;
+        }
+        columns[60][4] = 1;
+        assert_eq!(doubtful_places(&columns, 8), [2, 60, 61, 63]);
+        assert_eq!(doubtful_places(&columns, 4), [2, 60, 61, 63]);
+        assert_eq!(doubtful_places(&columns, 3), [2, 61, 63]);
+        assert_eq!(doubtful_places(&columns, 1), [2]);
+        assert_eq!(blank_places(&columns).len(), 60);
+    }
+
+    #[test]
     fn totals_sum_the_ceiling_as_it_is() {
-        let columns = [[CEILING; SYMBOLS]; PLACES];
+        let mut columns = [[CEILING; SYMBOLS]; PLACES];
         let word = [1; PLACES];
+        assert_eq!(total(&columns, &word), 64 * 65535);
+        assert_eq!(pinned(&columns, &word), 64);
+        assert_eq!(changed(&columns, &word), 0);
+        for column in &mut columns {
+            column[9] -= 1;
+        }
         assert_eq!(total(&columns, &word), 64 * 65535);
         assert_eq!(pinned(&columns, &word), 64);
         assert_eq!(changed(&columns, &word), 64);

@@ -11,11 +11,13 @@ use std::io::{Read, Write};
 use std::process::{Command, Stdio};
 use std::thread;
 
+use crate::blanks::{Blanks, Faded};
 use crate::call_lists::call_list;
 use crate::calls::Call;
+use crate::capture::open_capture;
 use crate::damage::{capture_of, damaged};
 use crate::decode::{margin_of, REPORT_BYTES};
-use crate::frames::Frame;
+use crate::frames::{Frame, Kind};
 use crate::margins::Margins;
 use crate::random::Random;
 use crate::session::Session;
@@ -24,14 +26,16 @@ use crate::withdrawal_lists::withdrawal_list;
 use crate::withdrawals::{Since, Withdrawals};
 use crate::written::Written;
 
-/// How often each call was answered with each number; the withdrawals; and, from sessions without
-/// one, the captures written after each sort of order, and the margins, a frame each.
+/// How often each call was answered with each number; the withdrawals; what was made with blank
+/// places; and, from sessions without a withdrawal, the captures written after each sort of order,
+/// and the margins and blank places, a frame each.
 #[derive(Clone, Debug, Default, PartialEq, Eq)]
 pub struct Tally {
     /// By letter and number; a look-up's number is the part's length.
     answers: BTreeMap<(char, u16), usize>,
     pub written: Written,
     pub withdrawals: Withdrawals,
+    pub blanks: Blanks,
     pub margins: Margins,
 }
 
@@ -50,12 +54,25 @@ impl Tally {
         *self.answers.entry(answer).or_default() += 1;
     }
 
+    /// Counts a frame by the session and the answer of a closing that decoded it.
+    fn count_frame(&mut self, kind: Kind, session: &Session, answer: &[u8]) {
+        let number = answer[0];
+        let report = &answer[answer.len() - REPORT_BYTES..];
+        let margin = margin_of(report).filter(|_| number == 0);
+        if number == 0 {
+            self.margins.count(margin);
+        }
+        let faded = faded(kind, session);
+        self.blanks.count(&faded, number, margin);
+    }
+
     fn add(&mut self, other: Tally) {
         for (answer, times) in other.answers {
             *self.answers.entry(answer).or_default() += times;
         }
         self.written.add(other.written);
         self.withdrawals.add(other.withdrawals);
+        self.blanks.add(other.blanks);
         self.margins.add(other.margins);
     }
 }
@@ -74,10 +91,11 @@ impl fmt::Display for Tally {
         let Tally {
             written,
             withdrawals,
+            blanks,
             margins,
             ..
         } = self;
-        write!(out, "; {written}; {withdrawals}; {margins}")
+        write!(out, "; {written}; {withdrawals}; {blanks}; {margins}")
     }
 }
 
@@ -134,6 +152,7 @@ pub fn check_answers(frames: &[(u64, Vec<Call>)], answers: &[u8]) -> Result<Tall
                 format!("frame {number}, call {at} ({letter}): {difference}")
             })?;
             tally.count(call, &expected);
+            tally.blanks.count_call(call, &expected, &session);
             for event in since.events(call, expected[0], &before) {
                 withdrawals.count(event);
             }
@@ -145,10 +164,11 @@ pub fn check_answers(frames: &[(u64, Vec<Call>)], answers: &[u8]) -> Result<Tall
                 let places: Vec<u8> = session.row().iter().map(|(place, _)| *place).collect();
                 tally.written.count(&places, opened, bytes);
             }
-            closed = margin_at_closing(call, &expected).or(closed);
+            closed = Closed::at(call, &expected, &session).or(closed);
         }
-        if let Some(margin) = closed {
-            tally.margins.count(margin);
+        if let Some(Closed { session, answer }) = closed {
+            let kind = Kind::numbered(*number);
+            tally.count_frame(kind, &session, &answer);
         }
         tally.withdrawals.add_list(withdrawals);
     }
@@ -168,15 +188,25 @@ fn capture_after<'a>(call: &'a Call, answer: &[u8], before: Option<&'a [u8]>) ->
     }
 }
 
-/// The margin in the report of an accepted closing.
-fn margin_at_closing(call: &Call, answer: &[u8]) -> Option<Option<u32>> {
-    match call {
-        Call::Close { .. } if answer[0] == 0 => {
-            let report = &answer[answer.len() - REPORT_BYTES..];
-            Some(margin_of(report))
-        }
-        _ => None,
+/// The session and the answer of a closing that decoded: it was accepted, or refused with 9 or 12.
+struct Closed {
+    session: Session,
+    answer: Vec<u8>,
+}
+
+impl Closed {
+    fn at(call: &Call, answer: &[u8], session: &Session) -> Option<Closed> {
+        let decoded = call.letter() == b'X' && [0, 9, 12].contains(&answer[0]);
+        decoded.then(|| Closed {
+            session: session.clone(),
+            answer: answer.to_vec(),
+        })
     }
+}
+
+/// What is counted of the blank places of a session's frame.
+fn faded(kind: Kind, session: &Session) -> Faded {
+    Faded::of(kind, session.rate(), &session.columns(), session.doubtful())
 }
 
 /// A few bytes from the first that differs.
@@ -187,11 +217,34 @@ fn difference(expected: &[u8], got: &[u8]) -> String {
     format!("byte {same} of {length}: expected {expected}, got {got}")
 }
 
-/// The number of captures compared, and the margins shown for them.
+/// The number of captures compared, and the margins shown for them and the blank places in them.
 #[derive(Clone, Copy, Debug, Default, PartialEq, Eq)]
 pub struct Shown {
     pub captures: u64,
     pub margins: Margins,
+    pub blanks: Blanks,
+}
+
+impl Shown {
+    /// Counts the capture of a frame of a kind, by the lines shown for it.
+    fn count(&mut self, kind: Kind, capture: &[u8], lines: &str) {
+        self.captures += 1;
+        let margin = margin_shown(lines);
+        if let Some(margin) = margin {
+            self.margins.count(margin);
+        }
+        if let Ok(session) = open_capture(capture) {
+            let margin = margin.flatten();
+            self.blanks
+                .count(&faded(kind, &session), number_shown(lines), margin);
+        }
+    }
+
+    fn add(&mut self, other: Shown) {
+        self.captures += other.captures;
+        self.margins.add(other.margins);
+        self.blanks.add(other.blanks);
+    }
 }
 
 /// Runs a program on `count` captures of numbered frames, every second one damaged. What was
@@ -202,26 +255,28 @@ pub fn compare_shows(program: &[String], seed: u64, count: u64) -> Result<Shown,
         for number in numbers {
             let capture = numbered_capture(seed, number);
             let expected = show(&capture);
-            let got = output_of(program, capture)?;
+            let got = output_of(program, capture.clone())?;
             if got != expected.as_bytes() {
                 let got = String::from_utf8_lossy(&got).into_owned();
                 return Err(format!(
                     "capture {number}: expected {expected:?}, got {got:?}"
                 ));
             }
-            shown.captures += 1;
-            if let Some(margin) = margin_shown(&expected) {
-                shown.margins.count(margin);
-            }
+            shown.count(Kind::numbered(number / 2), &capture, &expected);
         }
         Ok(shown)
     })?;
     let mut sum = Shown::default();
     for shown in shares {
-        sum.captures += shown.captures;
-        sum.margins.add(shown.margins);
+        sum.add(shown);
     }
     Ok(sum)
+}
+
+/// The number in a line `refused N`, or 0.
+fn number_shown(lines: &str) -> u8 {
+    let number = lines.strip_prefix("refused ");
+    number.map_or(0, |number| number.trim_end().parse().expect("a number"))
 }
 
 /// The margin, or `-`, at the end of the first of two lines.
@@ -288,6 +343,7 @@ fn output_of(program: &[String], input: Vec<u8>) -> Result<Vec<u8>, String> {
 #[cfg(test)]
 mod tests {
     use super::*;
+    use crate::blanks::{OF_CAPTURES, OF_LISTS};
     use crate::calls::answer_all;
 
     const ALL: &str = "OCDRWXLU";
@@ -363,12 +419,45 @@ mod tests {
         );
     }
 
+    /// Every second round of frames has blank places: what the lists try with them comes in few
+    /// rounds, each number of them in all.
+    #[test]
+    fn blank_places_are_counted() {
+        let rounds = [0, 1, 3, 5, 7, 15, 27];
+        let numbers = rounds
+            .into_iter()
+            .flat_map(|round| 26 * round..26 * (round + 1));
+        let frames: Vec<_> = numbers
+            .map(|n| (n, chosen_calls("OCDRWXLU", 76, n)))
+            .collect();
+        let calls = frames.iter().flat_map(|(_, calls)| calls);
+        let answers = answer_all(&calls.flat_map(Call::bytes).collect::<Vec<u8>>()).unwrap();
+        let tally = check_answers(&frames, &answers).unwrap();
+        assert_eq!(tally.blanks.check(100, &OF_LISTS), Ok(()));
+        assert!((6 * 26..=7 * 26).contains(&tally.blanks.frames()));
+        assert!(tally.to_string().contains(&tally.blanks.to_string()));
+        assert!(tally.blanks.check(2800, &OF_LISTS).is_err());
+    }
+
+    #[test]
+    fn blank_places_of_captures_are_counted() {
+        let mut shown = Shown::default();
+        for number in 0..26 * 2 * 28 {
+            let capture = numbered_capture(77, number);
+            shown.count(Kind::numbered(number / 2), &capture, &show(&capture));
+        }
+        assert_eq!(shown.captures, 26 * 2 * 28);
+        assert_eq!(shown.blanks.check(26 * 28, &OF_CAPTURES), Ok(()));
+    }
+
     #[test]
     fn margins_are_read_from_what_is_shown() {
         assert_eq!(margin_shown("39 1 210 1 0 7 -\n0\n"), Some(None));
         assert_eq!(margin_shown("39 8 210 2 0 7 0\n0\n"), Some(Some(0)));
         assert_eq!(margin_shown("39 8 210 2 0 7 66000\n0\n"), Some(Some(66000)));
         assert_eq!(margin_shown("refused 9\n"), None);
+        assert_eq!(number_shown("39 8 210 2 0 7 66000\n0\n"), 0);
+        assert_eq!(number_shown("refused 12\n"), 12);
     }
 
     #[test]

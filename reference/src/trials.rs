@@ -4,14 +4,15 @@
 //!   or 0. [`REFERENCE`] and [`REFERENCE_TABLE`] are this package's.
 //! - [`encode_trial`], [`read_back_trial`], [`table_trial`]: one numbered call, right or damaged,
 //!   on a library; the [`Outcome`] is its number and every byte of its buffers.
-//! - [`compare`]: many trials on two libraries; the [`Tally`] of numbers and margins, or a
-//!   [`Difference`].
+//! - [`compare`]: many trials on two libraries; the [`Tally`] of numbers, margins and blank places, or
+//!   a [`Difference`].
 
 use std::thread;
 
+use crate::blanks::{Blanks, Faded};
 use crate::code::{encode, read_back, Code};
 use crate::decode::{decode_table, margin_of, table_of_columns, REPORT_BYTES};
-use crate::frames::{random_codeword, Frame, RATES};
+use crate::frames::{random_codeword, Frame, Kind, RATES};
 use crate::margins::Margins;
 use crate::random::Random;
 use crate::refusal::number;
@@ -45,30 +46,41 @@ pub struct Outcome {
     pub buffer: Vec<u8>,
     /// None where the call has no report.
     pub report: Option<Vec<u8>>,
+    /// The blank places of the table, where the call has one.
+    pub faded: Option<Faded>,
 }
+
+/// The numbers that these calls return are below this.
+const NUMBERS: usize = 13;
 
 /// A trial whose outcomes differ.
 #[derive(Clone, Debug)]
 pub struct Difference {
     pub trial: u64,
-    pub outcomes: [Outcome; 2],
+    pub outcomes: Box<[Outcome; 2]>,
 }
 
 /// One call of a library, the same for the same random stream.
 pub type Trial<L> = fn(&L, Random) -> Outcome;
 
-/// How often each number was returned, and the margins of the reports.
+/// How often each number was returned, the margins of the reports and the blank places of the tables.
 #[derive(Clone, Debug, Default)]
 pub struct Tally {
-    pub numbers: [u64; 12],
+    pub numbers: [u64; NUMBERS],
     pub margins: Margins,
+    pub blanks: Blanks,
 }
 
 impl Tally {
     fn count(&mut self, outcome: &Outcome) {
         self.numbers[usize::from(outcome.number)] += 1;
-        if let (0, Some(report)) = (outcome.number, &outcome.report) {
+        let report = outcome.report.as_ref().filter(|_| outcome.number == 0);
+        if let Some(report) = report {
             self.margins.count(margin_of(report));
+        }
+        if let Some(faded) = &outcome.faded {
+            let margin = report.and_then(|report| margin_of(report));
+            self.blanks.count(faded, outcome.number, margin);
         }
     }
 
@@ -77,6 +89,7 @@ impl Tally {
             *sum += times;
         }
         self.margins.add(other.margins);
+        self.blanks.add(other.blanks);
     }
 }
 
@@ -103,6 +116,7 @@ pub fn encode_trial(library: &Coding, mut random: Random) -> Outcome {
         number,
         buffer: frame,
         report: None,
+        faded: None,
     }
 }
 
@@ -124,12 +138,15 @@ pub fn read_back_trial(library: &Coding, mut random: Random) -> Outcome {
         number,
         buffer: message,
         report: None,
+        faded: None,
     }
 }
 
 /// Table decoding of one of the numbered frames.
 pub fn table_trial(decode_table: &DecodeTable, mut random: Random) -> Outcome {
-    let frame = Frame::numbered(random.number(), random.below(1 << 20) as u64);
+    let (seed, number) = (random.number(), random.below(1 << 20) as u64);
+    let frame = Frame::numbered(seed, number);
+    let faded = Faded::of(Kind::numbered(number), frame.rate, &frame.columns, &[]);
     let mut table = table_of_columns(&frame.columns);
     table.resize(perhaps_other(table.len(), &mut random), 0);
     let doubt = match random.below(20) {
@@ -145,6 +162,7 @@ pub fn table_trial(decode_table: &DecodeTable, mut random: Random) -> Outcome {
         number,
         buffer: message,
         report: Some(report),
+        faded: Some(faded),
     }
 }
 
@@ -204,7 +222,7 @@ pub fn compare<L: Sync>(
             if outcomes[0] != outcomes[1] {
                 return Err(Difference {
                     trial: number,
-                    outcomes,
+                    outcomes: Box::new(outcomes),
                 });
             }
             tally.count(&outcomes[0]);
@@ -226,11 +244,15 @@ pub fn compare<L: Sync>(
 #[cfg(test)]
 mod tests {
     use super::*;
+    use crate::blanks::OF_TABLES;
+    use crate::soft::{
+        best, column_bytes, column_of_bytes, gap, is_blank, Column, CEILING, COLUMN_BYTES,
+    };
 
     /// The numbers that come often when a library is compared with itself.
     fn reached<L: Sync>(trial: Trial<L>, library: &L, count: u64) -> Vec<usize> {
         let tally = compare(trial, [library, library], 60, count).unwrap();
-        (0..12)
+        (0..NUMBERS)
             .filter(|number| tally.numbers[*number] >= 10)
             .collect()
     }
@@ -241,7 +263,7 @@ mod tests {
         assert_eq!(reached(read_back_trial, &REFERENCE, 4000), [0, 1, 2, 3, 8]);
         assert_eq!(
             reached(table_trial, &REFERENCE_TABLE, 1200),
-            [0, 1, 2, 4, 9]
+            [0, 1, 2, 4, 9, 12]
         );
     }
 
@@ -282,6 +304,143 @@ mod tests {
         let both = [&REFERENCE, &REFERENCE];
         let tally = compare(encode_trial, both, 62, 40).unwrap();
         assert_eq!(tally.margins, Margins::default());
+    }
+
+    #[test]
+    fn trials_have_blank_places() {
+        let both = [&REFERENCE_TABLE, &REFERENCE_TABLE];
+        let tally = compare(table_trial, both, 64, 1500).unwrap();
+        assert_eq!(tally.blanks.check(1500, &OF_TABLES), Ok(()));
+        assert!(tally.numbers[12] >= 60);
+        let both = [&REFERENCE, &REFERENCE];
+        let tally = compare(encode_trial, both, 64, 40).unwrap();
+        assert_eq!(tally.blanks, Blanks::default());
+    }
+
+    /// A table with its columns changed.
+    fn changed(table: &[u8], change: fn(Column) -> Column) -> Vec<u8> {
+        let columns = table.chunks_exact(COLUMN_BYTES).map(column_of_bytes);
+        let mut bytes: Vec<u8> = columns.flat_map(|c| column_bytes(&change(c))).collect();
+        bytes.resize(table.len(), 0);
+        bytes
+    }
+
+    /// How many more places of a table are blank than may be.
+    fn beyond_limit(rate: u64, table: &[u8]) -> i64 {
+        let columns = table.chunks_exact(COLUMN_BYTES).map(column_of_bytes);
+        columns.filter(is_blank).count() as i64 - if rate == 39 { 13 } else { 3 }
+    }
+
+    /// Table decoding with one fault each in what it takes for blank or makes of it.
+    #[test]
+    fn wrong_treatment_of_blank_places_is_found() {
+        let symbol_0: DecodeTable = |rate, table, doubt, message, report| {
+            let table = changed(table, |mut column| {
+                if is_blank(&column) {
+                    column[15] ^= 1;
+                }
+                column
+            });
+            REFERENCE_TABLE(rate, &table, doubt, message, report)
+        };
+        let no_gap_is_blank: DecodeTable = |rate, table, doubt, message, report| {
+            let table = changed(table, |column| match gap(&column) {
+                0 => [column[usize::from(best(&column))]; 16],
+                _ => column,
+            });
+            REFERENCE_TABLE(rate, &table, doubt, message, report)
+        };
+        let fifteen_are_enough: DecodeTable = |rate, table, doubt, message, report| {
+            let table = changed(table, |mut column| {
+                if is_blank(
+                    &[&column[..15], &column[14..15]]
+                        .concat()
+                        .try_into()
+                        .unwrap(),
+                ) {
+                    column[15] = column[0];
+                }
+                column
+            });
+            REFERENCE_TABLE(rate, &table, doubt, message, report)
+        };
+        let zeros_alone: DecodeTable = |rate, table, doubt, message, report| {
+            let table = changed(table, |mut column| {
+                if is_blank(&column) && column[0] != 0 {
+                    column[15] ^= 1;
+                }
+                column
+            });
+            REFERENCE_TABLE(rate, &table, doubt, message, report)
+        };
+        let ceiling_is_not_blank: DecodeTable = |rate, table, doubt, message, report| {
+            let table = changed(table, |mut column| {
+                if column == [CEILING; 16] {
+                    column[15] -= 1;
+                }
+                column
+            });
+            REFERENCE_TABLE(rate, &table, doubt, message, report)
+        };
+        let limit_is_less: DecodeTable = |rate, table, doubt, message, report| {
+            let (mut sent, mut told) = (message.to_vec(), report.to_vec());
+            let number = REFERENCE_TABLE(rate, table, doubt, &mut sent, &mut told);
+            if number == 0 && beyond_limit(rate, table) == 0 {
+                return 12;
+            }
+            message.copy_from_slice(&sent);
+            report.copy_from_slice(&told);
+            number
+        };
+        let limit_is_more: DecodeTable = |rate, table, doubt, message, report| {
+            let number = REFERENCE_TABLE(rate, table, doubt, message, report);
+            match (number, beyond_limit(rate, table)) {
+                (12, 1) => 9,
+                _ => number,
+            }
+        };
+        let before_the_doubt: DecodeTable = |rate, table, doubt, message, report| {
+            let number = REFERENCE_TABLE(rate, table, doubt, message, report);
+            match (number, beyond_limit(rate, table)) {
+                (4, 1..) => 12,
+                _ => number,
+            }
+        };
+        let blanks_are_changed: DecodeTable = |rate, table, doubt, message, report| {
+            let number = REFERENCE_TABLE(rate, table, doubt, message, report);
+            if number == 0 {
+                let code = Code::of_rate(rate).unwrap();
+                let word = code.codeword(message).elements();
+                let columns = table.chunks_exact(COLUMN_BYTES).map(column_of_bytes);
+                let wrong = columns.zip(word).filter(|(c, s)| is_blank(c) && *s != 0);
+                report[7] += wrong.count() as u8;
+            }
+            number
+        };
+        let blanks_are_not_pinned: DecodeTable = |rate, table, doubt, message, report| {
+            let number = REFERENCE_TABLE(rate, table, doubt, message, report);
+            if number == 0 {
+                let columns = table.chunks_exact(COLUMN_BYTES).map(column_of_bytes);
+                report[6] -= columns.filter(|c| *c == [CEILING; 16]).count() as u8;
+            }
+            number
+        };
+        let libraries = [
+            symbol_0,
+            no_gap_is_blank,
+            fifteen_are_enough,
+            zeros_alone,
+            ceiling_is_not_blank,
+            limit_is_less,
+            limit_is_more,
+            before_the_doubt,
+            blanks_are_changed,
+            blanks_are_not_pinned,
+        ];
+        for (at, library) in libraries.iter().enumerate() {
+            let compared = compare(table_trial, [&REFERENCE_TABLE, library], 65, 1500);
+            assert!(compared.is_err(), "{at}");
+        }
     }
 
     /// Table decoding with one fault each in what the report says of the margin.

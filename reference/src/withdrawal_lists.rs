@@ -353,6 +353,11 @@ mod tests {
             session
         }
 
+        /// The session that holds the columns at the places that arrived, withdrawn since or not.
+        fn where_arrived(&self) -> Session {
+            self.where_so(|place| self.arrived.contains(&place))
+        }
+
         fn latest(&self) -> Option<usize> {
             let mut arrived = self.arrived.iter().rev().copied();
             arrived.find(|place| self.taken[*place])
@@ -409,6 +414,15 @@ mod tests {
 
     const COSTS_KEPT: Library = accepting(|held, place| held.taken[place] = false);
 
+    /// Reads the places that arrived: sixteen zeros at those that were withdrawn since.
+    const ARRIVED_READ: Library = Library {
+        seen: |held, letter| match letter {
+            b'R' => held.where_arrived(),
+            _ => (RIGHT.seen)(held, letter),
+        },
+        ..RIGHT
+    };
+
     impl Library {
         fn answer(&self, call: &Call, held: &mut Flagged) -> Vec<u8> {
             match call {
@@ -457,18 +471,16 @@ mod tests {
     }
 
     /// No call sees the costs of a place that is not taken, and a delivery overwrites all sixteen.
+    /// Sixteen zeros are blank, and no reading sees them.
     #[test]
-    fn costs_that_do_not_return_to_zero_are_not_found() {
-        for library in [RIGHT, COSTS_KEPT] {
+    fn costs_of_free_places_alone_are_not_found() {
+        for library in [RIGHT, COSTS_KEPT, ARRIVED_READ] {
             assert!(!lists().iter().any(|calls| library.is_found(calls)));
         }
     }
 
     #[test]
     fn columns_that_outlast_their_withdrawal_are_found() {
-        fn arrived(held: &Flagged, _: u8) -> Session {
-            held.where_so(|place| held.arrived.contains(&place))
-        }
         let old_column_delivered = Library {
             deliver: |held, place, column| {
                 let old = held.table.get(place).copied();
@@ -482,26 +494,19 @@ mod tests {
             ..COSTS_KEPT
         };
         let old_column_read = Library {
-            seen: |held, letter| match letter {
-                b'R' => arrived(held, letter),
-                _ => (RIGHT.seen)(held, letter),
-            },
-            ..COSTS_KEPT
-        };
-        let zeros_read = Library {
-            accepted: RIGHT.accepted,
-            ..old_column_read
+            accepted: COSTS_KEPT.accepted,
+            ..ARRIVED_READ
         };
         let not_missing_at_closing = Library {
             seen: |held, letter| match letter {
-                b'X' => arrived(held, letter),
+                b'X' => held.where_arrived(),
                 _ => (RIGHT.seen)(held, letter),
             },
             ..RIGHT
         };
         let not_missing_at_writing = Library {
             seen: |held, letter| match letter {
-                b'W' => arrived(held, letter),
+                b'W' => held.where_arrived(),
                 _ => (RIGHT.seen)(held, letter),
             },
             ..RIGHT
@@ -509,7 +514,6 @@ mod tests {
         assert_found(&[
             old_column_delivered,
             old_column_read,
-            zeros_read,
             not_missing_at_closing,
             not_missing_at_writing,
         ]);

@@ -10,7 +10,7 @@ use std::fmt;
 use crate::calls::Call;
 use crate::curve::PLACES;
 use crate::session::Session;
-use crate::soft::Column;
+use crate::soft::{is_blank, Column};
 
 /// What is counted. A call may be several of them.
 #[derive(Clone, Copy, Debug, PartialEq, Eq)]
@@ -23,6 +23,8 @@ pub enum Event {
     Doubtful,
     /// An accepted withdrawal of a place and column that a capture brought.
     Captured,
+    /// An accepted withdrawal of a blank place.
+    Blank,
     /// A withdrawal refused with 5.
     Unknown,
     /// A withdrawal refused with 13.
@@ -31,6 +33,10 @@ pub enum Event {
     Same,
     /// A withdrawn place delivered again with another column.
     Other,
+    /// A withdrawn place that was not blank delivered again as a blank one.
+    Faded,
+    /// A blank place withdrawn and delivered again as one that is not blank.
+    Cleared,
     /// An accepted reading while a withdrawn place is missing.
     Read,
     /// A closing or a writing refused with 7 while a withdrawn place is missing.
@@ -43,16 +49,27 @@ pub enum Event {
     Renewed,
 }
 
+impl Event {
+    /// Whether there are lists without it: those without doubtful places, or without blank ones.
+    fn is_seldom(self) -> bool {
+        let seldom = [Event::Doubtful, Event::Blank, Event::Faded, Event::Cleared];
+        seldom.contains(&self)
+    }
+}
+
 /// Each event with the words that follow its count, in the order of their numbers.
-const EVENTS: [(Event, &str); 13] = [
+const EVENTS: [(Event, &str); 16] = [
     (Event::Latest, "of the latest place"),
     (Event::Earlier, "of earlier ones"),
     (Event::Doubtful, "of doubtful ones"),
     (Event::Captured, "of captured ones"),
+    (Event::Blank, "of blank ones"),
     (Event::Unknown, "refused with 5"),
     (Event::Free, "refused with 13"),
     (Event::Same, "delivered again with the same column"),
     (Event::Other, "delivered again with another"),
+    (Event::Faded, "with a blank one"),
+    (Event::Cleared, "with another than a blank one"),
     (Event::Read, "readings without a withdrawn place"),
     (Event::Early, "closings and writings without one"),
     (Event::Closed, "closings after withdrawals"),
@@ -91,12 +108,15 @@ impl Withdrawals {
     }
 
     /// A line that says what is missing where a list has no accepted withdrawal, or an event came
-    /// less than once for each list; for one in six where the place is doubtful, as not every list
-    /// has doubtful places.
+    /// less than once for each list; for one in six where the place is doubtful or blank, as not every
+    /// list has such places.
     pub fn check(&self, lists: u64) -> Result<(), String> {
-        let wanted = |event| match event {
-            Event::Doubtful => lists / 6,
-            _ => lists,
+        let wanted = |event: Event| {
+            if event.is_seldom() {
+                lists / 6
+            } else {
+                lists
+            }
         };
         let enough = |(event, _): &(Event, &str)| self.events[*event as usize] >= wanted(*event);
         if self.lists >= lists && EVENTS.iter().all(enough) {
@@ -104,7 +124,7 @@ impl Withdrawals {
         }
         Err(format!(
             "too few withdrawals in {lists} lists: {self}; {lists} of each are wanted, and {} of \
-             doubtful ones",
+             doubtful and of blank ones",
             wanted(Event::Doubtful)
         ))
     }
@@ -150,15 +170,14 @@ impl Since {
             (Call::Withdraw { place }, _) => self.withdrawn(*place, before),
             (Call::Deliver { place, column }, 0) => match self.columns.get(place) {
                 None => Vec::new(),
-                Some(withdrawn) if withdrawn == column => vec![Event::Same],
-                Some(_) => vec![Event::Other],
+                Some(withdrawn) => delivered_again(withdrawn, column),
             },
             _ if self.nothing() => Vec::new(),
             (Call::ReadInterpolant { .. }, 0) if self.missing(before) => vec![Event::Read],
             (Call::Close { .. } | Call::WriteCapture { .. }, 7) if self.missing(before) => {
                 vec![Event::Early]
             }
-            (Call::Close { .. }, 0 | 9) => vec![Event::Closed],
+            (Call::Close { .. }, 0 | 9 | 12) => vec![Event::Closed],
             (Call::WriteCapture { .. }, 0) if self.columns.len() == PLACES => {
                 vec![Event::Written, Event::Renewed]
             }
@@ -184,6 +203,9 @@ impl Since {
         if self.captured && !self.columns.contains_key(&place) {
             events.push(Event::Captured);
         }
+        if is_blank(column) {
+            events.push(Event::Blank);
+        }
         self.columns.insert(place, *column);
         events
     }
@@ -192,6 +214,18 @@ impl Since {
     fn missing(&self, session: &Session) -> bool {
         let taken = |place: &u16| session.row().iter().any(|(p, _)| u16::from(*p) == *place);
         !self.columns.keys().all(taken)
+    }
+}
+
+/// What the delivery of a place is that had this column when it was withdrawn.
+fn delivered_again(withdrawn: &Column, column: &Column) -> Vec<Event> {
+    if withdrawn == column {
+        return vec![Event::Same];
+    }
+    match (is_blank(withdrawn), is_blank(column)) {
+        (false, true) => vec![Event::Other, Event::Faded],
+        (true, false) => vec![Event::Other, Event::Cleared],
+        _ => vec![Event::Other],
     }
 }
 
@@ -214,7 +248,15 @@ mod tests {
     const READING: Call = Call::ReadInterpolant { size: 82 };
     const WRITING: Call = Call::WriteCapture { size: 2118 };
 
+    /// A delivery of sixteen costs that rise.
     fn deliver(place: u16, cost: u16) -> Call {
+        Call::Deliver {
+            place,
+            column: std::array::from_fn(|symbol| cost + symbol as u16),
+        }
+    }
+
+    fn deliver_blank(place: u16, cost: u16) -> Call {
         Call::Deliver {
             place,
             column: [cost; 16],
@@ -275,6 +317,38 @@ mod tests {
     }
 
     #[test]
+    fn blank_places_are_told() {
+        let calls = [
+            open(),
+            deliver_blank(3, 5),
+            withdraw(3),
+            deliver_blank(3, 5),
+            withdraw(3),
+            deliver_blank(3, 6),
+            withdraw(3),
+            deliver(3, 6),
+            withdraw(3),
+            deliver_blank(3, 6),
+        ];
+        let expected = [
+            Event::Latest,
+            Event::Blank,
+            Event::Same,
+            Event::Latest,
+            Event::Blank,
+            Event::Other,
+            Event::Latest,
+            Event::Blank,
+            Event::Other,
+            Event::Cleared,
+            Event::Latest,
+            Event::Other,
+            Event::Faded,
+        ];
+        assert_eq!(events(&calls), expected);
+    }
+
+    #[test]
     fn closings_and_writings_after_withdrawals_are_told() {
         let closing = Call::Close {
             message: 39,
@@ -322,11 +396,11 @@ mod tests {
         assert_eq!(sum.check(3), Ok(()));
         let line = sum.check(4).unwrap_err();
         assert!(line.starts_with("too few withdrawals in 4 lists: withdrawals: 6 in 3 lists, 3 of"));
-        assert!(line.ends_with("; 4 of each are wanted, and 0 of doubtful ones"));
+        assert!(line.ends_with("; 4 of each are wanted, and 0 of doubtful and of blank ones"));
         for (event, _) in EVENTS {
             let mut few = sum;
             few.events[event as usize] -= 1;
-            assert_eq!(few.check(3).is_ok(), event == Event::Doubtful);
+            assert_eq!(few.check(3).is_ok(), event.is_seldom());
         }
         sum.add_list(Withdrawals::default());
         assert_eq!((sum.lists, sum.accepted()), (3, 6));

@@ -152,9 +152,10 @@ fn r5_rate_49_repairs_one_place() {
     assert_eq!(decoded(49, &frame_s(2), 0), Err(Refusal::NoneNear));
 }
 
+/// "The all-zero table of R6 is now refused."
 #[test]
 fn r6_a_table_of_zero_bytes() {
-    assert_eq!(decoded(39, &[[0; 16]; PLACES], 0), Ok(zero(0, 1, 0, 0)));
+    assert_eq!(decoded(39, &[[0; 16]; PLACES], 0), Err(Refusal::TooBlank));
 }
 
 #[test]

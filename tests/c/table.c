@@ -1,5 +1,5 @@
-/* Table decoding as the firmware calls it: bench sheet R1, R2 and R4 to R6, margins, every refusal
- * in its order, and guard bytes around each buffer. */
+/* Table decoding as the firmware calls it: bench sheet R1, R2 and R4 to R6, margins, blank places,
+ * every refusal in its order, and guard bytes around each buffer. */
 #include <stdio.h>
 #include <string.h>
 
@@ -129,15 +129,73 @@ static void bench_sheet(void)
     frame_s(2);
     refused(49, HERMITIAN_TABLE_BYTES, 0, 49, HERMITIAN_REPORT_BYTES, HERMITIAN_NONE_NEAR, "R5: S(2)");
     memset(table, 0, sizeof table);
-    answers(39, 0, 0, 1, 0, 0, ABSENT, "R6: a table of zero bytes");
-    answers(49, 0, 0, 1, 0, 0, ABSENT, "a table of zero bytes at the other rate");
+    refused(39, HERMITIAN_TABLE_BYTES, 0, 39, HERMITIAN_REPORT_BYTES, HERMITIAN_TOO_BLANK, "R6: a table of zero bytes");
+    refused(49, HERMITIAN_TABLE_BYTES, 0, 49, HERMITIAN_REPORT_BYTES, HERMITIAN_TOO_BLANK, "a table of zero bytes at the other rate");
     memset(table, 255, sizeof table);
-    answers(39, 0, 64u * 65535u, 1, 64, 0, ABSENT, "every cost at the ceiling");
+    refused(39, HERMITIAN_TABLE_BYTES, 0, 39, HERMITIAN_REPORT_BYTES, HERMITIAN_TOO_BLANK, "every cost at the ceiling");
+    for (size_t place = 0; place < HERMITIAN_PLACES; place++)
+        put_cost(place, 0, 65534);
+    answers(39, 0, 64u * 65534u, 1, 0, 0, ABSENT, "every cost but that of symbol 0 at the ceiling");
+    frame_s(6);
+    for (size_t place = 0; place < 60; place += 10)
+        put_cost(place, 0, 65535);
+    answers(39, 0, 6u * 65535u, 1, 6, 6, ABSENT, "six costs of the codeword at the ceiling");
     frame_of_two(5);
     answers(49, 8, 6, 2, 0, 1, 40, "two near codewords");
     frame_of_two(0);
     answers(49, 8, 6, 2, 0, 1, 0, "two near codewords of equal totals: zero is a margin");
     answers(49, 0, 6, 1, 0, 1, ABSENT, "the same without doubt: one is near");
+}
+
+/* Frame S(m) in which so many places, from place 1 on and none of those of S(7), cost the same for
+ * every symbol. */
+static void faded(size_t m, size_t blanks, unsigned cost)
+{
+    frame_s(m);
+    for (size_t place = 1; blanks > 0; place++)
+        if (place % 10 != 0) {
+            for (size_t symbol = 0; symbol < 16; symbol++)
+                put_cost(place, symbol, cost);
+            blanks--;
+        }
+}
+
+/* With b blank places T is the largest number with 2T + b < 14 at rate 39 and 2T + b < 4 at rate 49. */
+static void blank_places(void)
+{
+    faded(0, 13, 7);
+    answers(39, 0, 13u * 7u, 1, 0, 0, ABSENT, "13 blank places at rate 39");
+    faded(0, 13, 65535);
+    answers(39, 0, 13u * 65535u, 1, 13, 0, ABSENT, "13 blank places at the ceiling are pinned");
+    faded(1, 13, 7);
+    refused(39, HERMITIAN_TABLE_BYTES, 0, 39, HERMITIAN_REPORT_BYTES, HERMITIAN_NONE_NEAR, "13 blank places leave T = 0");
+    answers(39, 1, 13u * 7u + 30u, 1, 0, 1, ABSENT, "no blank place is picked as doubtful: place 0 is");
+    faded(2, 12, 7);
+    refused(39, HERMITIAN_TABLE_BYTES, 0, 39, HERMITIAN_REPORT_BYTES, HERMITIAN_NONE_NEAR, "12 blank places leave T = 0");
+    faded(1, 11, 7);
+    answers(39, 0, 11u * 7u + 30u, 1, 0, 1, ABSENT, "11 blank places leave T = 1");
+    faded(2, 11, 7);
+    refused(39, HERMITIAN_TABLE_BYTES, 0, 39, HERMITIAN_REPORT_BYTES, HERMITIAN_NONE_NEAR, "and not T = 2");
+    faded(6, 1, 0);
+    answers(39, 0, 180, 1, 0, 6, ABSENT, "one blank place leaves T = 6");
+    faded(6, 2, 0);
+    refused(39, HERMITIAN_TABLE_BYTES, 0, 39, HERMITIAN_REPORT_BYTES, HERMITIAN_NONE_NEAR, "two leave T = 5");
+    faded(0, 3, 7);
+    answers(49, 0, 3u * 7u, 1, 0, 0, ABSENT, "3 blank places at rate 49");
+    faded(1, 2, 7);
+    refused(49, HERMITIAN_TABLE_BYTES, 0, 49, HERMITIAN_REPORT_BYTES, HERMITIAN_NONE_NEAR, "2 blank places at rate 49 leave T = 0");
+    for (size_t m = 0; m <= 7; m += 7) {
+        faded(m, 14, 7);
+        refused(39, HERMITIAN_TABLE_BYTES, 0, 39, HERMITIAN_REPORT_BYTES, HERMITIAN_TOO_BLANK, "14 blank places at rate 39, near or not");
+        refused(39, HERMITIAN_TABLE_BYTES, 8, 39, HERMITIAN_REPORT_BYTES, HERMITIAN_TOO_BLANK, "the same with doubt");
+        refused(39, HERMITIAN_TABLE_BYTES, 9, 39, HERMITIAN_REPORT_BYTES, HERMITIAN_WRONG_DOUBT, "the doubt comes first");
+        faded(m, 4, 7);
+        refused(49, HERMITIAN_TABLE_BYTES, 0, 49, HERMITIAN_REPORT_BYTES, HERMITIAN_TOO_BLANK, "4 blank places at rate 49");
+        refused(49, HERMITIAN_TABLE_BYTES, 9, 49, HERMITIAN_REPORT_BYTES, HERMITIAN_WRONG_DOUBT, "the doubt comes first");
+    }
+    frame_s(0);
+    put_cost(5, 1, 0);
+    answers(39, 0, 0, 1, 0, 0, ABSENT, "a gap of zero is not blank");
 }
 
 /* Each wrong argument set beside those that a later check would refuse. */
@@ -167,6 +225,7 @@ static void refusals(void)
 int main(void)
 {
     bench_sheet();
+    blank_places();
     refusals();
     printf("table decoding from C: %u checks, %u failed\n", checks, failures);
     return failures == 0 ? 0 : 1;

@@ -20,7 +20,7 @@ use Rattle.code.specs.Rates.{mostRate}
 use Rattle.soft.specs.Column.{places, symbols}
 use Rattle.totals.specs.declared.margin.Margin.{Margin}
 use Rattle.totals.specs.Margin.{marginFrom, is-from, from-is}
-use Rattle.near.specs.Here.{reachOf, messageCost, answerOf, marginOf}
+use Rattle.near.specs.Here.{reachIn, messageCost, answerOf, marginOf}
 use Rattle.near.specs.Laws.{answer-word, tests-answerless}
 use Rattle.answers.specs.declared.Answer.{Answer}
 use Rattle.answers.specs.declared.Answer.the-variants.{NoneNear, Near}
@@ -28,7 +28,7 @@ use Rattle.answers.specs.declared.Found.{Found}
 use Rattle.answers.specs.Result.{totalIs, total-near, nothingFound, foundFor, foundOf, found-same}
 use Rattle.answers.specs.Nearest.{Nearest, nearest-nobody, nearest-somebody, nearest-margin, nearest-nothing, nearest-some}
 use Rattle.family.specs.Member.{m16}
-use Rattle.soft.specs.Total.{everywhere}
+use Rattle.soft.specs.Blank.{openAt}
 
 unfoldable pub counted : ℕ → Found → Found
 counted n f = record { answer = f .answer; message = f .message; codeword = f .codeword; tests = n }
@@ -80,7 +80,7 @@ module _ {k : ℕ} {columns : ℕ → List ℕ} where
       go : (a : Answer) → f .answer ≡ a → f ≡ foundFor k columns ts (answerOf k columns ts)
       go NoneNear e =
           let q = nearest-nobody n e in
-          found-same f nothingFound e (s .nothing e .0) (s .nothing e .1) (n .count ∙ tests-answerless m16 everywhere (reachOf k) k columns ts q)
+          found-same f nothingFound e (s .nothing e .0) (s .nothing e .1) (n .count ∙ tests-answerless m16 (openAt columns) (reachIn k columns) k columns ts q)
           ∙ sym (ap (foundFor k columns ts) q)
       go (Near t d) e =
           let h : totalIs (f .answer) ≡ some t = total-near e in
@@ -93,7 +93,7 @@ module _ (k : ℕ) (columns : ℕ → List ℕ) (ts : List (List ℕ)) (small : 
   -- the answer's message is read back from the front
   front : {m : List ℕ} → answerOf k columns ts ≡ some m → m ≡ take k (padded mostRate m)
   front {m} e =
-      let l : length m ≡ k = answer-word m16 everywhere (reachOf k) k columns ts e .size in
+      let l : length m ≡ k = answer-word m16 (openAt columns) (reachIn k columns) k columns ts e .size in
       sym (ap (λ n. take n (padded mostRate m)) (sym l) ∙ padded-take mostRate m (omega arith))
 
   pub found-nearest : Nearest k columns ts (foundOf k columns ts)
@@ -115,7 +115,7 @@ module _ (k : ℕ) (columns : ℕ → List ℕ) (ts : List (List ℕ)) (small : 
       go (some m) e =
           record {
             nothing = λ h. let z : _≡_ {A = ℕ} 0 1 = cc in absurd (omega arith);
-            word = λ t h. subst (Word symbols k) (front e) (answer-word m16 everywhere (reachOf k) k columns ts e);
+            word = λ t h. subst (Word symbols k) (front e) (answer-word m16 (openAt columns) (reachIn k columns) k columns ts e);
             behind = λ t h. ap (padded mostRate) (front e);
             encoded = λ t h. ap (encodeOf k) (front e);
             cost = λ t h. let q : t ≡ messageCost k columns m = cc in q ∙ ap (messageCost k columns) (front e);

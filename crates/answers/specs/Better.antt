@@ -21,7 +21,7 @@ use Rattle.lists.specs.Answers.{no-worse-same, beats, beats-yes, beats-no, bett
 use Rattle.lists.specs.Margin.{lesser}
 use Rattle.totals.specs.declared.margin.Margin.{Margin}
 use Rattle.totals.specs.Margin.{marginIs, marginFrom, is-from}
-use Rattle.near.specs.Here.{reachOf, testsNear, messageCost, answerOf, marginOf}
+use Rattle.near.specs.Here.{reachIn, testsNear, messageCost, answerOf, marginOf}
 use Rattle.near.specs.Laws.{tests-append, answer-append}
 use Rattle.near.specs.Runner.{margin-append, margin-first, margin-second, margin-left, margin-right}
 use Rattle.answers.specs.declared.Answer.{Answer}
@@ -32,7 +32,7 @@ use Rattle.answers.specs.Result.{resultFor, total-near}
 use Rattle.answers.specs.Nearest.{Nearest, nearest-nobody, nearest-somebody, nearest-margin, nearest-some}
 use Rattle.answers.specs.Answered.{counted, answering, Sound, sound-counted, sound-answering}
 use Rattle.family.specs.Member.{m16}
-use Rattle.soft.specs.Total.{everywhere}
+use Rattle.soft.specs.Blank.{openAt}
 
 unfoldable pub isBetter : ℕ → ℕ → List ℕ → ℕ → List ℕ → Bool
 isBetter k t m u n = ltb t u || (eqb t u && isBefore (take k m) (take k n))
@@ -85,10 +85,10 @@ module _ {k : ℕ} {columns : ℕ → List ℕ} {ts us : List (List ℕ)} {a b :
 
   both-answers : {o o′ : Option (List ℕ)} → answerOf k columns ts ≡ o → answerOf k columns us ≡ o′
       → answerOf k columns (ts ++ us) ≡ better cost o o′
-  both-answers e f = answer-append m16 everywhere (reachOf k) k columns ts us ∙ ap₂ (better cost) e f
+  both-answers e f = answer-append m16 (openAt columns) (reachIn k columns) k columns ts us ∙ ap₂ (better cost) e f
 
-  counts : a .tests + b .tests ≡ testsNear k (ts ++ us)
-  counts = ap₂ (λ x y. x + y) (p .count) (q .count) ∙ sym (tests-append m16 everywhere (reachOf k) k ts us)
+  counts : a .tests + b .tests ≡ testsNear k columns (ts ++ us)
+  counts = ap₂ (λ x y. x + y) (p .count) (q .count) ∙ sym (tests-append m16 (openAt columns) (reachIn k columns) k ts us)
 
   -- a finding with the total and the margin of its message among all test words
   kept : (f : Found) (t : ℕ) (o : Option ℕ) → answerOf k columns (ts ++ us) ≡ some (take k (f .message)) → t ≡ cost (take k (f .message))
@@ -141,15 +141,15 @@ module _ {k : ℕ} {columns : ℕ → List ℕ} {ts us : List (List ℕ)} {a b :
         go true y g h =
             kept a t (lesser (marginIs d) (some (u - t))) (answered true g) (P .1)
             (ap₂ lesser (nearest-margin p t d at) (ap₂ (λ (v w : ℕ). some (w - v)) (P .1) (Q .1))
-            ∙ sym (margin-first m16 everywhere (reachOf k) k columns ts us (Q .0) (beats-yes cost m n (subst T g tt))))
+            ∙ sym (margin-first m16 (openAt columns) (reachIn k columns) k columns ts us (Q .0) (beats-yes cost m n (subst T g tt))))
         go false true g h =
             kept b u (lesser (marginIs e) (some (t - u))) (answered false g) (Q .1)
             (ap₂ lesser (nearest-margin q u e bt) (ap₂ (λ (v w : ℕ). some (v - w)) (P .1) (Q .1))
-            ∙ sym (margin-second m16 everywhere (reachOf k) k columns ts us (P .0) (beats-yes cost n m (subst T h tt))))
+            ∙ sym (margin-second m16 (openAt columns) (reachIn k columns) k columns ts us (P .0) (beats-yes cost n m (subst T h tt))))
         go false false g h =
             kept b u (lesser (marginIs d) (marginIs e)) (answered false g) (Q .1)
             (ap₂ lesser (nearest-margin p t d at ∙ ap (marginOf k columns ts) (one g h)) (nearest-margin q u e bt)
-            ∙ sym (margin-append m16 everywhere (reachOf k) k columns ts us n))
+            ∙ sym (margin-append m16 (openAt columns) (reachIn k columns) k columns ts us n))
 
   pub better-joins : Nearest k columns (ts ++ us) (betterOf k a b)
   unfolding betterOf betterFor better
@@ -158,10 +158,10 @@ module _ {k : ℕ} {columns : ℕ → List ℕ} {ts us : List (List ℕ)} {a b :
       go : (x y : Answer) → a .answer ≡ x → b .answer ≡ y → Nearest k columns (ts ++ us) (counted (a .tests + b .tests) (betterFor k x y a b))
       go NoneNear y e f =
           let o = nearest-nobody p e in
-          alone b us q (both-answers o refl) (margin-right m16 everywhere (reachOf k) k columns ts us o)
+          alone b us q (both-answers o refl) (margin-right m16 (openAt columns) (reachIn k columns) k columns ts us o)
       go (Near t d) NoneNear e f =
           let o = nearest-nobody q f in
-          alone a ts p (both-answers refl o ∙ better-none cost (answerOf k columns ts)) (margin-left m16 everywhere (reachOf k) k columns ts us o)
+          alone a ts p (both-answers refl o ∙ better-none cost (answerOf k columns ts)) (margin-left m16 (openAt columns) (reachIn k columns) k columns ts us o)
       go (Near t d) (Near u g) e f = two-near e f
 
 pub sound-better : {k : ℕ} {columns : ℕ → List ℕ} {a b : Found} → Sound k columns a → Sound k columns b → Sound k columns (betterOf k a b)

@@ -13,7 +13,7 @@ use lib.ListN.{take}
 use Rattle.refusals.specs.Refusal.{accepted, noneNear}
 use Rattle.totals.specs.declared.margin.Margin.{Margin}
 use Rattle.totals.specs.Margin.{marginIs}
-use Rattle.near.specs.Here.{reachOf, testsNear, messageCost, answerOf, marginOf}
+use Rattle.near.specs.Here.{reachIn, testsNear, messageCost, answerOf, marginOf}
 use Rattle.near.specs.Laws.{tests-answerless}
 use Rattle.answers.specs.declared.Answer.{Answer}
 use Rattle.answers.specs.declared.Answer.the-variants.{NoneNear, Near}
@@ -22,10 +22,10 @@ use Rattle.near.specs.Result.{Result, refusedResult}
 use Rattle.near.specs.Result as Family
 use Rattle.answers.specs.Result.{resultIn, resultFor, resultOf, totalIs, nothingFound}
 use Rattle.family.specs.Member.{m16}
-use Rattle.soft.specs.Total.{everywhere}
+use Rattle.soft.specs.Blank.{openAt}
 
 pub record Nearest (k : ℕ) (columns : ℕ → List ℕ) (tests : List (List ℕ)) (f : Found) : Type 0 where
-  pub count : f .tests ≡ testsNear k tests
+  pub count : f .tests ≡ testsNear k columns tests
   pub result : resultIn k (f .answer) (f .message) ≡ resultOf k columns tests
 
 -- what a result says where a codeword is near
@@ -77,9 +77,9 @@ module _ {k : ℕ} {columns : ℕ → List ℕ} {ts : List (List ℕ)} where
   pub nearest-nothing : answerOf k columns ts ≡ none → Nearest k columns ts nothingFound
   unfolding nothingFound resultIn Family.resultOf Family.resultFor
   nearest-nothing e =
-      record { count = sym (tests-answerless m16 everywhere (reachOf k) k columns ts e); result = sym (ap (resultFor k columns ts) e) }
+      record { count = sym (tests-answerless m16 (openAt columns) (reachIn k columns) k columns ts e); result = sym (ap (resultFor k columns ts) e) }
 
-  pub nearest-some : (f : Found) (t : ℕ) (d : Margin) → f .answer ≡ Near t d → testsNear k ts ≡ f .tests
+  pub nearest-some : (f : Found) (t : ℕ) (d : Margin) → f .answer ≡ Near t d → testsNear k columns ts ≡ f .tests
       → answerOf k columns ts ≡ some (take k (f .message)) → t ≡ messageCost k columns (take k (f .message))
       → marginIs d ≡ marginOf k columns ts (take k (f .message)) → Nearest k columns ts f
   unfolding resultIn Family.resultOf Family.resultFor

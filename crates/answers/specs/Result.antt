@@ -18,11 +18,11 @@ use Rattle.lists.specs.Padded.{padded}
 use Rattle.code.specs.Encoding.{encodeOf}
 use Rattle.code.specs.Rates.{mostRate}
 use Rattle.soft.specs.Column.{places}
-use Rattle.soft.specs.Total.{everywhere}
+use Rattle.soft.specs.Blank.{openAt}
 use Rattle.totals.specs.declared.margin.Margin.{Margin}
 use Rattle.totals.specs.Margin.{marginIs, marginFrom}
 use Rattle.family.specs.Member.{m16}
-use Rattle.near.specs.Here.{reachOf, testsNear, messageCost, answerOf, marginOf}
+use Rattle.near.specs.Here.{reachIn, testsNear, messageCost, answerOf, marginOf}
 use Rattle.near.specs.Result.{Result, refusedResult}
 use Rattle.near.specs.Result as Family
 use Rattle.answers.specs.declared.Answer.{Answer}
@@ -42,10 +42,10 @@ unfolding totalIs
 total-near e = ap totalIs e
 
 abbrev pub resultFor : ℕ → (ℕ → List ℕ) → List (List ℕ) → Option (List ℕ) → Result
-resultFor k columns tests o = Family.resultFor m16 everywhere (reachOf k) k columns tests o
+resultFor k columns tests o = Family.resultFor m16 (openAt columns) (reachIn k columns) k columns tests o
 
 abbrev pub resultOf : ℕ → (ℕ → List ℕ) → List (List ℕ) → Result
-resultOf k columns tests = Family.resultOf m16 everywhere (reachOf k) k columns tests
+resultOf k columns tests = Family.resultOf m16 (openAt columns) (reachIn k columns) k columns tests
 
 unfoldable pub nothingFound : Found
 nothingFound = record { answer = NoneNear; message = replicate mostRate 0; codeword = replicate places 0; tests = 0 }
@@ -58,7 +58,7 @@ foundFor k columns tests (some m) =
       answer = Near (messageCost k columns m) (marginFrom (marginOf k columns tests m));
       message = padded mostRate m;
       codeword = encodeOf k m;
-      tests = testsNear k tests;
+      tests = testsNear k columns tests;
     }
 
 unfoldable pub foundOf : ℕ → (ℕ → List ℕ) → List (List ℕ) → Found

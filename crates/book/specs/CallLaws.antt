@@ -1,6 +1,7 @@
 -- What document 01 says of every call and every list of calls, each a theorem of the book of the modem of 64 places.
 --
 --   write-kept, refused-lent, refused-after   a refused call leaves its buffers, and the book, as they were
+--   only-closing-blank   no call but a closing gives 12; of openings Sentences (opening-never-blank) and CaptureCases (capture-never-blank) say the same
 --   Changes book call, only-changes   every call leaves the book as it was, or is an accepted delivery, and puts the place and its column at the end of the
 --                        row, or is an accepted withdrawal, and takes the place out of it
 --   withdrawn-after      an accepted withdrawal takes the place and its column out of the row
@@ -8,26 +9,29 @@
 --   Fits call, AllFit calls   what the types say of the arguments of a call, and of a list of calls: a delivery's column is a column
 --   after-costs          the row that such a list of calls leaves has such columns
 --   calls-show           so an accepted closing of an opened session after every list of calls shows the numbers of the message that it gives
-use mathlib.Core.Bool.{Bool, true, false}
+use mathlib.Core.Bool.{Bool, true, false, cond}
 use mathlib.Core.Path.{_≡_, refl, ap}
 use mathlib.Core.List.{List}
 use mathlib.Core.Logic.{_≢_, _⊎_, inl, inr}
 use Prim.Native.Nat.{ℕ}
 use native.Mathlib.Decide.{ℕ-discrete}
 use native.Mathlib.Omega.{arith}
-use lib.Dec.{eqb}
+use lib.Dec.{eqb, ltb}
 use lib.ListN.{length}
 use borrow.Author.Tests.{eqb-true, eqb-false}
-use Rattle.refusals.specs.Refusal.{accepted}
+use Rattle.refusals.specs.Refusal.{accepted, wrongSize, tooBlank}
 use Rattle.book.specs.Model.{modem64}
-use Rattle.book.specs.Book.{Book, newBook, Outcome}
+use Rattle.book.specs.Book.{Book, newBook, taken, Outcome}
 use Rattle.book.specs.Delivery.{withEntry}
+use Rattle.book.specs.Delivery as Delivery
 use Rattle.book.specs.Capture.{captureLength}
 use Rattle.book.specs.Writing.{Filled, writeOf}
+use Rattle.book.specs.Reading.{readingLength, readOf}
 use Rattle.book.specs.ReadingLaws.{read-kept}
 use Rattle.book.specs.ClosingLaws.{close-kept}
 use Rattle.book.specs.RowLaws.{deliver-accepted, deliver-only}
 use Rattle.book.specs.Withdrawal.{withoutPlace}
+use Rattle.book.specs.Withdrawal as Withdrawal
 use Rattle.book.specs.WithdrawalLaws.{withdraw-accepted, withdraw-only, withdraw-kept, withdraw-held, withdraw-costs}
 use Rattle.book.specs.RoundTrip.{write-size, write-missing, write-accepted}
 use Rattle.book.specs.Machine.{afterBy, part-held, Each, fit-nil, fit-cons}
@@ -35,7 +39,7 @@ use Rattle.book.specs.Calls.{Call, deliver, reading, writing, closing, w
 use Rattle.book.specs.Sentences.{deliver-kept, deliver-held}
 use Rattle.book.specs.Costs.{new-costs, deliver-costs}
 use Rattle.book.specs.Report.{closing-shows}
-use Rattle.book.specs.Here.{someMissing, deliverOf, withdrawOf, closeOf, DoubtfulList, RowColumns, IsColumn, ReportedIn}
+use Rattle.book.specs.Here.{places, someMissing, deliverOf, withdrawOf, closeOf, DoubtfulList, RowColumns, IsColumn, ReportedIn}
 
 -- ---- 'Only an accepted delivery changes the book.' Of withdrawals: 'an accepted one takes the place and its column out of the book's row'. 'A refused call
 -- leaves its buffers as they were.'
@@ -96,6 +100,31 @@ module _ (book : Book) where
           let d = withdraw-only modem64 book p n in
           inr (inr (p, refl, n, ap (λ (o : Outcome). o .book) (withdraw-accepted modem64 book p (d .0) (d .1))))
       go (no n) = inl (withdraw-kept modem64 book p n)
+
+-- ---- of 12, document 02: 'there a closing with no place missing but too many blank gives 12'
+
+-- two tests choose one of three answers; none of the three has the number n
+none-of-three : {A : Type 0} (number : A → ℕ) (n : ℕ) (a b : Bool) (x y z : A) → number (cond a (cond b x y) z) ≡ n
+    → eqb (number x) n ≡ false → eqb (number y) n ≡ false → eqb (number z) n ≡ false → ⊥
+none-of-three number n true true x y z e f g h = eqb-false (number x) n f e
+none-of-three number n true false x y z e f g h = eqb-false (number y) n g e
+none-of-three number n false b x y z e f g h = eqb-false (number z) n h e
+
+pub only-closing-blank : (book : Book) (call : Call) → answer book call .number ≡ tooBlank
+    → (message : List ℕ) × (report : List ℕ) × (call ≡ closing message report)
+unfolding answer Delivery.deliverOf readOf writeOf Withdrawal.withdrawOf
+only-closing-blank book (deliver p column) n =
+    absurd (none-of-three (λ (o : Outcome). o .number) tooBlank (ltb p places) (taken (book .row) p) _ _ _ n refl refl refl)
+only-closing-blank book (reading out) n =
+    let refused : Filled = record { number = wrongSize; bytes = out } in
+    absurd (none-of-three (λ (f : Filled). f .number) tooBlank (eqb (length out) readingLength) true _ refused refused n refl refl refl)
+only-closing-blank book (writing out) n =
+    absurd
+    (none-of-three (λ (f : Filled). f .number) tooBlank (eqb (length out) (captureLength (length (book .doubtful)))) (someMissing (book .row)) _ _ _ n
+    refl refl refl)
+only-closing-blank book (closing message report) n = (message, report, refl)
+only-closing-blank book (withdraw p) n =
+    absurd (none-of-three (λ (o : Outcome). o .number) tooBlank (ltb p places) (taken (book .row) p) _ _ _ n refl refl refl)
 
 -- ---- of a withdrawal: 'an accepted one takes the place and its column out of the book's row'
 

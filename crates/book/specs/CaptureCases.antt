@@ -10,14 +10,16 @@
 --   Fit bytes, capture-fit   an accepted capture passes every check, and its book is bookIn; capture-proper: so it opens as a proper book
 --   RowVerdict, Verdict  which check a row of records, or a capture, fails first, with the number that this gives; 0 if none
 --   verdict, verdict-only   every byte string has a verdict, and it has only one: the number that opening answers
+--   capture-never-blank  opening a capture never gives 12
 use mathlib.Core.Bool.{Bool, true, false}
 use mathlib.Core.Path.{_≡_, refl, sym, ap, _∙_, subst}
 use mathlib.Core.List.{List, [], _∷_, _++_}
+use mathlib.Core.Logic.{_≢_}
 use Prim.Native.Nat.{ℕ, _<_, _≤_}
 use native.Mathlib.Decide.{decLt}
 use native.Mathlib.Omega.{arith}
 use borrow.Author.Tests.{eq-eqb}
-use Rattle.refusals.specs.Refusal.{accepted, unknownRate, wrongDoubt, noPlace, placeTaken, wrongVersion, wrongLength}
+use Rattle.refusals.specs.Refusal.{accepted, unknownRate, wrongDoubt, noPlace, placeTaken, wrongVersion, wrongLength, tooBlank}
 use Rattle.code.specs.Encoding.{knownRate}
 use Rattle.book.specs.Model.{modem64}
 use Rattle.book.specs.Book.{Entry, Book, newBook, taken, Outcome}
@@ -138,6 +140,24 @@ verdict bytes =
     go true s true v true l true r true f =
         rw (open-checked bytes s v l, open-with (rateIn bytes) (listIn bytes) (recordsIn bytes) r f)
         (records s v l r f (row-verdict (newBook (rateIn bytes) (listIn bytes)) (recordsIn bytes)))
+
+-- 12 is no capture's number
+row-never-blank : {row entries : List Entry} {n : ℕ} → RowVerdict row entries n → n ≢ tooBlank
+row-never-blank all-accepted e = omega (arith, e)
+row-never-blank (above h) e = omega (arith, e)
+row-never-blank (repeated h t) e = omega (arith, e)
+row-never-blank (next h t v) e = row-never-blank v e
+
+pub capture-never-blank : (bytes : List ℕ) → openCaptureOf bytes .number ≢ tooBlank
+capture-never-blank bytes = go (verdict bytes)
+  where
+    go : {n : ℕ} → Verdict bytes n → n ≢ tooBlank
+    go (size-wrong s) e = omega (arith, e)
+    go (version s v) e = omega (arith, e)
+    go (length-wrong s v l) e = omega (arith, e)
+    go (rate s v l r) e = omega (arith, e)
+    go (list s v l r f) e = omega (arith, e)
+    go (records s v l r f w) e = row-never-blank w e
 
 pub verdict-only : (bytes : List ℕ) (n : ℕ) → Verdict bytes n → openCaptureOf bytes .number ≡ n
 unfolding BookOpening.refusedOpening newBook

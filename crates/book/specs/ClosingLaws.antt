@@ -1,28 +1,33 @@
 -- Closing, case by case.
 --
 --   fits-both, fits-of   the size check passes exactly if the message buffer has k bytes and the report its length
---   close-size, close-missing, close-decoded   the three cases of closing
---   decode-none, decode-some                   the two cases of decoding
+--   close-size, close-missing, close-decoded   the three cases of closing; close-too-blank: of the last, where too many places are blank
+--   decode-too-blank, decode-none, decode-some   the three cases of decoding; Decoded, decode-cases: it is one of them
+--   decode-blank-only    it gives 12 exactly where more places are blank than leave a T
 --   decode-report, close-report   an accepted call gives the report of the message that it gives
 --   Kept, decode-kept, close-kept   a refused call leaves its buffers as they were
 --   Sized, decode-sized, close-sized   no call changes a buffer's length
 use mathlib.Core.Bool.{Bool, true, false}
 use mathlib.Core.Path.{_≡_, refl, sym, ap, _∙_}
 use mathlib.Core.List.{List}
+use mathlib.Core.Logic.{_↔_}
 use mathlib.Core.Option.{Option, none, some}
-use Prim.Native.Nat.{ℕ}
+use Prim.Native.Nat.{ℕ, _<_, _≤_}
+use native.Mathlib.Decide.{decLe}
 use native.Mathlib.Omega.{arith}
 use lib.Dec.{eqb}
 use lib.ListN.{length}
-use borrow.Author.Tests.{eqb-true, eq-eqb}
+use borrow.Author.Tests.{eqb-true, eq-eqb, le-leb, lt-leb}
 use Rattle.lists.specs.Distinct.{and-left, and-right, and-both}
-use Rattle.refusals.specs.Refusal.{accepted, wrongSize, placeMissing, noneNear}
-use Rattle.soft.specs.TestWord.{testWords}
+use Rattle.refusals.specs.Refusal.{accepted, wrongSize, placeMissing, noneNear, tooBlank}
+use Rattle.lists.specs.Words.{Word}
 use Rattle.lists.specs.Answers.{Answers, answers-some, Found}
+use Rattle.soft.specs.Blank.{openAt, blanksOf}
+use Rattle.soft.specs.TestWord.{testWords}
 use Rattle.soft.specs.TotalLaws.{reportOf-length}
-use Rattle.near.specs.Near.{reachOf, near, messageCost}
+use Rattle.near.specs.Near.{blankLimit, near, messageCost}
+use Rattle.near.specs.Reach.{reachIn}
 use Rattle.near.specs.Laws.{near-answers}
-use Rattle.soft.specs.Total.{everywhere}
 use Rattle.book.specs.Model.{Model, places, width}
 use Rattle.book.specs.Book.{Book, someMissing}
 use Rattle.book.specs.Columns.{columnsOf}
@@ -53,52 +58,97 @@ refused-sized n message report = record { message-sized = refl; report-sized = r
 module _ (𝓓 : Model) where
   open Model 𝓓 using (member, wide)
 
+  -- how decoding ends
+  pub data Decoded (k : ℕ) (columns : ℕ → List ℕ) (doubtful message report : List ℕ) (c : Closed) : Type 0 where
+    blank : blankLimit member k < blanksOf (places 𝓓) columns → c ≡ refusedClosing tooBlank message report
+        → Decoded k columns doubtful message report c
+    far : blanksOf (places 𝓓) columns ≤ blankLimit member k → answerFor 𝓓 k columns doubtful ≡ none
+        → c ≡ refusedClosing noneNear message report → Decoded k columns doubtful message report c
+    found : {m : List ℕ} → blanksOf (places 𝓓) columns ≤ blankLimit member k → answerFor 𝓓 k columns doubtful ≡ some m → Word (width 𝓓) k m
+        → c ≡ record { number = accepted; message = m; report = reportFor 𝓓 k columns doubtful m } → Decoded k columns doubtful message report c
+
   pub report-length : (k : ℕ) (columns : ℕ → List ℕ) (doubtful m : List ℕ) → length (reportFor 𝓓 k columns doubtful m) ≡ reportLength 𝓓
   unfolding reportFor
   report-length k columns doubtful m = reportOf-length wide _ _ _ _ _
 
   module _ (k : ℕ) (columns : ℕ → List ℕ) (doubtful message report : List ℕ) where
-    pub decode-none : answerFor 𝓓 k columns doubtful ≡ none
-        → decodeOf 𝓓 k columns doubtful message report ≡ refusedClosing noneNear message report
-    unfolding decodeOf answered
-    decode-none e = rw e
+    pub decode-too-blank : blankLimit member k < blanksOf (places 𝓓) columns
+        → decodeOf 𝓓 k columns doubtful message report ≡ refusedClosing tooBlank message report
+    unfolding decodeOf
+    decode-too-blank h = rw (lt-leb (blanksOf (places 𝓓) columns) (blankLimit member k) h)
 
-    pub decode-some : {m : List ℕ} → answerFor 𝓓 k columns doubtful ≡ some m
-        → decodeOf 𝓓 k columns doubtful message report ≡ record { number = accepted; message = m; report = reportFor 𝓓 k columns doubtful m }
-    unfolding decodeOf answered
-    decode-some e = rw e
+    module _ (few : blanksOf (places 𝓓) columns ≤ blankLimit member k) where
+      pub decode-none : answerFor 𝓓 k columns doubtful ≡ none
+          → decodeOf 𝓓 k columns doubtful message report ≡ refusedClosing noneNear message report
+      unfolding decodeOf answered
+      decode-none e = rw (le-leb (blanksOf (places 𝓓) columns) (blankLimit member k) few, e)
+
+      pub decode-some : {m : List ℕ} → answerFor 𝓓 k columns doubtful ≡ some m
+          → decodeOf 𝓓 k columns doubtful message report ≡ record { number = accepted; message = m; report = reportFor 𝓓 k columns doubtful m }
+      unfolding decodeOf answered
+      decode-some e = rw (le-leb (blanksOf (places 𝓓) columns) (blankLimit member k) few, e)
+
+    -- one of the three
+    pub decode-cases : Decoded k columns doubtful message report (decodeOf 𝓓 k columns doubtful message report)
+    decode-cases =
+        go (decLe (blanksOf (places 𝓓) columns) (blankLimit member k)) (answerFor 𝓓 k columns doubtful) refl
+        (near-answers member (openAt columns) (reachIn member k columns) k columns (testWords (places 𝓓) columns doubtful))
+      where
+        go : Dec (blanksOf (places 𝓓) columns ≤ blankLimit member k) → (o : Option (List ℕ)) → answerFor 𝓓 k columns doubtful ≡ o
+            → Answers (messageCost member k columns)
+            (Found (width 𝓓) k (near member (openAt columns) (reachIn member k columns) k (testWords (places 𝓓) columns doubtful))) o
+            → Decoded k columns doubtful message report (decodeOf 𝓓 k columns doubtful message report)
+        go (no h) o e a = let l : blankLimit member k < blanksOf (places 𝓓) columns = omega arith in blank l (decode-too-blank l)
+        go (yes few) none e a = far few e (decode-none few e)
+        go (yes few) (some m) e a = found few e (answers-some a .word) (decode-some few e)
+
+    pub decode-blank-only : (decodeOf 𝓓 k columns doubtful message report .number ≡ tooBlank) ↔ (blankLimit member k < blanksOf (places 𝓓) columns)
+    decode-blank-only = go decode-cases
+      where
+        refused-with : (r : ℕ) → decodeOf 𝓓 k columns doubtful message report ≡ refusedClosing r message report
+            → decodeOf 𝓓 k columns doubtful message report .number ≡ r
+        refused-with r e = ap (λ (c : Closed). c .number) e ∙ refused-number r message report
+
+        go : Decoded k columns doubtful message report (decodeOf 𝓓 k columns doubtful message report)
+            → (decodeOf 𝓓 k columns doubtful message report .number ≡ tooBlank) ↔ (blankLimit member k < blanksOf (places 𝓓) columns)
+        go (blank h e) = (λ n. h, λ l. refused-with tooBlank e)
+        go (far few a e) = (λ n. absurd (omega (arith, refused-with noneNear e, n)), λ l. absurd (omega arith))
+        go (found few a word e) = (λ n. absurd (omega (arith, ap (λ (c : Closed). c .number) e, n)), λ l. absurd (omega arith))
 
     pub decode-kept : (decodeOf 𝓓 k columns doubtful message report .number ≡ accepted → ⊥)
         → Kept message report (decodeOf 𝓓 k columns doubtful message report)
-    decode-kept n = go (answerFor 𝓓 k columns doubtful) refl
+    decode-kept n = go decode-cases
       where
-        go : (o : Option (List ℕ)) → answerFor 𝓓 k columns doubtful ≡ o
+        go : Decoded k columns doubtful message report (decodeOf 𝓓 k columns doubtful message report)
             → Kept message report (decodeOf 𝓓 k columns doubtful message report)
-        go none e = rw (decode-none e) (refused-kept noneNear message report)
-        go (some m) e = absurd (n (ap (λ (c : Closed). c .number) (decode-some e)))
+        go (blank h e) = rw e (refused-kept tooBlank message report)
+        go (far few a e) = rw e (refused-kept noneNear message report)
+        go (found few a word e) = absurd (n (ap (λ (c : Closed). c .number) e))
 
     pub decode-report : decodeOf 𝓓 k columns doubtful message report .number ≡ accepted
         → decodeOf 𝓓 k columns doubtful message report .report ≡ reportFor 𝓓 k columns doubtful (decodeOf 𝓓 k columns doubtful message report .message)
-    decode-report n = go (answerFor 𝓓 k columns doubtful) refl
+    decode-report n = go decode-cases
       where
-        go : (o : Option (List ℕ)) → answerFor 𝓓 k columns doubtful ≡ o
+        not-refused : (r : ℕ) → decodeOf 𝓓 k columns doubtful message report ≡ refusedClosing r message report → r ≡ accepted
+        not-refused r e = sym (refused-number r message report) ∙ sym (ap (λ (c : Closed). c .number) e) ∙ n
+
+        go : Decoded k columns doubtful message report (decodeOf 𝓓 k columns doubtful message report)
             → decodeOf 𝓓 k columns doubtful message report .report ≡ reportFor 𝓓 k columns doubtful (decodeOf 𝓓 k columns doubtful message report .message)
-        go none e =
-            absurd (omega (arith, sym (refused-number noneNear message report) ∙ sym (ap (λ (c : Closed). c .number) (decode-none e)) ∙ n))
-        go (some m) e = rw (decode-some e)
+        go (blank h e) = absurd (omega (arith, not-refused tooBlank e))
+        go (far few a e) = absurd (omega (arith, not-refused noneNear e))
+        go (found few a word e) = rw e
 
     pub decode-sized : length message ≡ k → length report ≡ reportLength 𝓓 → Sized message report (decodeOf 𝓓 k columns doubtful message report)
-    decode-sized long whole-report =
-        go (answerFor 𝓓 k columns doubtful) refl (near-answers member everywhere (reachOf member k) k columns (testWords (places 𝓓) columns doubtful))
+    decode-sized long whole-report = go decode-cases
       where
-        go : (o : Option (List ℕ)) → answerFor 𝓓 k columns doubtful ≡ o
-            → Answers (messageCost member k columns) (Found (width 𝓓) k (near member everywhere (reachOf member k) k (testWords (places 𝓓) columns doubtful))) o
+        go : Decoded k columns doubtful message report (decodeOf 𝓓 k columns doubtful message report)
             → Sized message report (decodeOf 𝓓 k columns doubtful message report)
-        go none e a = rw (decode-none e) (refused-sized noneNear message report)
-        go (some m) e a =
-            rw (decode-some e)
+        go (blank h e) = rw e (refused-sized tooBlank message report)
+        go (far few a e) = rw e (refused-sized noneNear message report)
+        go (found {m = m} few a word e) =
+            rw e
             (record {
-              message-sized = answers-some a .word .size ∙ sym long;
+              message-sized = word .size ∙ sym long;
               report-sized = report-length k columns doubtful m ∙ sym whole-report;
             })
 
@@ -129,6 +179,12 @@ module _ (𝓓 : Model) where
         → closeOf 𝓓 book message report ≡ decodeOf 𝓓 (book .rate) (columnsOf 𝓓 (book .row)) (book .doubtful) message report
     unfolding closeOf
     close-decoded e m = rw (e, m)
+
+    pub close-too-blank : closingFits 𝓓 book message report ≡ true → someMissing 𝓓 (book .row) ≡ false
+        → blankLimit member (book .rate) < blanksOf (places 𝓓) (columnsOf 𝓓 (book .row))
+        → closeOf 𝓓 book message report ≡ refusedClosing tooBlank message report
+    close-too-blank e m h =
+        close-decoded e m ∙ decode-too-blank (book .rate) (columnsOf 𝓓 (book .row)) (book .doubtful) message report h
 
     pub close-kept : (closeOf 𝓓 book message report .number ≡ accepted → ⊥) → Kept message report (closeOf 𝓓 book message report)
     close-kept n = go (closingFits 𝓓 book message report) refl (someMissing 𝓓 (book .row)) refl

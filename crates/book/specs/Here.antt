@@ -120,6 +120,9 @@ decodeOf k columns doubtful message report = Closing.decodeOf modem64 k columns 
 abbrev pub closeOf : Book → List ℕ → List ℕ → Closed
 closeOf book message report = Closing.closeOf modem64 book message report
 
+abbrev pub blanksIn : Book → ℕ
+blanksIn book = Sentences.blanksIn modem64 book
+
 abbrev pub IsNear : Book → ℕ → List ℕ → Type 0
 IsNear book T m = Sentences.IsNear modem64 book T m
 
@@ -129,8 +132,8 @@ HasMargin book T m d = Sentences.HasMargin modem64 book T m d
 abbrev pub IsAnswer : Book → ℕ → Closed → Type 0
 IsAnswer book T c = Sentences.IsAnswer modem64 book T c
 
-abbrev pub Closes : Book → ℕ → Closed → Type 0
-Closes book T c = Sentences.Closes modem64 book T c
+abbrev pub Closes : Book → Closed → Type 0
+Closes book c = Sentences.Closes modem64 book c
 
 abbrev pub FewWrong : ℕ → (ℕ → List ℕ) → List ℕ → ℕ → List ℕ → Type 0
 FewWrong k columns doubtful T m = Repairs.FewWrong modem64 k columns doubtful T m

@@ -31,6 +31,7 @@ pub mod LookUpLaws
 pub mod Reading
 pub mod ReadingLaws
 pub mod ReadingSentences
+pub mod Bench
 pub mod AnyCalls
 pub mod Calls
 pub mod AlikeCalls

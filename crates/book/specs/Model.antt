@@ -1,22 +1,24 @@
 -- A modem of the family: what document 01 fixes for one. The book, what it answers and the laws of that are stated for every modem.
 --
 --   Model              its member of the family; the known rates, each of which can be worked with; the largest doubt, which is also the length of the
---                      longest doubtful list; the rate that a refused opening hands back, a known one; how many bytes the report has for each count of
---                      places; and that no count, total or number of test words is too large for its bytes
+--                      longest doubtful list, and as many places are there beside the blank ones that a known rate allows; the rate that a refused opening
+--                      hands back, a known one; how many bytes the report has for each count of places; and that no count, total or number of test
+--                      words is too large for its bytes
 --   places 𝓓, width 𝓓  how many places there are, and how many costs a column has: one for each symbol
 --   modem64            document 01's: GF(16) with w = 4, so 64 places and sixteen costs; rates 39 and 49, a doubt of at most 8, rate 39 after a refusal,
 --                      and a byte for each count
 use mathlib.Core.Bool.{Bool, true}
 use mathlib.Core.Path.{_≡_, refl}
-use Prim.Native.Nat.{ℕ, _*_, _^_, _<_, _≤_}
+use Prim.Native.Nat.{ℕ, _+_, _*_, _^_, _<_, _≤_}
 use native.Mathlib.Omega.{arith}
-use lib.Dec.{lit<, lit≤}
+use lib.Dec.{lit<}
 use Rattle.soft.specs.Column.{ceiling}
 use Rattle.soft.specs.Doubt as Doubt
 use Rattle.family.specs.Member.{Member, m16}
 use Rattle.family.specs.Member as Family
 use Rattle.code.specs.Encoding.{knownRate}
 use Rattle.code.specs.Rates.{known-bounds}
+use Rattle.near.specs.Near.{blankLimit}
 use Rattle.near.specs.Reach.{Workable}
 use Rattle.near.specs.Here as Near
 
@@ -25,7 +27,7 @@ pub record Model : Type 0 where
   pub known : ℕ → Bool
   pub workable : (k : ℕ) → known k ≡ true → Workable member k
   pub mostDoubt : ℕ
-  pub doubt-fits : mostDoubt ≤ Family.places member
+  pub doubt-fits : (k : ℕ) → known k ≡ true → mostDoubt + blankLimit member k ≤ Family.places member
   pub first : ℕ
   pub first-known : known first ≡ true
   pub wide : ℕ
@@ -45,6 +47,9 @@ module _ (𝓓 : Model) where
 pub known-workable : (k : ℕ) → knownRate k ≡ true → Workable m16 k
 known-workable k known = let b = known-bounds k known in Near.workable (omega (arith, b)) (omega (arith, b))
 
+pub known-doubt : (k : ℕ) → knownRate k ≡ true → Doubt.mostDoubt + blankLimit m16 k ≤ Family.places m16
+known-doubt k known = omega (arith, known-bounds k known, Near.blank-limit-is k, Near.m-is k)
+
 pub known-39 : knownRate 39 ≡ true
 unfolding knownRate
 known-39 = refl
@@ -56,7 +61,7 @@ modem64 =
       known = knownRate;
       workable = known-workable;
       mostDoubt = Doubt.mostDoubt;
-      doubt-fits = lit≤ tt;
+      doubt-fits = known-doubt;
       first = 39;
       first-known = known-39;
       wide = 1;

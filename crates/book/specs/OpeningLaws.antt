@@ -1,6 +1,6 @@
 -- Which rates and doubtful lists opening accepts, in document 01's words.
 --
---   Known rate T         a known rate of the modem, and T, its reach
+--   Known rate           a known rate of the modem
 --   DoubtfulList list    at most as many places as the largest doubt, all of them the modem's, strictly rising: each smaller than the next
 --   list-fits, fits-list the lists that pass the test
 --   list-short           they are no longer than the largest doubt
@@ -8,10 +8,10 @@
 --
 -- Of the modem of 64 places:
 --
---   Rate rate T          the two rates and their reach: T = 6 at rate 39, T = 1 at rate 49
+--   Rate rate            the two rates: 39 and 49
 --   rate-known, known-rate   the rates that pass the test
---   rate-reach           T is document 01's
---   rate-is              so each is a known rate with its reach
+--   reachAt, rate-reach  T without blank places: 6 at rate 39, 1 at rate 49
+--   mostBlank, rate-blanks   the most blank places: 13 at rate 39, 3 at rate 49; so many leave T = 0
 --   rate-orders          M is at least 43, so that the 82 bytes of a reading have room for the least Q
 use mathlib.Core.Bool.{true, _&&_}
 use mathlib.Core.Path.{_≡_, refl, sym, subst}
@@ -26,10 +26,11 @@ use borrow.Author.Tests.{lt-ltb, leb-true, le-leb}
 use Rattle.lists.specs.Distinct.{below, below-at, and-left, and-right, and-both}
 use Rattle.code.specs.Encoding.{knownRate}
 use Rattle.code.specs.Rates.{known-rates}
-use Rattle.near.specs.Near.{mOf, reachOf}
-use Rattle.near.specs.Here.{reaches}
+use Rattle.near.specs.Near.{mOf}
+use Rattle.near.specs.Reach.{reach-is}
+use Rattle.near.specs.Here.{blankLimit, IsReach, reaches, blank-limits}
 use Rattle.family.specs.Member.{m16}
-use Rattle.book.specs.Model.{Model, places, modem64}
+use Rattle.book.specs.Model.{Model, places, known-workable}
 use Rattle.book.specs.Opening.{risingFrom, rising, fitPlaces, fitDoubt}
 
 rising-of : (n : ℕ) (list : List ℕ) → (0 < length list → n ≤ getD list 0 0)
@@ -61,11 +62,10 @@ below-of n (p ∷ list) h =
     and-both (ltb p n) (below n list) (lt-ltb p n (h 0 (omega arith))) (below-of n list (λ i l. h (suc i) (omega arith)))
 
 module _ (𝓓 : Model) where
-  open Model 𝓓 using (member, known, mostDoubt)
+  open Model 𝓓 using (known, mostDoubt)
 
-  pub record Known (rate T : ℕ) : Type 0 where
-    pub known-rate : known rate ≡ true
-    pub reach : reachOf member rate ≡ T
+  abbrev pub Known : ℕ → Type 0
+  Known rate = known rate ≡ true
 
   pub record DoubtfulList (list : List ℕ) : Type 0 where
     pub short : length list ≤ mostDoubt
@@ -98,26 +98,44 @@ module _ (𝓓 : Model) where
 
 -- ---- the modem of 64 places
 
-pub data Rate : ℕ → ℕ → Type 0 where
-  rate-39 : Rate 39 6
-  rate-49 : Rate 49 1
+pub data Rate : ℕ → Type 0 where
+  rate-39 : Rate 39
+  rate-49 : Rate 49
 
-pub rate-known : {rate T : ℕ} → Rate rate T → knownRate rate ≡ true
+pub rate-known : {rate : ℕ} → Rate rate → knownRate rate ≡ true
 unfolding knownRate
 rate-known rate-39 = refl
 rate-known rate-49 = refl
 
-pub rate-reach : {rate T : ℕ} → Rate rate T → reachOf m16 rate ≡ T
-rate-reach rate-39 = reaches .1
-rate-reach rate-49 = reaches .3
+pub known-rate : (rate : ℕ) → knownRate rate ≡ true → Rate rate
+known-rate rate e = ⊎-elim (λ f. subst Rate (sym f) rate-39) (λ f. subst Rate (sym f) rate-49) (known-rates rate e)
 
-pub rate-orders : {rate T : ℕ} → Rate rate T → 43 ≤ mOf m16 rate
+-- 'T = 6 at rate 39, T = 1 at rate 49'
+unfoldable pub reachAt : {rate : ℕ} → Rate rate → ℕ
+reachAt rate-39 = 6
+reachAt rate-49 = 1
+
+-- 'more than 13 blanks at rate 39, more than 3 at rate 49'
+unfoldable pub mostBlank : {rate : ℕ} → Rate rate → ℕ
+mostBlank rate-39 = 13
+mostBlank rate-49 = 3
+
+pub rate-reach : {rate : ℕ} (r : Rate rate) → IsReach rate 0 (reachAt r)
+unfolding reachAt
+rate-reach rate-39 = subst (IsReach 39 0) (reaches .1) (reach-is m16 (known-workable 39 (rate-known rate-39)) (omega arith))
+rate-reach rate-49 = subst (IsReach 49 0) (reaches .3) (reach-is m16 (known-workable 49 (rate-known rate-49)) (omega arith))
+
+pub rate-blanks : {rate : ℕ} (r : Rate rate) → (blankLimit rate ≡ mostBlank r) × IsReach rate (mostBlank r) 0
+unfolding mostBlank
+rate-blanks rate-39 = (
+  blank-limits .0,
+  subst (IsReach 39 13) (blank-limits .1) (reach-is m16 (known-workable 39 (rate-known rate-39)) (omega (arith, blank-limits .0))),
+)
+rate-blanks rate-49 = (
+  blank-limits .2,
+  subst (IsReach 49 3) (blank-limits .3) (reach-is m16 (known-workable 49 (rate-known rate-49)) (omega (arith, blank-limits .2))),
+)
+
+pub rate-orders : {rate : ℕ} → Rate rate → 43 ≤ mOf m16 rate
 rate-orders rate-39 = omega (arith, reaches .0)
 rate-orders rate-49 = omega (arith, reaches .2)
-
-pub known-rate : (rate : ℕ) → knownRate rate ≡ true → (T : ℕ) × Rate rate T
-known-rate rate e =
-    ⊎-elim (λ f. (6, subst (λ k. Rate k 6) (sym f) rate-39)) (λ f. (1, subst (λ k. Rate k 1) (sym f) rate-49)) (known-rates rate e)
-
-pub rate-is : {rate T : ℕ} → Rate rate T → Known modem64 rate T
-rate-is rate = record { known-rate = rate-known rate; reach = rate-reach rate }

@@ -1,8 +1,8 @@
 -- Interpolant reading: size.
 --
 --   highestOrder book      M, the highest order that the book's rate uses
---   isSettled book p       p is taken and not doubtful
---   settledBelow book n    the settled places below n that are taken, each with its best symbol
+--   isSettled book p       p is taken, not doubtful and not blank
+--   settledBelow book n    the settled places below n, each with its best symbol
 --   settledOf book         all of them: the row as a set decides, in whatever order its places were accepted
 --   readOf book out        2 if the buffer is not of 82 bytes, the buffer as it was; else 0 and the 82 bytes of the least Q for the row's settled places
 use mathlib.Core.Bool.{Bool, cond, not, _&&_}
@@ -13,6 +13,7 @@ use lib.ListN.{length}
 use Rattle.lists.specs.Distinct.{among}
 use Rattle.refusals.specs.Refusal.{accepted, wrongSize}
 use Rattle.soft.specs.Column.{bestOf}
+use Rattle.soft.specs.Blank.{openAt}
 use Rattle.family.specs.Nodes.{Node, node}
 use Rattle.near.specs.Here.{mOf}
 use Rattle.interpolant.specs.LeastQ.{readingOf}
@@ -27,7 +28,7 @@ abbrev pub highestOrder : Book → ℕ
 highestOrder book = mOf (book .rate)
 
 unfoldable pub isSettled : Book → ℕ → Bool
-isSettled book p = taken (book .row) p && not (among p (book .doubtful))
+isSettled book p = taken (book .row) p && (not (among p (book .doubtful)) && openAt (columnsOf (book .row)) p)
 
 -- with z the best symbol there
 unfoldable pub settledAt : Book → ℕ → Node

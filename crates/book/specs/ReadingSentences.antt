@@ -1,14 +1,20 @@
 -- Document 01's sentences about interpolant readings, each a theorem of the book of the modem of 64 places.
 --
---   Reads book bytes, reading-least   reading into 82 bytes shows the least Q through the row's settled places: each coefficient in its byte, none
---                        outside the bytes, and 0 for missing orders
+--   Reads book bytes, reading-least   reading into 82 bytes shows the least Q through the row's settled places, those taken, not doubtful and not blank:
+--                        each coefficient in its byte, none outside the bytes, and 0 for missing orders
+--   blank-unread         a blank column at the end of the row, at a place that was free, changes no reading; blank-delivered: so no delivery of a blank
+--                        column does, whether it is accepted or refused
 --   reading-alike        books that agree read alike
+use mathlib.Core.Bool.{Bool, true, false, not, _&&_}
 use mathlib.Core.Path.{_≡_, refl, sym, ap, _∙_, subst}
-use mathlib.Core.List.{List}
+use mathlib.Core.List.{List, [], _∷_, _++_}
 use mathlib.Core.Logic.{_≢_}
 use Prim.Native.Nat.{ℕ, zero, suc, _+_, _≤_}
+use native.Mathlib.Decide.{ℕ-discrete}
 use lib.ListN.{length, getD}
+use Rattle.lists.specs.Distinct.{among}
 use Rattle.refusals.specs.Refusal.{accepted}
+use Rattle.soft.specs.Column.{isBlank}
 use Rattle.hermitian.specs.Present.{Present}
 use Rattle.hermitian.specs.Keys.{Term, plain, timesZ, key}
 use Rattle.interpolant.specs.LeastQ.{coefficient}
@@ -16,15 +22,19 @@ use Rattle.interpolant.specs.Meaning.{IsLeastQ, Shown}
 use Rattle.interpolant.specs.Least.{leastQ-some}
 use Rattle.interpolant.specs.Reading.{reading-size, reading-plain, reading-z, missing-plain, missing-z, all-shown}
 use Rattle.book.specs.Model.{modem64}
-use Rattle.book.specs.Book.{Book, taken}
+use Rattle.book.specs.Book.{Entry, Book, taken, Outcome}
 use Rattle.book.specs.Writing.{Filled}
-use Rattle.book.specs.Columns.{taken-alike, columns-alike, Agree}
+use Rattle.book.specs.Columns.{columns-taken, taken-alike, columns-alike, Agree}
+use Rattle.book.specs.Columns as Columns
+use Rattle.book.specs.Delivery.{withEntry}
+use Rattle.book.specs.RowLaws.{snoc-here, snoc-other, deliver-accepted, deliver-only}
+use Rattle.book.specs.Sentences.{deliver-kept}
 use Rattle.book.specs.Reading.{readingLength, highestOrder, isSettled, settledAt, settledBelow, settledOf, readOf}
-use Rattle.book.specs.ReadingLaws.{settled-few, read-accepted}
+use Rattle.book.specs.ReadingLaws.{settled-no, free-unsettled, settled-few, read-accepted}
 use Rattle.book.specs.OpeningLaws.{Rate, rate-orders}
-use Rattle.book.specs.Here.{places, columnsOf}
+use Rattle.book.specs.Here.{places, columnsOf, deliverOf}
 
--- ---- 'the 82 bytes of the least Q for the row's settled places'
+-- ---- 'the 82 bytes of the least Q for the row's settled places'; document 02: a blank place 'is not interpolated'
 
 pub record Reads (book : Book) (bytes : List ℕ) : Type 0 where
   pub q : List ℕ
@@ -38,7 +48,7 @@ pub record Reads (book : Book) (bytes : List ℕ) : Type 0 where
   -- 'missing orders hold 0'
   pub missing-zero : (o : ℕ) → ¬ Present 4 o → (o ≤ 64 → getD bytes o 0 ≡ 0) × (o ≤ 16 → getD bytes (65 + o) 0 ≡ 0)
 
-pub reading-least : (book : Book) {T : ℕ} → Rate (book .rate) T → (out : List ℕ) → length out ≡ readingLength
+pub reading-least : (book : Book) → Rate (book .rate) → (out : List ℕ) → length out ≡ readingLength
     → (readOf book out .number ≡ accepted) × Reads book (readOf book out .bytes)
 reading-least book rate out h =
     let M = highestOrder book in
@@ -61,6 +71,51 @@ reading-least book rate out h =
             );
           }),
     )
+
+-- ---- document 02: 'it is not interpolated'
+
+module _ (book : Book) (p : ℕ) (column : List ℕ) (blank : isBlank column ≡ true) where
+  module _ (free : taken (book .row) p ≡ false) where
+    abbrev entry : Entry
+    entry = record { place = p; column = column }
+
+    -- free before and blank afterwards, the place is settled in neither book
+    blank-unsettled : isSettled (withEntry book p column) p ≡ false
+    unfolding isSettled withEntry
+    blank-unsettled =
+        let row : List Entry = book .row ++ (entry ∷ []) in
+        ap (λ c. taken row p && (not (among p (book .doubtful)) && not (isBlank c))) (columns-taken modem64 row p (snoc-here (book .row) entry free))
+        ∙ ap (λ b. taken row p && (not (among p (book .doubtful)) && not b)) blank ∙ neither (taken row p) (not (among p (book .doubtful)))
+      where
+        neither : (a b : Bool) → (a && (b && false)) ≡ false
+        neither true true = refl
+        neither true false = refl
+        neither false b = refl
+
+    unread : (n : ℕ) → settledBelow (withEntry book p column) n ≡ settledBelow book n
+    unfolding settledBelow isSettled settledAt withEntry Columns.columnsOf taken
+    unread zero = refl
+    unread (suc n) = go (ℕ-discrete p n) (unread n)
+      where
+        go : Dec (p ≡ n) → settledBelow (withEntry book p column) n ≡ settledBelow book n
+            → settledBelow (withEntry book p column) (suc n) ≡ settledBelow book (suc n)
+        go (yes e) ih =
+            settled-no (withEntry book p column) n (ap (isSettled (withEntry book p column)) (sym e) ∙ blank-unsettled)
+            ∙ ih ∙ sym (settled-no book n (ap (isSettled book) (sym e) ∙ free-unsettled book p free))
+        go (no e) ih = cc (ih, snoc-other (book .row) entry n e)
+
+    pub blank-unread : (out : List ℕ) → readOf (withEntry book p column) out ≡ readOf book out
+    unfolding readOf settledOf withEntry
+    blank-unread out = cc (unread places)
+
+  pub blank-delivered : (out : List ℕ) → readOf (deliverOf book p column .book) out ≡ readOf book out
+  blank-delivered out = go (ℕ-discrete (deliverOf book p column .number) accepted)
+    where
+      go : Dec (deliverOf book p column .number ≡ accepted) → readOf (deliverOf book p column .book) out ≡ readOf book out
+      go (yes n) =
+          let d = deliver-only modem64 book p column n in
+          ap (λ (o : Outcome). readOf (o .book) out) (deliver-accepted modem64 book p column (d .0) (d .1)) ∙ blank-unread (d .1) out
+      go (no n) = ap (λ (b : Book). readOf b out) (deliver-kept modem64 book p column n)
 
 -- ---- 'Two sessions … that agree in rate, doubtful list, places taken and the columns held for these read and close alike.'
 

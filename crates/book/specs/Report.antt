@@ -23,12 +23,14 @@ use lib.Pow.{pow-mono}
 use lib.Seq.{getD-at}
 use Rattle.refusals.specs.Refusal.{accepted}
 use Rattle.lists.specs.Distinct.{below, below-nil, below-one, below-append, and-both}
-use Rattle.soft.specs.Total.{everywhere, symbolAt, totalOf, pinnedOf, changedOf, bytesOf, marginBytes, reportOf}
+use Rattle.soft.specs.Total.{symbolAt, totalOf, pinnedOf, changedOf, bytesOf, marginBytes, reportOf}
 use Rattle.soft.specs.TotalLaws.{total-bound, pinned-le, changed-le, bytesOf-length, reportOf-length}
 use Rattle.soft.specs.Column.{ceiling}
+use Rattle.soft.specs.Blank.{openAt}
 use Rattle.soft.specs.TestWord.{testWords}
 use Rattle.family.specs.Encoding.{encodeOf}
-use Rattle.near.specs.Near.{reachOf, messageCost}
+use Rattle.near.specs.Near.{messageCost}
+use Rattle.near.specs.Reach.{reachIn}
 use Rattle.near.specs.Laws.{tests-tree}
 use Rattle.near.specs.Runner.{margin-le}
 use Rattle.book.specs.Model.{Model, places}
@@ -36,7 +38,7 @@ use Rattle.book.specs.Book.{Book}
 use Rattle.book.specs.Columns.{columnsOf}
 use Rattle.book.specs.Closing.{reportLength, Closed, testsFor, marginFor, reportFor, closeOf}
 use Rattle.book.specs.ClosingLaws.{decode-report, close-report}
-use Rattle.book.specs.Table.{tableColumns, pickedOf, picked-length, tableOf, table-accepted}
+use Rattle.book.specs.Table.{tableColumns, pickedOf, picked-most, tableOf, table-accepted}
 use Rattle.book.specs.Costs.{AreColumns, column-cost, RowColumns, row-columns, table-costs}
 
 abbrev pub totalIn : List ℕ → ℕ
@@ -219,10 +221,10 @@ module _ (𝓓 : Model) where
       let b : 2 ^ length doubtful ≤ 2 ^ mostDoubt = pow-mono few in
       let e : amountOf (marginFor 𝓓 k columns doubtful m) ≤ places 𝓓 * ceiling =
       amount-le (marginFor 𝓓 k columns doubtful m)
-      (λ d q. margin-le member everywhere (reachOf member k) k columns (testWords (places 𝓓) columns doubtful) a m q) in
+      (λ d q. margin-le member (openAt columns) (reachIn member k columns) k columns (testWords (places 𝓓) columns doubtful) a m q) in
       reads-back (totalOf (places 𝓓) columns word) (testsFor 𝓓 k columns doubtful) (pinnedOf (places 𝓓) columns word)
       (changedOf (places 𝓓) columns word) (marginFor 𝓓 k columns doubtful m) (omega (arith, totals-fit, a m))
-      (omega (arith, tests-fit, tests-tree member everywhere (reachOf member k) k (places 𝓓) columns doubtful))
+      (omega (arith, tests-fit, tests-tree member (openAt columns) (reachIn member k columns) k (places 𝓓) columns doubtful))
       (omega (arith, counts-fit, pinned-le columns word (places 𝓓))) (omega (arith, counts-fit, changed-le columns word (places 𝓓)))
       (omega (arith, totals-fit, e))
 
@@ -248,7 +250,7 @@ module _ (𝓓 : Model) where
       → Reported rate (tableColumns 𝓓 table) (pickedOf 𝓓 table doubt) (tableOf 𝓓 rate table doubt message report)
   table-shows rate table doubt message report b n =
       let t = table-accepted 𝓓 rate table doubt message report n in
-      let few : length (pickedOf 𝓓 table doubt) ≤ mostDoubt = omega (arith, t .0, picked-length 𝓓 table doubt (t .0)) in
+      let few : length (pickedOf 𝓓 table doubt) ≤ mostDoubt = omega (arith, t .0, picked-most 𝓓 table doubt) in
       subst (Reported rate (tableColumns 𝓓 table) (pickedOf 𝓓 table doubt)) (sym (t .1))
       (subst (ShowsFor rate (tableColumns 𝓓 table) (pickedOf 𝓓 table doubt) _)
       (sym

@@ -1,13 +1,17 @@
--- Table decoding: rate, then sizes, then doubt, then nearness; and why it answers as a session does.
+-- Table decoding: rate, then sizes, then doubt, then blank places, then nearness; and why it answers as a session does.
 --
 --   tableLength            a column for each place, place 0 first, of a cost for each symbol, two bytes each: 2,048 bytes where there are 64 places
 --   closed n message report   a number returned and the two lent buffers afterwards
 --   tableColumns table     the columns by place
---   pickedOf table doubt   the doubtful places: those of smallest gap, equal gaps to the lower place
+--   pickedOf table doubt   the doubtful places: of those that are not blank those of smallest gap, equal gaps to the lower place
 --   tableOf rate table doubt message report   1 if the rate is unknown, 2 if a buffer has the wrong size, 4 if the doubt is too large;
 --                          else what decoding by the table's columns and the doubtful places picked answers
 --   table-rate, table-size, table-doubt, table-decoded   the four cases
+--   table-too-blank, table-blank-only   of the last: it gives 12 exactly where more places are blank than leave a T
+--   limit-below, all-blank   at a known rate these are not all: a table of blank columns is refused with 12
+--   zero-blank, zero-table   so is one of zero bytes: all its columns are blank
 --   table-accepted         an accepted call has no larger doubt than the largest and answers as decoding does
+--   picked-length, picked-most   where no more places are blank than leave a T, exactly as many are picked as the doubt says; and never more
 --   picked-fit, picked-opens   the places picked are a doubtful list that opening accepts
 --   Delivered table row    each of the modem's places is in the row with its column of the table, in whatever order, and nothing else is
 --   delivered-columns, delivered-none-missing   so the row's columns are the table's, and none is missing
@@ -15,11 +19,11 @@
 --   entriesOf columns order   the columns of the places of a list, in its order
 --   order-delivered, order-accepted   the modem's places in any order: every delivery is accepted, and the row is such a one
 use mathlib.Core.Bool.{Bool, true, false, cond, not, _&&_, _||_}
-use mathlib.Core.Path.{_≡_, refl, sym, ap, ap₂, _∙_, fun-ext}
+use mathlib.Core.Path.{_≡_, refl, sym, ap, ap₂, _∙_, subst, fun-ext}
 use mathlib.Core.List.{List, [], _∷_}
-use mathlib.Core.Logic.{_≢_, _⊎_, ⊎-elim}
+use mathlib.Core.Logic.{_↔_, _≢_, _⊎_, ⊎-elim}
 use mathlib.Core.Option.{none, some}
-use Prim.Native.Nat.{ℕ, suc, _*_, _<_, _≤_}
+use Prim.Native.Nat.{ℕ, suc, _+_, _*_, _<_, _≤_}
 use native.Mathlib.Nat.{mul-le-mul-right}
 use native.Mathlib.Decide.{decLt}
 use native.Mathlib.Omega.{arith}
@@ -27,14 +31,20 @@ use lib.Dec.{eqb, leb}
 use lib.ListN.{length, getD, replicate, length-replicate, getD-replicate, List·getD-eq-default}
 use lib.Seq.{ext-getD}
 use borrow.Author.Tests.{eqb-true, eq-eqb, leb-true, le-leb, lt-leb}
-use Rattle.refusals.specs.Refusal.{accepted, unknownRate, wrongSize, wrongDoubt}
+use Rattle.refusals.specs.Refusal.{accepted, unknownRate, wrongSize, wrongDoubt, tooBlank}
 use Rattle.lists.specs.Distinct.{among, below, distinct, below-among, distinct-all, and-left, and-right, and-both}
+use Rattle.lists.specs.Count.{count-none}
 use Rattle.lists.specs.Every.{every-true}
+use Rattle.lists.specs.Listed.{listed-at}
 use Rattle.lists.specs.Member.{member-at}
 use Rattle.soft.specs.Column as Soft
 use Rattle.soft.specs.ColumnLaws.{column-length, cost-column, costs-length}
 use Rattle.soft.specs.Doubt.{doubtfulOf}
-use Rattle.soft.specs.DoubtLaws.{doubtful-length, doubtful-rising, doubtful-below}
+use Rattle.soft.specs.DoubtLaws.{doubtful-length, doubtful-most, doubtful-rising, doubtful-below}
+use Rattle.soft.specs.Blank.{blankAt, openAt, blanksOf}
+use Rattle.soft.specs.BlankLaws.{blank-same, open-count}
+use Rattle.near.specs.Near.{blankLimit}
+use Rattle.near.specs.Reach.{reach-is}
 use Rattle.book.specs.Model.{Model, places, width}
 use Rattle.book.specs.Book.{Entry, Book, newBook, columnIn, taken, present, someMissing}
 use Rattle.book.specs.Opening.{fitDoubt, openOf}
@@ -44,7 +54,7 @@ use Rattle.book.specs.Delivery.{deliverRow}
 use Rattle.book.specs.RowDelivery.{extended, row-delivered}
 use Rattle.book.specs.Columns.{columnsOf, columns-taken, columns-none}
 use Rattle.book.specs.Closing.{reportLength, Closed, refusedClosing, decodeOf, closingFits, closeOf}
-use Rattle.book.specs.ClosingLaws.{refused-number, fits-both, close-size, close-decoded}
+use Rattle.book.specs.ClosingLaws.{refused-number, fits-both, close-size, close-decoded, decode-too-blank, decode-blank-only}
 
 -- what a call answered, put together
 abbrev pub closed : ℕ → List ℕ → List ℕ → Closed
@@ -71,7 +81,7 @@ entries-column columns (q ∷ order) p = go (eqb q p) refl (entries-column colum
     go false e ih = ih
 
 module _ (𝓓 : Model) where
-  open Model 𝓓 using (known, mostDoubt, doubt-fits)
+  open Model 𝓓 using (member, known, workable, mostDoubt, doubt-fits)
 
   abbrev pub tableLength : ℕ
   tableLength = places 𝓓 * width 𝓓 * 2
@@ -95,6 +105,33 @@ module _ (𝓓 : Model) where
       (refusedClosing wrongDoubt message report))
       (refusedClosing wrongSize message report))
       (refusedClosing unknownRate message report)
+
+  -- of zero bytes, however many, each column is blank
+  pub zero-blank : (n p : ℕ) → blankAt (tableColumns (replicate n 0)) p ≡ true
+  unfolding tableColumns Soft.costsFrom
+  zero-blank n p = blank-same (tableColumns (replicate n 0) p) .1 (λ s t ls lt. zero-at s ls ∙ sym (zero-at t lt))
+    where
+      costs : ℕ
+      costs = places 𝓓 * width 𝓓
+
+      byte : (i : ℕ) → Dec (i < n) → _≡_ {A = ℕ} (getD (replicate n 0) i 0) 0
+      byte i (yes l) = getD-replicate n i 0 0 l
+      byte i (no l) = List·getD-eq-default (replicate n 0) 0 (omega (arith, length-replicate {A = ℕ} n 0))
+
+      cost : (i : ℕ) → Dec (i < costs) → getD (Soft.costsFrom costs (replicate n 0)) i 0 ≡ 0
+      cost i (yes l) =
+          listed-at costs i (Soft.costFrom (replicate n 0)) 0 l
+          ∙ ap₂ (λ x y. x * 256 + y) (byte (i * 2) (decLt (i * 2) n)) (byte (i * 2 + 1) (decLt (i * 2 + 1) n))
+      cost i (no l) = List·getD-eq-default (Soft.costsFrom costs (replicate n 0)) 0 (omega (arith, costs-length costs (replicate n 0)))
+
+      zero-at : (s : ℕ) → s < length (tableColumns (replicate n 0) p) → Soft.costOf (tableColumns (replicate n 0) p) s ≡ 0
+      zero-at s l =
+          cost-column (width 𝓓) (Soft.costsFrom costs (replicate n 0)) p s (omega (arith, column-length (width 𝓓) (Soft.costsFrom costs (replicate n 0)) p))
+          ∙ cost (p * width 𝓓 + s) (decLt (p * width 𝓓 + s) costs)
+
+  -- as many blank places as the limit says leave a T, so these are not all
+  pub limit-below : {rate : ℕ} → known rate ≡ true → blankLimit member rate < places 𝓓
+  limit-below {rate} e = omega (arith, reach-is member (workable rate e) {b = blankLimit member rate} (omega arith) .fits)
 
   -- ---- the four cases
 
@@ -144,6 +181,27 @@ module _ (𝓓 : Model) where
         unfolding tableOf
         table-decoded h = rw (known, fits, le-leb doubt mostDoubt h)
 
+        pub table-too-blank : doubt ≤ mostDoubt → blankLimit member rate < blanksOf (places 𝓓) (tableColumns table)
+            → tableOf rate table doubt message report ≡ refusedClosing tooBlank message report
+        table-too-blank h b = table-decoded h ∙ decode-too-blank 𝓓 rate (tableColumns table) (pickedOf table doubt) message report b
+
+        pub table-blank-only : doubt ≤ mostDoubt
+            → (tableOf rate table doubt message report .number ≡ tooBlank) ↔ (blankLimit member rate < blanksOf (places 𝓓) (tableColumns table))
+        table-blank-only h =
+            subst (λ (c : Closed). (c .number ≡ tooBlank) ↔ (blankLimit member rate < blanksOf (places 𝓓) (tableColumns table))) (sym (table-decoded h))
+            (decode-blank-only 𝓓 rate (tableColumns table) (pickedOf table doubt) message report)
+
+        pub all-blank : doubt ≤ mostDoubt → ((p : ℕ) → p < places 𝓓 → blankAt (tableColumns table) p ≡ true)
+            → tableOf rate table doubt message report ≡ refusedClosing tooBlank message report
+        all-blank h blank =
+            table-too-blank h
+            (omega (
+              arith,
+              limit-below known,
+              open-count (places 𝓓) (tableColumns table),
+              count-none (places 𝓓) (openAt (tableColumns table)) (λ p l. ap not (blank p l)),
+            ))
+
     pub table-accepted : tableOf rate table doubt message report .number ≡ accepted
         → (doubt ≤ mostDoubt) × (tableOf rate table doubt message report ≡ decodeOf 𝓓 rate (tableColumns table) (pickedOf table doubt) message report)
     unfolding tableOf
@@ -159,20 +217,32 @@ module _ (𝓓 : Model) where
         go true e true f false g = absurd (omega (arith, not-refused wrongDoubt (rw (e, f, g))))
         go true e true f true g = (leb-true doubt mostDoubt g, rw (e, f, g))
 
+  pub zero-table : {rate : ℕ} → known rate ≡ true → (doubt : ℕ) → doubt ≤ mostDoubt → (message report : List ℕ) → length message ≡ rate
+      → length report ≡ reportLength 𝓓 → tableOf rate (replicate tableLength 0) doubt message report ≡ refusedClosing tooBlank message report
+  zero-table {rate} known doubt few message report long whole-report =
+      all-blank rate (replicate tableLength 0) doubt message report known (length-replicate {A = ℕ} tableLength 0) long whole-report few
+      (λ p l. zero-blank tableLength p)
+
   -- ---- the places picked
 
-  module _ (table : List ℕ) (doubt : ℕ) (few : doubt ≤ mostDoubt) where
-    pub picked-length : length (pickedOf table doubt) ≡ doubt
-    unfolding pickedOf
-    picked-length = doubtful-length (places 𝓓) doubt (tableColumns table) (omega arith)
+  pub picked-length : {rate : ℕ} → known rate ≡ true → (table : List ℕ) (doubt : ℕ) → doubt ≤ mostDoubt
+      → blanksOf (places 𝓓) (tableColumns table) ≤ blankLimit member rate → length (pickedOf table doubt) ≡ doubt
+  unfolding pickedOf
+  picked-length {rate} known table doubt few blanks =
+      doubtful-length (places 𝓓) doubt (tableColumns table) (omega (arith, doubt-fits rate known))
 
+  pub picked-most : (table : List ℕ) (doubt : ℕ) → length (pickedOf table doubt) ≤ doubt
+  unfolding pickedOf
+  picked-most table doubt = doubtful-most (places 𝓓) doubt (tableColumns table)
+
+  module _ (table : List ℕ) (doubt : ℕ) (few : doubt ≤ mostDoubt) where
     pub picked-fit : fitDoubt 𝓓 (pickedOf table doubt) ≡ true
     unfolding pickedOf
     picked-fit =
         let list = doubtfulOf (places 𝓓) doubt (tableColumns table) in
         (list-fits 𝓓)
         (record {
-          short = omega (arith, doubtful-length (places 𝓓) doubt (tableColumns table) (omega arith));
+          short = omega (arith, few, doubtful-most (places 𝓓) doubt (tableColumns table));
           in-range = λ i l. omega (arith, doubtful-below (places 𝓓) doubt (tableColumns table) (getD list i 0) (member-at list 0 i l));
           rises = λ i l. doubtful-rising (places 𝓓) doubt (tableColumns table) .rises i (suc i) (omega arith) l;
         })

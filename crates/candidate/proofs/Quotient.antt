@@ -1,4 +1,5 @@
 -- The message by division is the only one whose codeword can be within T of a word that the row holds.
+use mathlib.Core.Bool.{Bool}
 use mathlib.Core.Path.{_≡_, sym, ap, ap₂, _∙_, subst, subst₂, fun-ext}
 use mathlib.Core.List.{List}
 use Prim.Native.Nat.{ℕ}
@@ -6,6 +7,7 @@ use native.Mathlib.Nat.{zero-add}
 use native.Mathlib.Decide.{decLt}
 use native.Mathlib.Omega.{arith}
 use lib.ListN.{take}
+use Rattle.lists.specs.Count.{count-le}
 use Rattle.lists.specs.Listed.{listed, listed-length}
 use Rattle.lists.specs.Padded.{padded, padded-take}
 use Rattle.lists.specs.Words.{Word}
@@ -13,7 +15,6 @@ use Rattle.lists.specs.Answers.{Found}
 use Rattle.algebra.specs.Field.{Field}
 use Rattle.algebra.specs.Coefficients.{choose, Lead}
 use Rattle.galois.specs.Field16.{K16}
-use Rattle.hermitian.specs.Present.{genus}
 use Rattle.hermitian.specs.Interpolant.{withoutZ, withZ}
 use Rattle.hermitian.specs.Division.{quotient}
 use Rattle.rows.specs.Rows.{plainWidth, xOrder, coef, coef-at}
@@ -22,17 +23,16 @@ use Rattle.division.specs.Dividing.{Divided}
 use Rattle.interpolation.specs.Polynomial.{part, polynomial, polynomial-plain, polynomial-z}
 use Rattle.code.specs.Encoding.{encodeOf}
 use Rattle.code.specs.Rates.{mostRate}
-use Rattle.soft.specs.Column.{symbols}
-use Rattle.near.specs.Here.{mOf, reachOf, nearTo, Workable, repairable, genus-4}
-use Rattle.soft.specs.Total.{everywhere}
+use Rattle.soft.specs.Column.{places, symbols}
+use Rattle.near.specs.Here.{mOf, Workable, genus-4}
 use Rattle.family.specs.Member.{m16}
-use Rattle.near.specs.Reach.{reach-fits}
+use Rattle.near.specs.Near.{nearTo}
+use Rattle.near.specs.Reach.{Repairable}
 use Rattle.near.specs.Codeword.{symbolsOf-at, messageFrom, messageFrom-word}
 use Rattle.near.specs.Held.{message-in, held-lead, held-divides}
 use Rattle.candidate.specs.declared.Candidate.{Candidate}
-use Rattle.candidate.specs.Candidate.{symbolIn, Held, CandidateOf}
-use Rattle.candidate.specs.Ranged.{Ranged, workable}
-use Rattle.near.specs.Near as Near
+use Rattle.candidate.specs.Candidate.{symbolIn, HeldIn, CandidateOf}
+use Rattle.candidate.specs.Ranged.{Ranged, workable, top-small}
 open Field K16 using (𝟘)
 
 -- what the arrays hold, in the interpolation's terms
@@ -52,21 +52,21 @@ module _ {k : ℕ} (rate : Ranged k) (row function : List ℕ) (divided : Divide
   candidate-word : Word symbols k (listed k (symbolIn function))
   candidate-word = subst (Word symbols k) (sym candidate-is) (messageFrom-word m16 k (coef function))
 
-  only : (word : List ℕ) → Held k word row → (m : List ℕ) → Found symbols k (nearTo k word) m → listed k (symbolIn function) ≡ m
-  unfolding Near.mOf genus
-  only word h m f =
+  only : (counts : ℕ → Bool) (reach : ℕ) → Repairable m16 counts reach k → (word : List ℕ) → HeldIn counts reach k word row → (m : List ℕ)
+      → Found symbols k (nearTo m16 counts reach k word) m → listed k (symbolIn function) ≡ m
+  only counts reach repairs word h m f =
       let w : Workable k = workable rate in
-      let j = held-lead m16 everywhere (reachOf k) w (repairable w) h f in
+      let j = held-lead m16 counts reach w repairs h f in
       candidate-is
       ∙ ap (messageFrom m16 k)
       (divided .exact (j .0)
       (record {
         leads = subst (λ g. Lead K16 g (j .0)) (sym (z-is row (mOf k))) (j .2);
-        powers-fit = omega (arith, j .1, reach-fits m16 w, genus-4, rate .least);
-        terms-fit = omega (arith, j .1, reach-fits m16 w, genus-4);
+        powers-fit = omega (arith, j .1, repairs, count-le places counts, genus-4, top-small rate);
+        terms-fit = omega (arith, j .1, repairs, count-le places counts, genus-4);
       })
       ∙ ap₂ (λ r q. quotient K16 xOrder (j .0) r (mOf k) q) (z-is row (mOf k)) (plain-is row (mOf k)))
-      ∙ held-divides m16 everywhere (reachOf k) w (repairable w) h f (j .2)
+      ∙ held-divides m16 counts reach w repairs h f (j .2)
 
 -- from the steps of the code
 pub candidate-made : {k : ℕ} → Ranged k → (row function q0 q1 : List ℕ) (m : ℕ) (r : Candidate) → q0 ≡ listed plainWidth (plainAt row) → q1 ≡ listed plainWidth (zAt row)
@@ -83,5 +83,5 @@ candidate-made {k} rate row function q0 q1 m r q0-is q1-is m-is quotient-is mess
       word = subst (Word symbols k) (sym front) (candidate-word rate row function divided);
       behind = message-is ∙ ap (padded mostRate) (sym front);
       encoded = encoded;
-      only = λ word h n f. sym (only rate row function divided word h n f) ∙ sym front;
+      only = λ counts reach repairs word h n f. sym (only rate row function divided counts reach repairs word h n f) ∙ sym front;
     }

@@ -4,8 +4,8 @@
 --   Ranged k        k from there to the largest rate
 --   workable        such a rate has a T
 --   top-small       M is from 32 to 54
---   reach-small     T is at most 28
---   limit-small     the limit is at most 127, the largest key that a row has room for
+--   reach-small     T is at most 28, however many places are blank
+--   limit-small     the limit of keys is at most 127, the largest key that a row has room for
 use Prim.Native.Nat.{ℕ, _≤_}
 use native.Mathlib.Omega.{arith}
 use Rattle.hermitian.specs.Repair.{limit}
@@ -29,10 +29,10 @@ pub top-small : {k : ℕ} → Ranged k → (32 ≤ mOf k) × (mOf k ≤ 54)
 unfolding Near.mOf genus
 top-small h = omega arith
 
-pub reach-small : (k : ℕ) → reachOf k ≤ 28
-unfolding Near.reachOf genus
-reach-small k = omega arith
+pub reach-small : (k b : ℕ) → reachOf k b ≤ 28
+unfolding Near.reachOf Near.blankLimit genus
+reach-small k b = omega arith
 
-pub limit-small : {k : ℕ} → Ranged k → limitOf k ≤ 127
-unfolding Interpolated.limitOf limit Near.reachOf genus Near.mOf
-limit-small h = omega (arith, genus-4)
+pub limit-small : {k : ℕ} → Ranged k → (b : ℕ) → limitOf k b ≤ 127
+unfolding Interpolated.limitOf limit Near.reachOf Near.blankLimit genus Near.mOf
+limit-small h b = omega (arith, genus-4)

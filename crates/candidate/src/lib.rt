@@ -8,8 +8,9 @@ ghost use Rattle.lists.specs.Listed.{listed};
 ghost use Rattle.lists.specs.Padded.{padded};
 ghost use Rattle.code.specs.Encoding.{encodeOf};
 ghost use Rattle.code.specs.Rates.{mostRate};
+ghost use Rattle.soft.specs.Blank.{flagAt};
 ghost use Rattle.soft.specs.Column.{places};
-ghost use Rattle.soft.specs.Total.{differing};
+ghost use Rattle.soft.specs.Total.{differingIn};
 ghost use Rattle.candidate.specs.Ranged.{Ranged};
 ghost use Rattle.candidate.specs.Candidate.{symbolIn, CandidateOf};
 use crate::rate::MOST_RATE;
@@ -22,7 +23,7 @@ use encoding::order;
 use interpolation::PLACES;
 use rows::PLAIN;
 use rows::Row;
-use totals::total::differing;
+use totals::total::differing_in;
 
 // A message of k symbols in the first k entries, where k is the rate.
 pub type Message = [u8; MOST_RATE];
@@ -67,8 +68,9 @@ pub fn candidate_of(row: Row, k: usize) -> Candidate
     Candidate { message, codeword }
 }
 
-pub fn distance(codeword: Word, word: Word) -> usize
-    ensures { λ r. ⌜ r ≡ differing places codeword word ⌝ }
+// In how many of the places that count, those with the flag 1, a codeword differs from a word.
+pub fn distance(codeword: Word, word: Word, counts: [u8; PLACES]) -> usize
+    ensures { λ r. ⌜ r ≡ differingIn (flagAt counts) places codeword word ⌝ }
 {
-    differing(&codeword, &word) as usize
+    differing_in(&codeword, &word, counts) as usize
 }

@@ -1,9 +1,9 @@
-// What follows from the rate: the orders that a message uses, how far apart codewords are, how far from a word they are looked for, and
-// up to which key rows are kept.
+// What follows from the rate and the number of blank places: the orders that a message uses, how far apart codewords are, how many places may
+// be blank, how far from a word codewords are looked for, and up to which key rows are kept.
 ghost use mathlib.Core.Path.{_≡_};
-ghost use Prim.Native.Nat.{_-_};
+ghost use Prim.Native.Nat.{_-_, _≤_};
 ghost use Rattle.soft.specs.Column.{places};
-ghost use Rattle.near.specs.Here.{mOf, reachOf, limitOf};
+ghost use Rattle.near.specs.Here.{mOf, blankLimit, reachOf, limitOf};
 ghost use Rattle.candidate.specs.Ranged.{Ranged};
 use interpolation::PLACES;
 
@@ -31,18 +31,26 @@ pub fn least_distance(k: usize) -> usize
     PLACES - top_order(k)
 }
 
-// T: the largest number of which twice is less than the least distance without the genus.
-pub fn reach(k: usize) -> usize
+// The most places that may be blank: with more there is no T.
+pub fn blank_limit(k: usize) -> usize
     requires { ⌜ Ranged k ⌝ }
-    ensures { λ r. ⌜ r ≡ reachOf k ⌝ }
+    ensures { λ r. ⌜ r ≡ blankLimit k ⌝ }
 {
-    (least_distance(k) - GENUS - 1) / 2
+    least_distance(k) - GENUS - 1
+}
+
+// T: the largest number of which twice, together with the blank places, is less than the least distance without the genus.
+pub fn reach(k: usize, blanks: usize) -> usize
+    requires { ⌜ Ranged k × (blanks ≤ blankLimit k) ⌝ }
+    ensures { λ r. ⌜ r ≡ reachOf k blanks ⌝ }
+{
+    (blank_limit(k) - blanks) / 2
 }
 
 // 2(T + g + M) + 1: the largest key that decoding needs.
-pub fn largest_key(k: usize) -> usize
-    requires { ⌜ Ranged k ⌝ }
-    ensures { λ r. ⌜ r ≡ limitOf k ⌝ }
+pub fn largest_key(k: usize, blanks: usize) -> usize
+    requires { ⌜ Ranged k × (blanks ≤ blankLimit k) ⌝ }
+    ensures { λ r. ⌜ r ≡ limitOf k blanks ⌝ }
 {
-    2 * (reach(k) + GENUS + top_order(k)) + 1
+    2 * (reach(k, blanks) + GENUS + top_order(k)) + 1
 }

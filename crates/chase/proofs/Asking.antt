@@ -1,4 +1,4 @@
--- What may be asked: the test by its parts.
+-- What may be asked: the tests by their parts.
 use mathlib.Core.Bool.{true, false, false≢true}
 use mathlib.Core.Path.{_≡_, sym, _∙_}
 use mathlib.Core.List.{List}
@@ -9,12 +9,13 @@ use lib.ListN.{length, take}
 use borrow.Author.Tests.{eq-eqb, ne-eqb, le-leb, lt-leb}
 use Rattle.code.specs.Encoding.{knownRate}
 use Rattle.code.specs.Rates.{mostRate}
-use Rattle.soft.specs.Column.{places, symbols}
+use Rattle.soft.specs.Column.{places, symbols, columnOf}
 use Rattle.soft.specs.Doubt.{mostDoubt}
+use Rattle.near.specs.Here.{blankLimit, blanksIn}
 use Rattle.candidate.specs.Ranged.{leastRate}
 use Rattle.answers.specs.declared.Found.{Found}
-use Rattle.chase.specs.Call.{Asked, askedOf, nearestOf}
-use Rattle.chase.specs.Laws.{asked-is, nearest-unasked}
+use Rattle.chase.specs.Call.{Asked, wellFormed, nearestOf}
+use Rattle.chase.specs.Laws.{form-asked, nearest-unasked}
 use Rattle.chase.specs.Places.{arePlaces}
 use Rattle.answers.specs.Result.{nothingFound}
 use Rattle.chase.proofs.Settling.{known-range}
@@ -30,23 +31,26 @@ module _ (rate : ℕ) (costs doubtful : List ℕ) (doubt : ℕ) where
   pub unasked-doubt : mostDoubt < doubt → ¬ Asked rate costs doubtful doubt
   unasked-doubt h A = omega (arith, A .few)
 
-  pub unasked-test : askedOf rate costs doubtful doubt ≡ false → ¬ Asked rate costs doubtful doubt
-  unasked-test e A = false≢true (sym e ∙ asked-is rate costs doubtful doubt A)
+  pub unasked-form : wellFormed rate costs doubtful doubt ≡ false → ¬ Asked rate costs doubtful doubt
+  unasked-form e A = false≢true (sym e ∙ form-asked rate costs doubtful doubt A)
 
-  pub rate-refused : knownRate rate ≡ false → askedOf rate costs doubtful doubt ≡ false
-  unfolding askedOf
+  pub unasked-blank : (b l : ℕ) → b ≡ blanksIn (columnOf symbols costs) → l ≡ blankLimit rate → l < b → ¬ Asked rate costs doubtful doubt
+  unasked-blank b l b-is l-is h A = omega (arith, b-is, l-is, A .few-blank)
+
+  pub rate-refused : knownRate rate ≡ false → wellFormed rate costs doubtful doubt ≡ false
+  unfolding wellFormed
   rate-refused k = rw k
 
   module _ (k : knownRate rate ≡ true) where
-    pub size-refused : (length costs ≡ places * symbols → ⊥) → askedOf rate costs doubtful doubt ≡ false
-    unfolding askedOf
+    pub size-refused : (length costs ≡ places * symbols → ⊥) → wellFormed rate costs doubtful doubt ≡ false
+    unfolding wellFormed
     size-refused n = rw (k, ne-eqb (length costs) (places * symbols) n)
 
     module _ (size : length costs ≡ places * symbols) where
-      pub doubt-refused : mostDoubt < doubt → askedOf rate costs doubtful doubt ≡ false
-      unfolding askedOf
+      pub doubt-refused : mostDoubt < doubt → wellFormed rate costs doubtful doubt ≡ false
+      unfolding wellFormed
       doubt-refused h = rw (k, eq-eqb (length costs) (places * symbols) size, lt-leb doubt mostDoubt h)
 
-      pub places-asked : doubt ≤ mostDoubt → askedOf rate costs doubtful doubt ≡ arePlaces (take doubt doubtful)
-      unfolding askedOf
+      pub places-asked : doubt ≤ mostDoubt → wellFormed rate costs doubtful doubt ≡ arePlaces (take doubt doubtful)
+      unfolding wellFormed
       places-asked h = rw (k, eq-eqb (length costs) (places * symbols) size, le-leb doubt mostDoubt h)

@@ -1,14 +1,16 @@
--- From the settled places to the root of the tree: nodes, and the known rates.
-use mathlib.Core.Bool.{Bool, true, false, cond}
+-- From the settled places to the root of the tree: nodes, the known rates, and the blank places.
+use mathlib.Core.Bool.{Bool, true, false, not, cond}
 use mathlib.Core.Path.{_≡_, refl, sym, ap, _∙_, subst, subst₂}
 use mathlib.Core.List.{List, _∷_, List·Memᴰ, List·Memᴰ·head, List·Memᴰ·tail, List·Memᴰ·cases-cons, List·Memᴰ·not-nil}
 use mathlib.Core.Logic.{⊎-elim}
-use Prim.Native.Nat.{ℕ, zero, suc, _-_, _<_}
+use Prim.Native.Nat.{ℕ, zero, suc, _-_, _*_, _<_, _≤_}
 use native.Mathlib.Nat.{eq-or-lt-of-le, le-of-suc-le-suc, le-step}
 use native.Mathlib.Omega.{arith}
 use lib.Dec.{T, eqb}
-use lib.ListN.{getD, take, drop}
+use lib.ListN.{length, getD, take, drop, length-take}
 use borrow.Author.Tests.{eq-eqb, eqb-true}
+use Rattle.lists.specs.Count.{count}
+use Rattle.lists.specs.Every.{true-T, T-true}
 use Rattle.code.specs.Nodes.{ThroughNodes}
 use Rattle.family.specs.Member as Family
 use Rattle.family.specs.Member.{Member, m16}
@@ -16,8 +18,8 @@ use Rattle.family.specs.Nodes.{Node, node}
 use Rattle.code.specs.Encoding.{knownRate}
 use Rattle.code.specs.Rates.{known-bounds}
 use Rattle.interpolation.specs.Settled.{settled, settled-nil, settled-suc}
-use Rattle.near.specs.Here.{mOf, limitOf}
-use Rattle.near.specs.Tree.{Places, Decided}
+use Rattle.near.specs.Here.{mOf, limitOf, blankLimit, blanksIn}
+use Rattle.near.specs.Tree.{Places, places-unblanked, Decided}
 use Rattle.near.specs.Flags.{Flagged}
 use Rattle.algebra.specs.Koetter.{Basis}
 use Rattle.galois.specs.Field16.{K16}
@@ -25,13 +27,18 @@ use Rattle.basis.specs.Choice.{leadAt}
 use Rattle.basis.specs.Step.{classes}
 use Rattle.interpolation.specs.Polynomial.{polynomials}
 use Rattle.soft.specs.Column.{places, symbols, columnOf}
-use Rattle.soft.specs.Total.{everywhere}
+use Rattle.soft.specs.Blank.{openAt, unblanked, flagsOf, flagAt}
+use Rattle.soft.specs.BlankLaws.{flags-blanks, flags-open, column-none, unblanked-member, unblanked-length}
+use Rattle.soft.specs.Doubt.{mostDoubt}
 use Rattle.soft.specs.TestWord.{bestWord, expand, testWords}
 use Rattle.answers.specs.declared.Found.{Found}
+use Rattle.doubt.specs.declared.Picked.{Picked}
+use Rattle.doubt.specs.Picked.{PickedOf, picked-take}
 use Rattle.chase.specs.Call.{Asked, nearestOf}
 use Rattle.chase.specs.Laws.{nearest-asked}
 use Rattle.answers.specs.Nearest.{Nearest}
 use Rattle.candidate.specs.Ranged.{Ranged}
+use Rattle.candidate.specs.Marked.{Marked, limit-marked}
 use Rattle.tree.specs.Searching.{SearchOf}
 use Rattle.answers.specs.Answered.{Sound, found-is}
 
@@ -84,33 +91,80 @@ module _ (word flags : List ℕ) where
         covers = λ p h t n. settled-covers (Family.places 𝓜) p h (on p h t n);
       }
 
-  pub settled-decided : (𝓜 : Member) (ps : List ℕ) → Flagged (Family.places 𝓜) ps flags → Decided 𝓜 everywhere word ps (settled word flags (Family.places 𝓜))
-  settled-decided 𝓜 ps F =
-      decided-by 𝓜 everywhere ps
-      (λ p h e. (tt, λ i. let z : _≡_ {A = ℕ} 0 1 = sym (F .off p i) ∙ e in absurd (omega arith)))
-      (λ p h t n. F .on p h n)
+  pub settled-decided : (𝓜 : Member) (counts : ℕ → Bool) (ps : List ℕ) → Flagged (Family.places 𝓜) counts ps flags
+      → Decided 𝓜 counts word ps (settled word flags (Family.places 𝓜))
+  settled-decided 𝓜 counts ps F =
+      decided-by 𝓜 counts ps
+      (λ p h e. (lit p e (counts p) refl, λ i. let z : _≡_ {A = ℕ} 0 1 = sym (F .off p i) ∙ e in absurd (omega arith)))
+      (λ p h t n. F .on p h (T-true (counts p) t) n)
+    where
+      -- a place with the flag 1 counts
+      lit : (p : ℕ) → getD flags p 0 ≡ 1 → (b : Bool) → counts p ≡ b → T (counts p)
+      lit p e true c = true-T (counts p) c
+      lit p e false c = absurd (F .blank p c e)
+
+-- ---- the blank places
+
+-- the flags say what is blank, and how many are
+module _ (costs counts : List ℕ) (flags-is : counts ≡ flagsOf places (columnOf symbols costs)) (b : ℕ) (b-is : b ≡ count places (λ p. not (flagAt counts p))) where
+  pub blank-number : b ≡ blanksIn (columnOf symbols costs)
+  blank-number =
+      b-is ∙ ap (λ (l : List ℕ). count places (λ p. not (flagAt l p))) flags-is ∙ flags-blanks places (columnOf symbols costs)
+
+  pub marked : (k : ℕ) → length costs ≡ places * symbols → (l : ℕ) → l ≡ blankLimit k → b ≤ l → Marked k (columnOf symbols costs) counts b
+  marked k size l l-is few =
+      record {
+        flags =
+            ap flagAt flags-is
+            ∙ flags-open places (columnOf symbols costs) (λ p h. column-none symbols costs p (omega (arith, size)));
+        number = blank-number;
+        few = omega (arith, l-is);
+      }
+
+-- ---- the places that are doubled
+
+-- those that count are no more than the doubtful ones
+pub picked-few : (counts : ℕ → Bool) (doubtful : List ℕ) {doubt : ℕ} {r : Picked} → doubt ≤ mostDoubt
+    → PickedOf (unblanked counts (take doubt doubtful)) r → r .count ≤ mostDoubt
+picked-few counts doubtful {doubt} few D =
+    omega (arith, D .count, unblanked-length counts (take doubt doubtful), length-take doubt doubtful)
 
 -- ---- the root of the tree
 
-module _ (k : ℕ) (costs doubtful : List ℕ) (doubt : ℕ) (f : Found) where
-  pub root : (word flags : List ℕ) (rows : List (List ℕ)) (leads : List ℕ) (m L : ℕ) → Asked k costs doubtful doubt
-      → word ≡ bestWord places (columnOf symbols costs)
-      → (Places places (take doubt doubtful) → Flagged places (take doubt doubtful) flags) → m ≡ mOf k → L ≡ limitOf k
-      → Basis K16 classes L (ThroughNodes m (settled word flags places)) (polynomials m rows) (leadAt leads)
-      → SearchOf k (columnOf symbols costs) word (drop (doubt - doubt) (take doubt doubtful)) rows leads doubt f
-      → Sound k (columnOf symbols costs) f → f ≡ nearestOf k costs doubtful doubt
+module _ (k : ℕ) (costs doubtful : List ℕ) (doubt : ℕ) (f : Found) (counts : List ℕ) (b : ℕ) where
+  abbrev columns : ℕ → List ℕ
+  columns = columnOf symbols costs
+
+  -- the places that are doubled
+  abbrev doubled : List ℕ
+  doubled = unblanked (openAt columns) (take doubt doubtful)
+
+  pub root : (word flags : List ℕ) (rows : List (List ℕ)) (leads : List ℕ) (m L : ℕ) (picked : Picked) → Asked k costs doubtful doubt
+      → Marked k columns counts b → word ≡ bestWord places columns → PickedOf (unblanked (flagAt counts) (take doubt doubtful)) picked
+      → (Places places (take (picked .count) (picked .places)) → Flagged places (flagAt counts) (take (picked .count) (picked .places)) flags) → m ≡ mOf k
+      → L ≡ limitOf k b → Basis K16 classes L (ThroughNodes m (settled word flags places)) (polynomials m rows) (leadAt leads)
+      → SearchOf k columns word (drop (picked .count - picked .count) (take (picked .count) (picked .places))) rows leads (picked .count) f
+      → Sound k columns f → f ≡ nearestOf k costs doubtful doubt
   unfolding testWords
-  root word flags rows leads m L A w-is flagged m-is L-is B S sound =
-      let z : doubt - doubt ≡ 0 = omega arith in
-      let S′ : SearchOf k (columnOf symbols costs) word (take doubt doubtful) rows leads doubt f =
-      subst (λ n. SearchOf k (columnOf symbols costs) word (drop n (take doubt doubtful)) rows leads doubt f) z S in
-      let N : Nearest k (columnOf symbols costs) (testWords places (columnOf symbols costs) (take doubt doubtful)) f =
-      subst (λ w. Nearest k (columnOf symbols costs) (expand (columnOf symbols costs) w (take doubt doubtful)) f) w-is
+  root word flags rows leads m L picked A M w-is D flagged m-is L-is B S sound =
+      let z : picked .count - picked .count ≡ 0 = omega arith in
+      let taken : take (picked .count) (picked .places) ≡ doubled =
+      picked-take D (picked-few (flagAt counts) doubtful (A .few) D) ∙ ap (λ c. unblanked c (take doubt doubtful)) (M .flags) in
+      let P : Places places doubled = places-unblanked (openAt columns) (A .fit) in
+      let F : Flagged places (openAt columns) doubled flags =
+      subst₂ (λ c ps. Flagged places c ps flags) (M .flags) taken (flagged (subst (Places places) (sym taken) P)) in
+      let S′ : SearchOf k columns word doubled rows leads (picked .count) f =
+      subst₂ (λ n ps. SearchOf k columns word (drop n ps) rows leads (picked .count) f) z taken S in
+      let N : Nearest k columns (testWords places columns (take doubt doubtful)) f =
+      subst (λ w. Nearest k columns (expand columns w doubled) f) w-is
       (S′ .finds
       (record {
         nodes = settled word flags places;
-        decided = settled-decided word flags m16 (take doubt doubtful) (flagged (A .fit));
-        basis = subst₂ (λ n l. Basis K16 classes l (ThroughNodes n (settled word flags places)) (polynomials n rows) (leadAt leads)) m-is L-is B;
+        decided = settled-decided word flags m16 (openAt columns) doubled F;
+        all-open = λ p i. unblanked-member (openAt columns) (take doubt doubtful) p i .1;
+        basis =
+            subst₂ (λ n l. Basis K16 classes l (ThroughNodes n (settled word flags places)) (polynomials n rows) (leadAt leads)) m-is
+            (L-is ∙ limit-marked M) B;
       })
-      (A .fit)) in
+      P) in
       found-is N sound ∙ sym (nearest-asked k costs doubtful doubt A)

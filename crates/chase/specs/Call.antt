@@ -1,6 +1,8 @@
 -- What the search for the nearest codeword answers.
 --
---   Asked rate costs doubtful doubt    a known rate, 1,024 costs, and at most 8 doubtful places, different and below 64
+--   Asked rate costs doubtful doubt    a known rate, 1,024 costs, at most 8 doubtful places, different and below 64, and no more blank places than
+--                                      the rate allows
+--   wellFormed rate costs doubtful doubt   the test of all of it but the blank places
 --   askedOf rate costs doubtful doubt  the test of Asked
 --   nearestOf rate costs doubtful doubt   what the test words of the costs and the doubtful places find, where it may be asked for, and
 --                                      nothing where not
@@ -16,7 +18,7 @@ use Rattle.code.specs.Encoding.{encodeOf, knownRate}
 use Rattle.soft.specs.Column.{places, symbols, columnOf}
 use Rattle.soft.specs.Doubt.{mostDoubt}
 use Rattle.soft.specs.TestWord.{testWords}
-use Rattle.near.specs.Here.{Places}
+use Rattle.near.specs.Here.{Places, blankLimit, blanksIn}
 use Rattle.answers.specs.declared.Found.{Found}
 use Rattle.answers.specs.Result.{totalIs, nothingFound, foundOf}
 use Rattle.answers.specs.Nearest.{Nearest}
@@ -27,10 +29,14 @@ pub record Asked (rate : ℕ) (costs doubtful : List ℕ) (doubt : ℕ) : Type 0
   pub size : length costs ≡ places * symbols
   pub few : doubt ≤ mostDoubt
   pub fit : Places (take doubt doubtful)
+  pub few-blank : blanksIn (columnOf symbols costs) ≤ blankLimit rate
+
+unfoldable pub wellFormed : ℕ → List ℕ → List ℕ → ℕ → Bool
+wellFormed rate costs doubtful doubt =
+    knownRate rate && (eqb (length costs) (places * symbols) && (leb doubt mostDoubt && arePlaces (take doubt doubtful)))
 
 unfoldable pub askedOf : ℕ → List ℕ → List ℕ → ℕ → Bool
-askedOf rate costs doubtful doubt =
-    knownRate rate && (eqb (length costs) (places * symbols) && (leb doubt mostDoubt && arePlaces (take doubt doubtful)))
+askedOf rate costs doubtful doubt = wellFormed rate costs doubtful doubt && leb (blanksIn (columnOf symbols costs)) (blankLimit rate)
 
 unfoldable pub nearestOf : ℕ → List ℕ → List ℕ → ℕ → Found
 nearestOf rate costs doubtful doubt =

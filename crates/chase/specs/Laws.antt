@@ -1,33 +1,38 @@
 -- The test of what may be asked decides it, and what the call says in each case.
 --
+--   asked-form, form-asked   what is well formed, with no more blank places than the rate allows, may be asked, and the other way round
 --   asked-yes, asked-is   the test decides Asked
 --   nearest-asked, nearest-unasked   the two cases of the call
 --   nearest-call          what it says of the near codewords
 use mathlib.Core.Bool.{Bool, true, false, cond, _&&_, false≢true}
 use mathlib.Core.Path.{_≡_, refl, sym, ap, _∙_, subst}
 use mathlib.Core.List.{List}
-use Prim.Native.Nat.{ℕ, _*_}
+use Prim.Native.Nat.{ℕ, _*_, _≤_}
 use lib.Dec.{leb, eqb}
 use lib.ListN.{length, take}
 use borrow.Author.Tests.{eq-eqb, eqb-true, le-leb, leb-true}
-use Rattle.lists.specs.Distinct.{below, distinct, and-left, and-right}
+use Rattle.lists.specs.Distinct.{below, distinct, and-left, and-right, and-both}
 use Rattle.code.specs.Encoding.{knownRate}
 use Rattle.code.specs.Rates.{known-bounds}
 use Rattle.soft.specs.Column.{places, symbols, columnOf}
 use Rattle.soft.specs.Doubt.{mostDoubt}
 use Rattle.soft.specs.TestWord.{testWords}
+use Rattle.near.specs.Here.{blankLimit, blanksIn}
 use Rattle.near.specs.Tree.{places-of, places-test}
 use Rattle.near.specs.Flags as Family
 use Rattle.answers.specs.declared.Found.{Found}
 use Rattle.answers.specs.Result.{nothingFound, foundOf}
 use Rattle.answers.specs.Nearest.{Nearest}
 use Rattle.answers.specs.Answered.{Sound, sound-nothing, found-nearest, found-sound}
-use Rattle.chase.specs.Call.{Asked, askedOf, nearestOf, NearestCall}
+use Rattle.chase.specs.Call.{Asked, wellFormed, askedOf, nearestOf, NearestCall}
 
 module _ (rate : ℕ) (costs doubtful : List ℕ) (doubt : ℕ) where
-  pub asked-yes : askedOf rate costs doubtful doubt ≡ true → Asked rate costs doubtful doubt
-  unfolding askedOf Family.arePlaces
-  asked-yes e =
+  abbrev blank : ℕ
+  blank = blanksIn (columnOf symbols costs)
+
+  pub asked-form : wellFormed rate costs doubtful doubt ≡ true → blank ≤ blankLimit rate → Asked rate costs doubtful doubt
+  unfolding wellFormed Family.arePlaces
+  asked-form e few-blank =
       let size = eqb (length costs) (places * symbols) in
       let few = leb doubt mostDoubt in
       let b = below places (take doubt doubtful) in
@@ -40,13 +45,25 @@ module _ (rate : ℕ) (costs doubtful : List ℕ) (doubt : ℕ) where
         size = eqb-true (length costs) (places * symbols) (and-left size (few && (b && d)) s);
         few = leb-true doubt mostDoubt (and-left few (b && d) f);
         fit = places-of places (take doubt doubtful) (and-left b d p) (and-right b d p);
+        few-blank = few-blank;
       }
 
-  pub asked-is : Asked rate costs doubtful doubt → askedOf rate costs doubtful doubt ≡ true
-  unfolding askedOf Family.arePlaces
-  asked-is A =
+  pub form-asked : Asked rate costs doubtful doubt → wellFormed rate costs doubtful doubt ≡ true
+  unfolding wellFormed Family.arePlaces
+  form-asked A =
       let t = places-test (A .fit) in
       rw (A .known, eq-eqb (length costs) (places * symbols) (A .size), le-leb doubt mostDoubt (A .few), t .0, t .1)
+
+  pub asked-yes : askedOf rate costs doubtful doubt ≡ true → Asked rate costs doubtful doubt
+  unfolding askedOf
+  asked-yes e =
+      let form = wellFormed rate costs doubtful doubt in
+      asked-form (and-left form (leb blank (blankLimit rate)) e) (leb-true blank (blankLimit rate) (and-right form (leb blank (blankLimit rate)) e))
+
+  pub asked-is : Asked rate costs doubtful doubt → askedOf rate costs doubtful doubt ≡ true
+  unfolding askedOf
+  asked-is A =
+      and-both (wellFormed rate costs doubtful doubt) (leb blank (blankLimit rate)) (form-asked A) (le-leb blank (blankLimit rate) (A .few-blank))
 
   -- what the test words find
   abbrev found : Found

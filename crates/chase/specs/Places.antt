@@ -1,7 +1,7 @@
 -- The doubtful places as they are given, and the flags of the others, in document 01's modem.
 --
---   arePlaces ps        the test of a list's places, and
---   Flagged ps flags    the flags of the settled places, as the family has them
+--   arePlaces ps             the test of a list's places, and
+--   Flagged counts ps flags  the flags of the settled places of those that count, as the family has them
 use mathlib.Core.Bool.{Bool}
 use mathlib.Core.List.{List}
 use Prim.Native.Nat.{ℕ}
@@ -11,5 +11,5 @@ use Rattle.near.specs.Flags as Family
 abbrev pub arePlaces : List ℕ → Bool
 arePlaces ps = Family.arePlaces places ps
 
-abbrev pub Flagged : List ℕ → List ℕ → Type 0
-Flagged ps flags = Family.Flagged places ps flags
+abbrev pub Flagged : (ℕ → Bool) → List ℕ → List ℕ → Type 0
+Flagged counts ps flags = Family.Flagged places counts ps flags

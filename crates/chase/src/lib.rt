@@ -1,34 +1,71 @@
-// The search for the nearest codeword as one call: what may be asked, the settled places' basis, and the tree from there. It knows of no
-// session and no buffers.
+// The search for the nearest codeword as one call: what may be asked, the settled places' basis, and the tree from there. Blank places are
+// neither settled nor doubled. It knows of no session and no buffers.
 ghost use mathlib.Core.Path.{_≡_};
 ghost use Prim.Native.Nat.{_≤_};
 ghost use lib.ListN.{take};
+ghost use Rattle.soft.specs.Blank.{flagAt, unblanked};
 ghost use Rattle.soft.specs.Doubt.{mostDoubt};
+ghost use Rattle.doubt.specs.Picked.{PickedOf};
 ghost use Rattle.near.specs.Here.{Places};
 ghost use Rattle.chase.specs.Places.{arePlaces, Flagged};
-ghost use Rattle.chase.specs.Call.{askedOf, nearestOf};
+ghost use Rattle.chase.specs.Call.{wellFormed, nearestOf};
 use answers::Found;
 use answers::none_near;
 use basis::CLASSES;
 use candidate::rate::LEAST_RATE;
 use candidate::rate::MOST_RATE;
+use candidate::rate::blank_limit;
 use candidate::rate::largest_key;
 use candidate::rate::top_order;
+use columns::bit::bit;
+use columns::blank::blanks;
+use columns::blank::open_places;
 use columns::costs::COSTS;
 use columns::costs::PLACES;
 use columns::word::best_word;
 use doubt::MOST_DOUBT;
+use doubt::Picked;
+use doubt::with_place;
 use encoding::known_rate;
 use interpolation::settle::settle;
 use known::Undecided;
 use tree::search;
 
-// A flag of 1 for the settled places.
-fn settled_places(doubtful: [u8; MOST_DOUBT], doubt: usize) -> [u8; PLACES]
-    requires { ⌜ doubt ≤ mostDoubt ⌝ }
-    ensures { λ r. ⌜ (Places (take doubt doubtful) → Flagged (take doubt doubtful) r) ⌝ }
+// Whether a place's flag is 1; past the last place there is none.
+fn has_flag(flags: [u8; PLACES], place: usize) -> bool
+    ensures { λ r. ⌜ r ≡ flagAt flags place ⌝ }
 {
-    let mut out = [1u8; PLACES];
+    if PLACES <= place {
+        return false;
+    }
+    flags[place] == 1
+}
+
+// The doubtful places that are doubled: those that count, in their order.
+fn doubled_places(doubtful: [u8; MOST_DOUBT], doubt: usize, counts: [u8; PLACES]) -> Picked
+    requires { ⌜ doubt ≤ mostDoubt ⌝ }
+    ensures { λ r. ⌜ PickedOf (unblanked (flagAt counts) (take doubt doubtful)) r ⌝ }
+{
+    let mut places = [0u8; MOST_DOUBT];
+    let mut count = 0;
+    let mut i = 0;
+    while i < doubt {
+        let place = doubtful[i];
+        let chosen = has_flag(counts, place as usize);
+        let longer = with_place(places, count, place, chosen);
+        places = longer;
+        count += bit(chosen) as usize;
+        i += 1;
+    }
+    Picked { places, count }
+}
+
+// A flag of 1 for the settled places: those that count, but for the doubtful ones.
+fn settled_places(doubtful: [u8; MOST_DOUBT], doubt: usize, counts: [u8; PLACES]) -> [u8; PLACES]
+    requires { ⌜ doubt ≤ mostDoubt ⌝ }
+    ensures { λ r. ⌜ (Places (take doubt doubtful) → Flagged (flagAt counts) (take doubt doubtful) r) ⌝ }
+{
+    let mut out = counts;
     let mut i = 0;
     while i < doubt {
         let place = doubtful[i] as usize % PLACES;
@@ -59,9 +96,9 @@ fn are_places(doubtful: [u8; MOST_DOUBT], doubt: usize) -> bool
     true
 }
 
-// Whether the search may be asked: for a known rate, with 1,024 costs and at most eight doubtful places, different and below 64.
-fn asked(rate: usize, costs: &[u16], doubtful: [u8; MOST_DOUBT], doubt: usize) -> bool
-    ensures { λ r. ⌜ r ≡ askedOf rate (now (costs .entry)) doubtful doubt ⌝ }
+// Whether the arguments have the form of a session's: a known rate, 1,024 costs and at most eight doubtful places, different and below 64.
+fn well_formed(rate: usize, costs: &[u16], doubtful: [u8; MOST_DOUBT], doubt: usize) -> bool
+    ensures { λ r. ⌜ r ≡ wellFormed rate (now (costs .entry)) doubtful doubt ⌝ }
 {
     if !known_rate(rate) {
         return false;
@@ -75,8 +112,9 @@ fn asked(rate: usize, costs: &[u16], doubtful: [u8; MOST_DOUBT], doubt: usize) -
     are_places(doubtful, doubt)
 }
 
-// The answer by a table of costs and a list of doubtful places. Arguments that no session has, find nothing. The ranges of the rate and of
-// the doubt follow from `asked`; they stand first so that the compiler knows them in all that the search does.
+// The answer by a table of costs and a list of doubtful places. Arguments that no session has, find nothing, and so do too many blank places.
+// The ranges of the rate and of the doubt follow from `well_formed`; they stand first so that the compiler knows them in all that the search
+// does.
 pub fn nearest(rate: usize, costs: &[u16], doubtful: [u8; MOST_DOUBT], doubt: usize) -> Found
     ensures { λ r. ⌜ r ≡ nearestOf rate (now (costs .entry)) doubtful doubt ⌝ }
 {
@@ -89,19 +127,37 @@ pub fn nearest(rate: usize, costs: &[u16], doubtful: [u8; MOST_DOUBT], doubt: us
     if MOST_DOUBT < doubt {
         return none_near();
     }
-    if !asked(rate, costs, doubtful, doubt) {
+    if !well_formed(rate, costs, doubtful, doubt) {
+        return none_near();
+    }
+    let counts = open_places(costs);
+    let blank = blanks(counts);
+    if blank_limit(rate) < blank {
         return none_near();
     }
     let word = best_word(costs);
     let m = top_order(rate);
-    let limit = largest_key(rate);
-    let flags = settled_places(doubtful, doubt);
+    let limit = largest_key(rate, blank);
+    let doubled = doubled_places(doubtful, doubt, counts);
+    let places = doubled.places;
+    let count = doubled.count;
+    let flags = settled_places(places, count, counts);
     let mut leads = [0usize; CLASSES];
     let rows = settle(word, flags, m, limit, &mut leads);
     let undecided = Undecided {
-        doubtful,
-        doubt,
-        left: doubt,
+        doubtful: places,
+        doubt: count,
+        left: count,
     };
-    search(rows, leads, word, costs, rate, undecided, none_near())
+    search(
+        rows,
+        leads,
+        word,
+        costs,
+        rate,
+        undecided,
+        none_near(),
+        counts,
+        blank,
+    )
 }

@@ -1,27 +1,35 @@
--- When the search may be asked: for a rate and a doubtful list that opening accepts.
+-- When the search may be asked: for a rate and a doubtful list that opening accepts, where few enough places are blank.
 --
+--   Askable rate costs doubtful doubt   a known rate, 1,024 costs, and at most 8 doubtful places, different and below 64
+--   asked-open, unasked-blank   so the search may be asked, exactly if no more places are blank than the limit
 --   fit-places         a fit doubtful list has different places, all below the number of places
---   asked-fit          so the search may be asked for it at a known rate
+--   askable-fit        so the arguments are such at a known rate
 use mathlib.Core.Bool.{true, _&&_}
 use mathlib.Core.Path.{_≡_}
 use mathlib.Core.List.{List, [], _∷_, List·Memᴰ, List·Memᴰ·cases-cons, List·Memᴰ·not-nil}
 use mathlib.Core.Logic.{⊎-elim}
-use Prim.Native.Nat.{ℕ, suc, _*_, _≤_}
+use Prim.Native.Nat.{ℕ, suc, _*_, _<_, _≤_}
 use native.Mathlib.Omega.{arith}
 use lib.Dec.{leb}
 use lib.ListN.{length, take}
 use borrow.Author.Tests.{leb-true}
 use Rattle.lists.specs.Distinct.{below, below-cons, and-left, and-right}
 use Rattle.code.specs.Encoding.{knownRate}
-use Rattle.soft.specs.Column.{places, symbols}
+use Rattle.soft.specs.Column.{places, symbols, columnOf}
 use Rattle.soft.specs.Doubt.{mostDoubt}
-use Rattle.near.specs.Here.{Places}
+use Rattle.near.specs.Here.{blankLimit, blanksIn, Places}
 use Rattle.near.specs.Tree as Family
 use Rattle.near.specs.Tree.{places-nil, places-cons}
 use Rattle.book.specs.Opening.{risingFrom, rising}
 use Rattle.book.specs.Here.{fitDoubt}
 use Rattle.book.specs.Opening as BookOpening
 use Rattle.chase.specs.Call.{Asked}
+
+pub record Askable (rate : ℕ) (costs doubtful : List ℕ) (doubt : ℕ) : Type 0 where
+  pub known : knownRate rate ≡ true
+  pub size : length costs ≡ places * symbols
+  pub few : doubt ≤ mostDoubt
+  pub fit : Places (take doubt doubtful)
 
 rising-above : (n : ℕ) (list : List ℕ) → risingFrom n list ≡ true → (q : ℕ) → List·Memᴰ q list → n ≤ q
 unfolding risingFrom
@@ -51,7 +59,13 @@ fit-places list e =
     rising-places 0 places list (and-right b c f) (and-left b c f)
 
 module _ (rate : ℕ) (costs doubtful : List ℕ) (doubt : ℕ) where
-  pub asked-fit : knownRate rate ≡ true → fitDoubt (take doubt doubtful) ≡ true → length costs ≡ places * symbols → doubt ≤ mostDoubt
-      → Asked rate costs doubtful doubt
-  asked-fit known fit size few =
+  pub asked-open : Askable rate costs doubtful doubt → blanksIn (columnOf symbols costs) ≤ blankLimit rate → Asked rate costs doubtful doubt
+  asked-open a h = record { known = a .known; size = a .size; few = a .few; fit = a .fit; few-blank = h }
+
+  pub unasked-blank : blankLimit rate < blanksIn (columnOf symbols costs) → ¬ Asked rate costs doubtful doubt
+  unasked-blank h asked = omega (arith, asked .few-blank)
+
+  pub askable-fit : knownRate rate ≡ true → fitDoubt (take doubt doubtful) ≡ true → length costs ≡ places * symbols → doubt ≤ mostDoubt
+      → Askable rate costs doubtful doubt
+  askable-fit known fit size few =
       record { known = known; size = size; few = few; fit = fit-places (take doubt doubtful) fit }

@@ -1,17 +1,30 @@
 -- Single steps of the functions, over plain lists and numbers.
 --
---   places-start, places-turn, doubtful-end, doubtful-skipped   the doubtful places so far, in an array of w
-use mathlib.Core.Bool.{Bool, cond}
+--   key-open, key-blank    the key of a place, from its gap
+--   places-start, places-turn   the places chosen so far, in an array of w
+--   chosen-places, chosen-count   those chosen by the keys are the doubtful places
+--   skipped-places, skipped-count   without doubt there are none
+use mathlib.Core.Bool.{Bool, true, false, cond, true≢false, false≢true}
 use mathlib.Core.Path.{_≡_, sym, ap, ap₂, _∙_}
 use mathlib.Core.List.{List}
-use Prim.Native.Nat.{ℕ, _+_}
+use Prim.Native.Nat.{ℕ, _+_, _*_, _<_, _≤_}
 use native.Mathlib.Numerals.{add-one}
-use lib.ListN.{getD, set, replicate}
-use Rattle.lists.specs.Count.{count, kept, kept-nil, kept-suc, kept-length}
-use Rattle.lists.specs.Listed.{listed, listed-at}
+use native.Mathlib.Omega.{arith}
+use lib.ListN.{length, set, replicate}
+use Rattle.lists.specs.Count.{count, kept, kept-nil, kept-suc, kept-ext, kept-length}
 use Rattle.lists.specs.Padded.{padded, padded-nil, padded-if}
-use Rattle.soft.specs.Doubt.{fewAhead, entryOf, gapAt, smallest, doubtfulOf}
-use Rattle.soft.specs.DoubtLaws.{smallest-ext, doubtful-none}
+use Rattle.soft.specs.Blank.{openAt}
+use Rattle.soft.specs.Doubt.{fewAhead, gapAt, smallest, doubtfulOf}
+use Rattle.soft.specs.DoubtLaws.{doubtful-none}
+use Rattle.doubt.specs.Keys.{KeyOf, Keyed, chosenBy, chosen-few}
+
+-- the key of a place
+module _ {n far : ℕ} {columns : ℕ → List ℕ} {p key : ℕ} where
+  pub key-open : true ≡ openAt columns p → key ≡ gapAt columns p * n + p → key < far → KeyOf n far columns p key
+  key-open o e l = record { ordered = λ _. (e, l); behind = λ b. absurd (true≢false (o ∙ b)) }
+
+  pub key-blank : false ≡ openAt columns p → far ≤ key → KeyOf n far columns p key
+  key-blank b l = record { ordered = λ o. absurd (false≢true (b ∙ o)); behind = λ _. l }
 
 -- the doubtful places in an array of w
 module _ (w : ℕ) where
@@ -24,16 +37,22 @@ module _ (w : ℕ) where
       er ∙ ap₂ (λ t o. cond t (set o found p) o) eb eo ∙ padded-if w (kept p f) p found (f p) (ef ∙ sym (kept-length p f))
       ∙ ap (padded w) (sym (kept-suc p f) ∙ ap (λ n. kept n f) (sym (add-one p)))
 
-  module _ (n d : ℕ) (columns : ℕ → List ℕ) where
-    pub doubtful-end : (gaps out : List ℕ) → gaps ≡ listed n (gapAt columns)
-        → out ≡ padded w (kept n (fewAhead n d (entryOf gaps))) → out ≡ padded w (doubtfulOf n d columns)
-    unfolding smallest doubtfulOf
-    doubtful-end gaps out eg eo =
-        eo
-        ∙ ap (padded w)
-        (smallest-ext n d (entryOf gaps) (gapAt columns)
-        (λ p l. ap (λ g. getD g p 0) eg ∙ listed-at n p (gapAt columns) 0 l))
+-- those chosen by the keys are the doubtful places
+module _ {n far : ℕ} {columns : ℕ → List ℕ} {keys : List ℕ} (K : Keyed n far columns keys) (d : ℕ) where
+  doubtful-chosen : kept n (chosenBy n far d keys) ≡ doubtfulOf n d columns
+  unfolding smallest doubtfulOf
+  doubtful-chosen = kept-ext n (chosenBy n far d keys) (fewAhead n d (openAt columns) (gapAt columns)) (chosen-few K d)
 
-    pub doubtful-skipped : d ≡ 0 → replicate w 0 ≡ padded w (doubtfulOf n d columns)
-    doubtful-skipped e =
-        sym (ap (λ k. padded w (doubtfulOf n k columns)) e ∙ ap (padded w) (doubtful-none n columns) ∙ padded-nil w)
+  pub chosen-places : (w : ℕ) {out : List ℕ} → out ≡ padded w (kept n (chosenBy n far d keys)) → out ≡ padded w (doubtfulOf n d columns)
+  chosen-places w e = e ∙ ap (padded w) doubtful-chosen
+
+  pub chosen-count : {found : ℕ} → found ≡ count n (chosenBy n far d keys) → found ≡ length (doubtfulOf n d columns)
+  chosen-count e = e ∙ sym (kept-length n (chosenBy n far d keys)) ∙ ap length doubtful-chosen
+
+-- and without doubt there are none
+module _ (n : ℕ) (columns : ℕ → List ℕ) (d : ℕ) (e : d ≡ 0) where
+  pub skipped-places : (w : ℕ) → replicate w 0 ≡ padded w (doubtfulOf n d columns)
+  skipped-places w = sym (ap (λ k. padded w (doubtfulOf n k columns)) e ∙ ap (padded w) (doubtful-none n columns) ∙ padded-nil w)
+
+  pub skipped-count : 0 ≡ length (doubtfulOf n d columns)
+  skipped-count = sym (ap (λ k. length (doubtfulOf n k columns)) e ∙ ap length (doubtful-none n columns))

@@ -1,5 +1,6 @@
-// The doubtful places of a table: those of smallest gap. It knows of no word and no code.
+// The doubtful places of a table: of those that are not blank the ones of smallest gap. It knows of no word and no code.
 use columns::bit::bit;
+use columns::blank::is_open;
 use columns::column::gap;
 use columns::costs::PLACES;
 use columns::costs::column_of;
@@ -7,50 +8,68 @@ ghost use mathlib.Core.Path.{_≡_};
 ghost use mathlib.Core.Bool.{cond};
 ghost use Prim.Native.Nat.{_<_};
 ghost use lib.ListN.{set};
-ghost use Rattle.lists.specs.Listed.{listed};
-ghost use Rattle.lists.specs.Padded.{padded};
+ghost use Rattle.lists.specs.Rank.{rankOf};
 ghost use Rattle.soft.specs.Column.{places, symbols, columnOf};
-ghost use Rattle.soft.specs.Doubt.{mostDoubt, aheadBy, aheadOf, gapAt, doubtfulOf, entryOf};
+ghost use Rattle.soft.specs.Doubt.{doubtfulOf, entryOf};
+ghost use Rattle.doubt.specs.Keys.{far, KeyOf, Keyed, chosenWith};
+ghost use Rattle.doubt.specs.Picked.{PickedOf};
 
 pub const MOST_DOUBT: usize = 8;
 
-// Is the place with this gap ahead of another place with its gap?
-fn ahead(gap: u16, place: u16, wide: u16, other: u16) -> bool
-    ensures { λ r. ⌜ r ≡ aheadBy gap place wide other ⌝ }
-{
-    if gap < wide {
-        return true;
-    }
-    if wide < gap {
-        return false;
-    }
-    place < other
+// Above the key of every place that is not blank: 65,536 gaps times 64 places.
+const FAR: u32 = 4194304;
+
+// Places from the front of an array, and how many they are.
+pub struct Picked {
+    pub places: [u8; MOST_DOUBT],
+    pub count: usize,
 }
 
-fn gaps_of(costs: &[u16]) -> [u16; PLACES]
-    ensures { λ r. ⌜ r ≡ listed places (gapAt (columnOf symbols (now (costs .entry)))) ⌝ }
+// The key of a place puts it in order: by gap, then by place, and a blank place behind all that are not.
+fn key_of(costs: &[u16], place: usize) -> u32
+    requires { ⌜ place < places ⌝ }
+    ensures { λ r. ⌜ KeyOf places far (columnOf symbols (now (costs .entry))) place r ⌝ }
 {
-    let mut out = [0u16; PLACES];
+    if is_open(costs, place) {
+        return (gap(column_of(costs, place)) as usize * PLACES + place) as u32;
+    }
+    FAR
+}
+
+fn keys_of(costs: &[u16]) -> [u32; PLACES]
+    ensures { λ r. ⌜ Keyed places far (columnOf symbols (now (costs .entry))) r ⌝ }
+{
+    let mut out = [0u32; PLACES];
     for place in 0..PLACES {
-        out[place] = gap(column_of(costs, place));
+        out[place] = key_of(costs, place);
     }
     out
 }
 
 // How many places are ahead of one.
-fn ahead_of(gaps: [u16; PLACES], other: usize) -> u16
+fn ahead_of(keys: [u32; PLACES], other: usize) -> u32
     requires { ⌜ other < places ⌝ }
-    ensures { λ r. ⌜ r ≡ aheadOf places (entryOf gaps) other ⌝ }
+    ensures { λ r. ⌜ r ≡ rankOf (entryOf keys) places other ⌝ }
 {
-    let mut n = 0u16;
+    let mut n = 0u32;
     for place in 0..PLACES {
-        n += bit(ahead(gaps[place], place as u16, gaps[other], other as u16));
+        n += bit(keys[place] < keys[other]) as u32;
     }
     n
 }
 
+// Whether a place with this key and so many ahead of it is doubtful.
+fn chosen(key: u32, rank: usize, doubt: usize) -> bool
+    ensures { λ r. ⌜ r ≡ chosenWith far doubt key rank ⌝ }
+{
+    if FAR <= key {
+        return false;
+    }
+    rank < doubt
+}
+
 // One place more, if it is chosen and there is room.
-fn with_place(list: [u8; MOST_DOUBT], at: usize, place: u8, chosen: bool) -> [u8; MOST_DOUBT]
+pub fn with_place(list: [u8; MOST_DOUBT], at: usize, place: u8, chosen: bool) -> [u8; MOST_DOUBT]
     ensures { λ r. ⌜ r ≡ cond chosen (set list at place) list ⌝ }
 {
     let mut out = list;
@@ -62,22 +81,28 @@ fn with_place(list: [u8; MOST_DOUBT], at: usize, place: u8, chosen: bool) -> [u8
     out
 }
 
-// The doubtful places, rising, from the front of an array; the most doubt allowed finds room for all.
-pub fn doubtful(costs: &[u16], doubt: usize) -> [u8; MOST_DOUBT]
-    ensures { λ r. ⌜ r ≡ padded mostDoubt (doubtfulOf places doubt (columnOf symbols (now (costs .entry)))) ⌝ }
+// The doubtful places, rising; the most doubt allowed finds room for all. They are fewer than the doubt where too few places are not blank.
+pub fn doubtful(costs: &[u16], doubt: usize) -> Picked
+    ensures { λ r. ⌜ PickedOf (doubtfulOf places doubt (columnOf symbols (now (costs .entry)))) r ⌝ }
 {
     if doubt == 0 {
-        return [0u8; MOST_DOUBT];
+        return Picked {
+            places: [0u8; MOST_DOUBT],
+            count: 0,
+        };
     }
-    let gaps = gaps_of(costs);
+    let keys = keys_of(costs);
     let mut out = [0u8; MOST_DOUBT];
     let mut found = 0;
     for place in 0..PLACES {
-        let rank = ahead_of(gaps, place) as usize;
-        let chosen = rank < doubt;
-        let longer = with_place(out, found, place as u8, chosen);
+        let rank = ahead_of(keys, place) as usize;
+        let taken = chosen(keys[place], rank, doubt);
+        let longer = with_place(out, found, place as u8, taken);
         out = longer;
-        found += bit(chosen) as usize;
+        found += bit(taken) as usize;
     }
-    out
+    Picked {
+        places: out,
+        count: found,
+    }
 }

@@ -1,11 +1,13 @@
 // A known codeword near a node of the tree: whether it is the only one that can be near the test words below, and how many of them it is
 // near. It knows of no rows and no basis.
 ghost use mathlib.Core.Path.{_≡_};
+ghost use Prim.Native.Nat.{_≤_};
 ghost use lib.Dec.{leb};
 ghost use Rattle.lists.specs.Count.{bit};
+ghost use Rattle.soft.specs.Blank.{flagAt};
 ghost use Rattle.soft.specs.Column.{places, symbols, columnOf};
-ghost use Rattle.soft.specs.Total.{differing};
-ghost use Rattle.near.specs.Here.{reachOf};
+ghost use Rattle.soft.specs.Total.{differingIn};
+ghost use Rattle.near.specs.Here.{blankLimit, reachOf};
 ghost use Rattle.candidate.specs.Ranged.{Ranged};
 ghost use Rattle.known.specs.Known.{leftOf, Fits, laterOf, filledOf, governsOf, WithinOf, aloneOf, belowOf};
 use answers::Answer;
@@ -57,11 +59,19 @@ fn filled(codeword: Word, word: Word, undecided: Undecided) -> Word
     out
 }
 
-// Is no other codeword than the known one within T of any test word below a node? Two codewords differ in at least 64 - M places; and the
-// known one differs from such a test word only in decided places in which it differs from the word, and in places left.
-pub fn governs(known: Found, word: Word, k: usize, undecided: Undecided) -> bool
-    requires { ⌜ Ranged k × Fits undecided ⌝ }
-    ensures { λ r. ⌜ r ≡ governsOf k known word (leftOf undecided) ⌝ }
+// Is no other codeword than the known one within T of any test word below a node? Of the places that count, those with the flag 1, two codewords
+// differ in at least 64 - M without the blank ones; and the known one differs from such a test word only in decided places in which it differs
+// from the word, and in places left.
+pub fn governs(
+    known: Found,
+    word: Word,
+    k: usize,
+    undecided: Undecided,
+    counts: [u8; PLACES],
+    blanks: usize,
+) -> bool
+    requires { ⌜ Ranged k × Fits undecided × (blanks ≤ blankLimit k) ⌝ }
+    ensures { λ r. ⌜ r ≡ governsOf k counts blanks known word (leftOf undecided) ⌝ }
 {
     let answer = known.answer;
     if let Answer::NoneNear = answer {
@@ -69,15 +79,16 @@ pub fn governs(known: Found, word: Word, k: usize, undecided: Undecided) -> bool
     }
     let codeword = known.codeword;
     let agreed = filled(codeword, word, undecided);
-    distance(codeword, agreed) + undecided.left + reach(k) < least_distance(k)
+    let apart = distance(codeword, agreed, counts) + undecided.left + reach(k, blanks);
+    apart < least_distance(k) - blanks
 }
 
 // 1 for a word within T of the codeword, and 0 for any other.
-fn within(codeword: Word, word: Word, k: usize) -> usize
-    requires { ⌜ Ranged k ⌝ }
-    ensures { λ r. ⌜ r ≡ bit (leb (differing places codeword word) (reachOf k)) ⌝ }
+fn within(codeword: Word, word: Word, k: usize, counts: [u8; PLACES], blanks: usize) -> usize
+    requires { ⌜ Ranged k × (blanks ≤ blankLimit k) ⌝ }
+    ensures { λ r. ⌜ r ≡ bit (leb (differingIn (flagAt counts) places codeword word) (reachOf k blanks)) ⌝ }
 {
-    if distance(codeword, word) <= reach(k) {
+    if distance(codeword, word, counts) <= reach(k, blanks) {
         return 1;
     }
     0
@@ -90,14 +101,16 @@ pub fn tests_within(
     costs: &[u16],
     k: usize,
     undecided: Undecided,
+    counts: [u8; PLACES],
+    blanks: usize,
 ) -> usize
-    requires { ⌜ Ranged k × Fits undecided ⌝ }
+    requires { ⌜ Ranged k × Fits undecided × (blanks ≤ blankLimit k) ⌝ }
     ensures { λ r.
-        ⌜ WithinOf k (columnOf symbols (now (costs .entry))) codeword word (leftOf undecided) (undecided .left) r ⌝ }
+        ⌜ WithinOf k counts blanks (columnOf symbols (now (costs .entry))) codeword word (leftOf undecided) (undecided .left) r ⌝ }
 {
     let left = undecided.left;
     if left == 0 {
-        return within(codeword, word, k);
+        return within(codeword, word, k, counts, blanks);
     }
     let place = undecided.doubtful[undecided.doubt - left] as usize % PLACES;
     let mut next = undecided;
@@ -107,10 +120,10 @@ pub fn tests_within(
     let other = second(column);
     let mut first_word = word;
     first_word[place] = symbol;
-    let first = tests_within(codeword, first_word, costs, k, next);
+    let first = tests_within(codeword, first_word, costs, k, next, counts, blanks);
     let mut other_word = word;
     other_word[place] = other;
-    let rest = tests_within(codeword, other_word, costs, k, next);
+    let rest = tests_within(codeword, other_word, costs, k, next, counts, blanks);
     first + rest
 }
 

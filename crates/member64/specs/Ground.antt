@@ -3,10 +3,11 @@
 --   genus-8        the genus is 28
 --   places-512     the 512 places are different points of the curve; every-place: and every point is one of them
 --   workable-512   rates from 28 to 456 have a T
---   reaches-512    T = 83 at rate 289, where M = 316, and T = 23 at rate 409, where M = 436
+--   reaches-512    without blank places T = 83 at rate 289, where M = 316, and T = 23 at rate 409, where M = 436
+--   limits-512     167 blank places at rate 289 and 47 at rate 409 leave a T, which is then 0
 --   apart-512      the codewords of different messages differ in at least 512 − M places
 --   read-512       reading back gives the message of every codeword, at every rate up to 484
---   near-512       at most one message has its codeword within T of a word
+--   near-512       at most one message has its codeword within T of a word, over the places that are not blank
 use mathlib.Core.Path.{_≡_, refl}
 use mathlib.Core.List.{List}
 use mathlib.Core.Option.{some}
@@ -18,14 +19,15 @@ use Rattle.lists.specs.Answers.{Found}
 use Rattle.galois.specs.BinaryField.{K}
 use Rattle.hermitian.specs.Present.{genus}
 use Rattle.hermitian.specs.Points.{Points}
+use Rattle.soft.specs.Blank.{openAt, blanksOf}
 use Rattle.soft.specs.Total.{everywhere, differing}
 use Rattle.family.specs.Curve.{isOnCurve, xOf, yOf}
 use Rattle.family.specs.Member.{px, py}
 use Rattle.family.specs.Points.{points, every-point}
 use Rattle.family.specs.Encoding.{encodeOf, readBackOf}
 use Rattle.family.specs.Laws.{read-encoded}
-use Rattle.near.specs.Near.{mOf, reachOf, nearTo}
-use Rattle.near.specs.Reach.{Workable, count-everywhere, radius}
+use Rattle.near.specs.Near.{mOf, blankLimit, reachOf, nearTo}
+use Rattle.near.specs.Reach.{Workable, count-everywhere, reachIn, repairs-open}
 use Rattle.near.specs.Distance.{codewords-apart}
 use Rattle.near.specs.Codeword.{near-one}
 use Rattle.member64.specs.Member64.{gf64, m64}
@@ -43,9 +45,13 @@ every-place = every-point m64
 pub workable-512 : {k : ℕ} → 28 ≤ k → k ≤ 456 → Workable m64 k
 workable-512 l h = record { least = omega (arith, genus-8); most = omega (arith, genus-8) }
 
-pub reaches-512 : (mOf m64 289 ≡ 316) × (reachOf m64 289 ≡ 83) × (mOf m64 409 ≡ 436) × (reachOf m64 409 ≡ 23)
-unfolding reachOf mOf genus
+pub reaches-512 : (mOf m64 289 ≡ 316) × (reachOf m64 289 0 ≡ 83) × (mOf m64 409 ≡ 436) × (reachOf m64 409 0 ≡ 23)
+unfolding reachOf blankLimit mOf genus
 reaches-512 = (refl, refl, refl, refl)
+
+pub limits-512 : (blankLimit m64 289 ≡ 167) × (reachOf m64 289 167 ≡ 0) × (blankLimit m64 409 ≡ 47) × (reachOf m64 409 47 ≡ 0)
+unfolding reachOf blankLimit mOf genus
+limits-512 = (refl, refl, refl, refl)
 
 pub apart-512 : {k : ℕ} → Workable m64 k → {m n : List ℕ} → Word 64 k m → Word 64 k n → (m ≡ n → ⊥)
     → 512 ≤ mOf m64 k + differing 512 (encodeOf m64 k m) (encodeOf m64 k n)
@@ -54,6 +60,7 @@ apart-512 rate u v other = omega (arith, count-everywhere 512, codewords-apart m
 pub read-512 : (k : ℕ) → k ≤ 484 → (m : List ℕ) → Word 64 k m → readBackOf m64 k (encodeOf m64 k m) ≡ some m
 read-512 k most = read-encoded m64 k (omega (arith, genus-8))
 
-pub near-512 : {k : ℕ} → Workable m64 k → (word : List ℕ) {m n : List ℕ} → Found 64 k (nearTo m64 everywhere (reachOf m64 k) k word) m
-    → Found 64 k (nearTo m64 everywhere (reachOf m64 k) k word) n → m ≡ n
-near-512 {k} rate word = near-one m64 everywhere (reachOf m64 k) rate word (radius m64 rate)
+pub near-512 : {k : ℕ} → Workable m64 k → (columns : ℕ → List ℕ) → blanksOf 512 columns ≤ blankLimit m64 k → (word : List ℕ) {m n : List ℕ}
+    → Found 64 k (nearTo m64 (openAt columns) (reachIn m64 k columns) k word) m → Found 64 k (nearTo m64 (openAt columns) (reachIn m64 k columns) k word) n
+    → m ≡ n
+near-512 {k} rate columns few word = near-one m64 (openAt columns) (reachIn m64 k columns) rate word (repairs-open m64 rate columns few)

@@ -1,24 +1,31 @@
--- Nearness in document 01's modem: GF(16) with w = 4, T by the rate, and every place counts.
+-- Nearness in document 01's modem: GF(16) with w = 4, T by the rate and the blank places, and of the places those count that are not blank.
 --
---   mOf k, reachOf k          M = k + 5 (m-is), and T, the largest with 2T < 64 − M − 6 (reach-is)
---   nearTo, codewordNear, near, testsNear, messageCost, answerOf, marginOf, limitOf, nodesOf   as the family has them
+--   mOf k                     M = k + 5 (m-is)
+--   blankLimit k              57 − M, the most blank places (blank-limit-is): 13 at rate 39 and 3 at rate 49 (blank-limits)
+--   reachOf k b               T with b blank places, the largest with 2T + b < 64 − M − 6 (IsReach, t-is); reach-table: T for every b at both rates
+--   reachIn k columns         T where the blank places are those of the columns
+--   nearTo, codewordNear, near, testsNear k columns …   as the family has them, of the places that are not blank in these columns
+--   messageCost, answerOf, marginOf, limitOf, nodesOf   the same
 --   Workable k                k from 6 to 52 (workable)
---   reaches                   T = 6 at rate 39 and T = 1 at rate 49, with M = 44 and M = 54
---   repairable                T wrong places can be repaired
---   Places ps, Decided word ps ns   different places below 64, and the nodes of a word at all other places
+--   reaches                   without blank places T = 6 at rate 39 and T = 1 at rate 49, with M = 44 and M = 54
+--   blank-limits                    with as many as the limit T = 0 at both
+--   repairable                T wrong places of those that are not blank can be repaired
+--   Places ps, Decided columns word ps ns   different places below 64, and the nodes of a word at all other places that are not blank
 --   no-third-here             with at most ten doubtful places no three codewords are near
 use mathlib.Core.Bool.{Bool}
 use mathlib.Core.Path.{_≡_, refl}
 use mathlib.Core.List.{List}
 use mathlib.Core.Option.{Option}
-use Prim.Native.Nat.{ℕ, _+_, _-_, _/_, _≤_}
+use Prim.Native.Nat.{ℕ, _+_, _-_, _*_, _/_, _<_, _≤_}
 use native.Mathlib.Omega.{arith}
 use Rattle.hermitian.specs.Present.{genus}
+use Rattle.soft.specs.BlankLaws.{unblanked-length}
 use Rattle.soft.specs.TestWord.{testWords}
-use Rattle.soft.specs.Total.{everywhere}
+use Rattle.soft.specs.Column.{places}
+use Rattle.soft.specs.Blank.{openAt, blanksOf}
 use Rattle.lists.specs.Answers.{Found}
 use lib.ListN.{length}
-use mathlib.Core.Logic.{_≢_}
+use mathlib.Core.Logic.{_≢_, _↔_}
 use Rattle.family.specs.Member.{m16}
 use Rattle.family.specs.Nodes.{Node}
 use Rattle.near.specs.Near as Near
@@ -31,38 +38,50 @@ use Rattle.near.specs.Rivals as Rivals
 abbrev pub mOf : ℕ → ℕ
 mOf k = Near.mOf m16 k
 
-abbrev pub reachOf : ℕ → ℕ
-reachOf k = Near.reachOf m16 k
+abbrev pub blankLimit : ℕ → ℕ
+blankLimit k = Near.blankLimit m16 k
 
-abbrev pub nearTo : ℕ → List ℕ → List ℕ → Bool
-nearTo k word m = Near.nearTo m16 everywhere (reachOf k) k word m
+abbrev pub reachOf : ℕ → ℕ → ℕ
+reachOf k b = Near.reachOf m16 k b
 
-abbrev pub codewordNear : ℕ → List ℕ → Option (List ℕ)
-codewordNear k word = Near.codewordNear m16 everywhere (reachOf k) k word
+abbrev pub blanksIn : (ℕ → List ℕ) → ℕ
+blanksIn columns = blanksOf places columns
 
-abbrev pub near : ℕ → List (List ℕ) → List ℕ → Bool
-near k tests m = Near.near m16 everywhere (reachOf k) k tests m
+abbrev pub reachIn : ℕ → (ℕ → List ℕ) → ℕ
+reachIn k columns = Reach.reachIn m16 k columns
 
-abbrev pub testsNear : ℕ → List (List ℕ) → ℕ
-testsNear k tests = Near.testsNear m16 everywhere (reachOf k) k tests
+abbrev pub nearTo : ℕ → (ℕ → List ℕ) → List ℕ → List ℕ → Bool
+nearTo k columns word m = Near.nearTo m16 (openAt columns) (reachIn k columns) k word m
+
+abbrev pub codewordNear : ℕ → (ℕ → List ℕ) → List ℕ → Option (List ℕ)
+codewordNear k columns word = Near.codewordNear m16 (openAt columns) (reachIn k columns) k word
+
+abbrev pub near : ℕ → (ℕ → List ℕ) → List (List ℕ) → List ℕ → Bool
+near k columns tests m = Near.near m16 (openAt columns) (reachIn k columns) k tests m
+
+abbrev pub testsNear : ℕ → (ℕ → List ℕ) → List (List ℕ) → ℕ
+testsNear k columns tests = Near.testsNear m16 (openAt columns) (reachIn k columns) k tests
 
 abbrev pub messageCost : ℕ → (ℕ → List ℕ) → List ℕ → ℕ
 messageCost k columns m = Near.messageCost m16 k columns m
 
 abbrev pub answerOf : ℕ → (ℕ → List ℕ) → List (List ℕ) → Option (List ℕ)
-answerOf k columns tests = Near.answerOf m16 everywhere (reachOf k) k columns tests
+answerOf k columns tests = Near.answerOf m16 (openAt columns) (reachIn k columns) k columns tests
 
 abbrev pub marginOf : ℕ → (ℕ → List ℕ) → List (List ℕ) → List ℕ → Option ℕ
-marginOf k columns tests m = Runner.marginOf m16 everywhere (reachOf k) k columns tests m
+marginOf k columns tests m = Runner.marginOf m16 (openAt columns) (reachIn k columns) k columns tests m
 
-abbrev pub limitOf : ℕ → ℕ
-limitOf k = Interpolated.limitOf m16 (reachOf k) k
+abbrev pub limitOf : ℕ → ℕ → ℕ
+limitOf k b = Interpolated.limitOf m16 (reachOf k b) k
 
-abbrev pub nodesOf : List ℕ → List Node
-nodesOf word = Interpolated.nodesOf m16 everywhere word
+abbrev pub nodesOf : (ℕ → List ℕ) → List ℕ → List Node
+nodesOf columns word = Interpolated.nodesOf m16 (openAt columns) word
 
 abbrev pub Workable : ℕ → Type 0
 Workable k = Reach.Workable m16 k
+
+abbrev pub IsReach : ℕ → ℕ → ℕ → Type 0
+IsReach k b T = Reach.Reach m16 k b T
 
 pub genus-4 : genus 4 ≡ 6
 unfolding genus
@@ -72,28 +91,49 @@ pub m-is : (k : ℕ) → mOf k ≡ k + 5
 unfolding Near.mOf
 m-is k = omega (arith, genus-4)
 
-pub reach-is : (k : ℕ) → reachOf k ≡ (57 - mOf k) / 2
-unfolding Near.reachOf
-reach-is k = omega (arith, genus-4)
+pub blank-limit-is : (k : ℕ) → blankLimit k ≡ 57 - mOf k
+unfolding Near.blankLimit
+blank-limit-is k = omega (arith, genus-4)
 
 pub workable : {k : ℕ} → 6 ≤ k → k ≤ 52 → Workable k
 workable l h = record { least = omega (arith, genus-4); most = omega (arith, genus-4) }
 
-pub reaches : (mOf 39 ≡ 44) × (reachOf 39 ≡ 6) × (mOf 49 ≡ 54) × (reachOf 49 ≡ 1)
-unfolding Near.reachOf Near.mOf genus
+-- T as document 02 says it
+pub t-is : (k b T : ℕ) → IsReach k b T ↔ ((2 * T + b < 64 - mOf k - 6) × ((n : ℕ) → 2 * n + b < 64 - mOf k - 6 → n ≤ T))
+t-is k b T = (
+  λ r. (omega (arith, r .fits, genus-4), λ n l. r .largest n (omega (arith, genus-4))),
+  λ h. record { fits = omega (arith, h .0, genus-4); largest = λ n l. h .1 n (omega (arith, genus-4)) },
+)
+
+-- at both rates, for every number of blank places
+pub reach-table : (b : ℕ) → (b ≤ 13 → IsReach 39 b (6 - b / 2)) × (b ≤ 3 → IsReach 49 b (1 - b / 2))
+unfolding Near.mOf genus
+reach-table b = (
+  λ l. record { fits = omega arith; largest = λ n h. omega arith },
+  λ l. record { fits = omega arith; largest = λ n h. omega arith },
+)
+
+pub reaches : (mOf 39 ≡ 44) × (reachOf 39 0 ≡ 6) × (mOf 49 ≡ 54) × (reachOf 49 0 ≡ 1)
+unfolding Near.reachOf Near.blankLimit Near.mOf genus
 reaches = (refl, refl, refl, refl)
 
-pub repairable : {k : ℕ} → Workable k → Reach.Repairable m16 everywhere (reachOf k) k
-repairable h = Reach.radius m16 h
+pub blank-limits : (blankLimit 39 ≡ 13) × (reachOf 39 13 ≡ 0) × (blankLimit 49 ≡ 3) × (reachOf 49 3 ≡ 0)
+unfolding Near.reachOf Near.blankLimit Near.mOf genus
+blank-limits = (refl, refl, refl, refl)
+
+pub repairable : {k : ℕ} → Workable k → (columns : ℕ → List ℕ) → blanksIn columns ≤ blankLimit k
+    → Reach.Repairable m16 (openAt columns) (reachIn k columns) k
+repairable h columns few = Reach.repairs-open m16 h columns few
 
 abbrev pub Places : List ℕ → Type 0
 Places ps = Tree.Places 64 ps
 
-abbrev pub Decided : List ℕ → List ℕ → List Node → Type 0
-Decided word ps ns = Tree.Decided m16 everywhere word ps ns
+abbrev pub Decided : (ℕ → List ℕ) → List ℕ → List ℕ → List Node → Type 0
+Decided columns word ps ns = Tree.Decided m16 (openAt columns) word ps ns
 
 -- with at most ten doubtful places no three codewords are near, at whatever rate
-pub no-third-here : {k : ℕ} → Workable k → (columns : ℕ → List ℕ) (doubtful : List ℕ) → length doubtful ≤ 10 → {m o q : List ℕ}
-    → Found 16 k (near k (testWords 64 columns doubtful)) m → Found 16 k (near k (testWords 64 columns doubtful)) o
-    → Found 16 k (near k (testWords 64 columns doubtful)) q → m ≢ o → o ≢ q → m ≢ q → ⊥
-no-third-here rate columns doubtful few = Rivals.no-third m16 rate columns doubtful (omega (arith, genus-4))
+pub no-third-here : {k : ℕ} → Workable k → (columns : ℕ → List ℕ) → blanksIn columns ≤ blankLimit k → (doubtful : List ℕ) → length doubtful ≤ 10
+    → {m o q : List ℕ} → Found 16 k (near k columns (testWords 64 columns doubtful)) m → Found 16 k (near k columns (testWords 64 columns doubtful)) o
+    → Found 16 k (near k columns (testWords 64 columns doubtful)) q → m ≢ o → o ≢ q → m ≢ q → ⊥
+no-third-here rate columns within doubtful few =
+    Rivals.no-third m16 rate columns within doubtful (omega (arith, genus-4, unblanked-length (openAt columns) doubtful))

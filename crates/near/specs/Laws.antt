@@ -4,7 +4,7 @@
 --   near-nil, near-cons, near-append, near-member, member-near     near some test word of a list
 --   tests-nil, tests-cons, tests-one, tests-append, tests-none   the count of a list of test words
 --   tests-answerless    where there is no answer, it is 0
---   tests-le            it is at most their number; tests-tree: d doubtful places have at most 2 ^ d
+--   tests-le            it is at most their number; tests-doubled: d doubtful places that are not blank have at most 2 ^ d; tests-tree: so d doubtful ones
 --   found-append        near two lists is near one of them
 --   answer-append       the answer of two lists is the better of their answers
 --   answer-one          the answer of one test word is the message within T of it, whatever the costs, where so many wrong places can be repaired
@@ -20,9 +20,12 @@ use Prim.Native.Nat.{ℕ, _+_, _^_, _<_, _≤_}
 use native.Mathlib.Omega.{arith}
 use lib.Dec.{T, le→leb, leb→le}
 use lib.ListN.{length}
+use lib.Pow.{pow-mono}
 use Rattle.lists.specs.Count.{bit, bit-le}
 use Rattle.lists.specs.Words.{Word}
 use Rattle.lists.specs.Answers.{Answers, Found, firstThat-only, answers-some, answers-unique, answers-none, answers-iff, answers-single, nobody, better, better-answers, free, firstThat-words, cheapest-words}
+use Rattle.soft.specs.Blank.{openAt, unblanked}
+use Rattle.soft.specs.BlankLaws.{unblanked-length}
 use Rattle.soft.specs.Total.{differingIn}
 use Rattle.soft.specs.TestWord.{testWords}
 use Rattle.soft.specs.TestWordLaws.{testWords-count}
@@ -186,5 +189,11 @@ module _ (𝓜 : Member) (counts : ℕ → Bool) (reach : ℕ) where
   tests-le k [] = omega (arith, tests-nil k)
   tests-le k (t ∷ ts) = omega (arith, tests-cons k t ts, tests-le k ts, bit-le (isSome (codewordNear 𝓜 counts reach k t)))
 
+  pub tests-doubled : (k n : ℕ) (columns : ℕ → List ℕ) (doubtful : List ℕ)
+      → testsNear 𝓜 counts reach k (testWords n columns doubtful) ≤ 2 ^ length (unblanked (openAt columns) doubtful)
+  tests-doubled k n columns doubtful = omega (arith, tests-le k (testWords n columns doubtful), testWords-count n columns doubtful)
+
   pub tests-tree : (k n : ℕ) (columns : ℕ → List ℕ) (doubtful : List ℕ) → testsNear 𝓜 counts reach k (testWords n columns doubtful) ≤ 2 ^ length doubtful
-  tests-tree k n columns doubtful = omega (arith, tests-le k (testWords n columns doubtful), testWords-count n columns doubtful)
+  tests-tree k n columns doubtful =
+      let few : 2 ^ length (unblanked (openAt columns) doubtful) ≤ 2 ^ length doubtful = pow-mono (unblanked-length (openAt columns) doubtful) in
+      omega (arith, tests-doubled k n columns doubtful)

@@ -2,7 +2,9 @@
 -- here is ever computed: all words are searched.
 --
 --   mOf k                     M: a message of k symbols uses the orders up to M = k + g − 1
---   reachOf k                 T, the reach (decoding radius): the largest T with 2T < n − M − g
+--   blankLimit k              how many blank places leave a T: at most n − M − g − 1
+--   reachOf k b               T, the reach (decoding radius), with b blank places: the largest T with 2T + b < n − M − g. With more of them than
+--                             the limit there is none, and nothing is said of it
 --   messageCost k columns m   the total cost of the codeword of m
 --   nearTo k word m           the codeword of the message m differs from the word in at most T of the places that count
 --   codewordNear k word       the message whose codeword is within T of the word, or none
@@ -31,8 +33,11 @@ module _ (𝓜 : Member) where
   unfoldable pub mOf : ℕ → ℕ
   mOf k = k + genus (𝓜 .w) - 1
 
-  unfoldable pub reachOf : ℕ → ℕ
-  reachOf k = (places 𝓜 - mOf k - genus (𝓜 .w) - 1) / 2
+  unfoldable pub blankLimit : ℕ → ℕ
+  blankLimit k = places 𝓜 - mOf k - genus (𝓜 .w) - 1
+
+  unfoldable pub reachOf : ℕ → ℕ → ℕ
+  reachOf k b = (blankLimit k - b) / 2
 
   unfoldable pub messageCost : ℕ → (ℕ → List ℕ) → List ℕ → ℕ
   messageCost k columns m = totalOf (places 𝓜) columns (encodeOf 𝓜 k m)

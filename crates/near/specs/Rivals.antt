@@ -1,9 +1,9 @@
--- How many codewords can be near: with few doubtful places never three. For every member, where T is that of the rate and every place counts.
+-- How many codewords can be near: with few doubtful places never three. For every member, where T is that of the rate and of the blank places.
 --
---   tests-apart       three test words differ, pair by pair, in no more than twice as many places together as are doubtful: two of them agree
---                     at each doubtful place, which has two symbols, and all of them at each other place
---   no-third          where 2d < 3g + 3 no three different messages have their codewords near: two codewords differ in n − M places at least,
---                     2T of which can be wrong settled ones
+--   tests-apart       three test words differ, pair by pair, in no more than twice as many places together as are doubled: two of them agree
+--                     at each doubled place, which has two symbols, and all of them at each other place
+--   no-third          where 2d < 3g + 3 and d doubtful places are not blank no three different messages have their codewords near: two codewords differ in n − M − b places
+--                     at least that are not blank, 2T of which can be wrong settled ones
 use mathlib.Core.Bool.{Bool, true, false, not, true≢false}
 use mathlib.Core.Path.{_≡_, refl, sym, ap, _∙_}
 use mathlib.Core.List.{List, List·Memᴰ}
@@ -20,18 +20,23 @@ use Rattle.lists.specs.Words.{Word}
 use Rattle.lists.specs.Answers.{Found}
 use Rattle.hermitian.specs.Present.{genus}
 use Rattle.soft.specs.TestWord.{testWords}
-use Rattle.soft.specs.TestWordLaws.{testWords-length, testWords-settled, testWords-symbol}
-use Rattle.soft.specs.Total.{everywhere, differAt, differingIn, differing}
-use Rattle.soft.specs.TotalLaws.{agree-true, differing-comm, differing-triangle}
+use Rattle.soft.specs.TestWordLaws.{testWords-length, testWords-kept, testWords-symbol}
+use Rattle.soft.specs.Blank.{openAt, blanksOf, unblanked}
+use Rattle.soft.specs.Total.{differAt, differingIn, differing}
+use Rattle.soft.specs.TotalLaws.{agree-true, differing-comm, differing-triangle, differing-fewer}
 use Rattle.family.specs.Member.{Member, symbols, places}
 use Rattle.family.specs.Encoding.{encodeOf}
-use Rattle.near.specs.Near.{mOf, reachOf, nearTo, near}
-use Rattle.near.specs.Reach.{Workable, reach-fits, count-everywhere}
-use Rattle.near.specs.Distance.{codewords-apart}
+use Rattle.near.specs.Near.{mOf, blankLimit, nearTo, near}
+use Rattle.near.specs.Reach.{Workable, reach-is, reachIn}
+use Rattle.near.specs.Distance.{open-apart}
 use Rattle.near.specs.Laws.{near-member}
 
 module _ (n : ℕ) (columns : ℕ → List ℕ) (doubtful : List ℕ) {t u v : List ℕ} (a : List·Memᴰ t (testWords n columns doubtful))
     (b : List·Memᴰ u (testWords n columns doubtful)) (c : List·Memᴰ v (testWords n columns doubtful)) where
+  -- the places that are doubled
+  abbrev doubled : List ℕ
+  doubled = unblanked (openAt columns) doubtful
+
   -- words of n places that have one symbol at a place
   none : (x y : List ℕ) (p : ℕ) → p < n → length x ≡ n → length y ≡ n → getD x p 0 ≡ getD y p 0 → bit (differAt x y p) ≡ 0
   none x y p h lx ly e = ap (λ s. bit (not s)) (agree-true x y p (omega arith) (omega arith) e)
@@ -70,68 +75,71 @@ module _ (n : ℕ) (columns : ℕ → List ℕ) (doubtful : List ℕ) {t u v : L
       go (inr d) (inl e) (inl f) = uv (e ∙ sym f)
       go (inr d) (inl e) (inr f) = tv (d ∙ sym f)
 
-  settled : (p : ℕ) → p < n → (List·Memᴰ p doubtful → ⊥) → apart p ≡ 0
+  settled : (p : ℕ) → p < n → (List·Memᴰ p doubled → ⊥) → apart p ≡ 0
   unfolding apart
   settled p h out =
-      let x = testWords-settled n columns doubtful t a p h out in
-      let y = testWords-settled n columns doubtful u b p h out in
-      let z = testWords-settled n columns doubtful v c p h out in
+      let x = testWords-kept n columns doubtful t a p h out in
+      let y = testWords-kept n columns doubtful u b p h out in
+      let z = testWords-kept n columns doubtful v c p h out in
       omega (arith, none t u p h lt lu (x ∙ sym y), none u v p h lu lv (y ∙ sym z), none t v p h lt lv (x ∙ sym z))
 
-  place : (p : ℕ) → p < n → apart p ≤ bit (among p doubtful) + bit (among p doubtful)
-  place p h = go (among p doubtful) refl
+  place : (p : ℕ) → p < n → apart p ≤ bit (among p doubled) + bit (among p doubled)
+  place p h = go (among p doubled) refl
     where
-      go : (s : Bool) → among p doubtful ≡ s → apart p ≤ bit s + bit s
+      go : (s : Bool) → among p doubled ≡ s → apart p ≤ bit s + bit s
       go true e = at-most p h
       go false e = omega (arith, settled p h (λ m. true≢false (sym (among-member m) ∙ e)))
 
-  pub tests-apart : differing n t u + differing n u v + differing n t v ≤ 2 * length doubtful
+  pub tests-apart : differing n t u + differing n u v + differing n t v ≤ 2 * length doubled
   unfolding differingIn count apart
   tests-apart =
       omega (
         arith,
-        sumOf-mono n apart (λ p. bit (among p doubtful) + bit (among p doubtful)) place,
+        sumOf-mono n apart (λ p. bit (among p doubled) + bit (among p doubled)) place,
         sumOf-plus n (λ p. bit (differAt t u p) + bit (differAt u v p)) (λ p. bit (differAt t v p)),
         sumOf-plus n (λ p. bit (differAt t u p)) (λ p. bit (differAt u v p)),
-        sumOf-plus n (λ p. bit (among p doubtful)) (λ p. bit (among p doubtful)),
-        count-among doubtful n (λ p. among p doubtful) (λ p h x. T-true (among p doubtful) x),
+        sumOf-plus n (λ p. bit (among p doubled)) (λ p. bit (among p doubled)),
+        count-among doubled n (λ p. among p doubled) (λ p h x. T-true (among p doubled) x),
       )
 
-module _ (𝓜 : Member) {k : ℕ} (rate : Workable 𝓜 k) (columns : ℕ → List ℕ) (doubtful : List ℕ) (few : 2 * length doubtful < 3 * genus (𝓜 .w) + 3)
-  where
-    abbrev pub tests : List (List ℕ)
-    tests = testWords (places 𝓜) columns doubtful
+module _ (𝓜 : Member) {k : ℕ} (rate : Workable 𝓜 k) (columns : ℕ → List ℕ) (within : blanksOf (places 𝓜) columns ≤ blankLimit 𝓜 k) (doubtful : List ℕ)
+    (few : 2 * length (unblanked (openAt columns) doubtful) < 3 * genus (𝓜 .w) + 3) where
+  abbrev pub tests : List (List ℕ)
+  tests = testWords (places 𝓜) columns doubtful
 
-    abbrev pub IsNear : List ℕ → Type 0
-    IsNear m = Found (symbols 𝓜) k (near 𝓜 everywhere (reachOf 𝓜 k) k tests) m
+  abbrev T₀ : ℕ
+  T₀ = reachIn 𝓜 k columns
 
-    -- the codewords of two different messages are no nearer to each other than their test words and twice T allow
-    pair : (m o t s : List ℕ) → Word (symbols 𝓜) k m → Word (symbols 𝓜) k o → m ≢ o → T (nearTo 𝓜 everywhere (reachOf 𝓜 k) k t m)
-        → T (nearTo 𝓜 everywhere (reachOf 𝓜 k) k s o) → places 𝓜 ≤ mOf 𝓜 k + 2 * reachOf 𝓜 k + differing (places 𝓜) t s
-    unfolding nearTo
-    pair m o t s u v other a b =
-        omega (
-          arith,
-          count-everywhere (places 𝓜),
-          codewords-apart 𝓜 everywhere rate u v other,
-          leb→le (differing (places 𝓜) (encodeOf 𝓜 k m) t) (reachOf 𝓜 k) a,
-          leb→le (differing (places 𝓜) (encodeOf 𝓜 k o) s) (reachOf 𝓜 k) b,
-          differing-triangle everywhere (places 𝓜) (encodeOf 𝓜 k m) t (encodeOf 𝓜 k o),
-          differing-triangle everywhere (places 𝓜) t s (encodeOf 𝓜 k o),
-          differing-comm everywhere (places 𝓜) s (encodeOf 𝓜 k o),
-        )
+  abbrev pub IsNear : List ℕ → Type 0
+  IsNear m = Found (symbols 𝓜) k (near 𝓜 (openAt columns) T₀ k tests) m
 
-    pub no-third : {m o q : List ℕ} → IsNear m → IsNear o → IsNear q → m ≢ o → o ≢ q → m ≢ q → ⊥
-    no-third {m} {o} {q} x y z mo oq mq =
-        let a = near-member 𝓜 everywhere (reachOf 𝓜 k) k tests m (x .passed) in
-        let b = near-member 𝓜 everywhere (reachOf 𝓜 k) k tests o (y .passed) in
-        let c = near-member 𝓜 everywhere (reachOf 𝓜 k) k tests q (z .passed) in
-        omega (
-          arith,
-          few,
-          reach-fits 𝓜 rate,
-          pair m o (a .0) (b .0) (x .word) (y .word) mo (a .2) (b .2),
-          pair o q (b .0) (c .0) (y .word) (z .word) oq (b .2) (c .2),
-          pair m q (a .0) (c .0) (x .word) (z .word) mq (a .2) (c .2),
-          tests-apart (places 𝓜) columns doubtful (a .1) (b .1) (c .1),
-        )
+  -- the codewords of two different messages are no nearer to each other than their test words and twice T allow
+  pair : (m o t s : List ℕ) → Word (symbols 𝓜) k m → Word (symbols 𝓜) k o → m ≢ o → T (nearTo 𝓜 (openAt columns) T₀ k t m)
+      → T (nearTo 𝓜 (openAt columns) T₀ k s o) → places 𝓜 ≤ mOf 𝓜 k + blanksOf (places 𝓜) columns + 2 * T₀ + differing (places 𝓜) t s
+  unfolding nearTo
+  pair m o t s u v other a b =
+      omega (
+        arith,
+        open-apart 𝓜 columns rate u v other,
+        leb→le (differingIn (openAt columns) (places 𝓜) (encodeOf 𝓜 k m) t) T₀ a,
+        leb→le (differingIn (openAt columns) (places 𝓜) (encodeOf 𝓜 k o) s) T₀ b,
+        differing-triangle (openAt columns) (places 𝓜) (encodeOf 𝓜 k m) t (encodeOf 𝓜 k o),
+        differing-triangle (openAt columns) (places 𝓜) t s (encodeOf 𝓜 k o),
+        differing-comm (openAt columns) (places 𝓜) s (encodeOf 𝓜 k o),
+        differing-fewer (openAt columns) (places 𝓜) t s,
+      )
+
+  pub no-third : {m o q : List ℕ} → IsNear m → IsNear o → IsNear q → m ≢ o → o ≢ q → m ≢ q → ⊥
+  no-third {m} {o} {q} x y z mo oq mq =
+      let a = near-member 𝓜 (openAt columns) T₀ k tests m (x .passed) in
+      let b = near-member 𝓜 (openAt columns) T₀ k tests o (y .passed) in
+      let c = near-member 𝓜 (openAt columns) T₀ k tests q (z .passed) in
+      omega (
+        arith,
+        few,
+        reach-is 𝓜 rate within .fits,
+        pair m o (a .0) (b .0) (x .word) (y .word) mo (a .2) (b .2),
+        pair o q (b .0) (c .0) (y .word) (z .word) oq (b .2) (c .2),
+        pair m q (a .0) (c .0) (x .word) (z .word) mq (a .2) (c .2),
+        tests-apart (places 𝓜) columns doubtful (a .1) (b .1) (c .1),
+      )

@@ -1,7 +1,7 @@
 -- The tree of test words and the nodes decided so far, for every member, any T and any places that count.
 --
 --   Places n ps        ps are different places, all below n; places-of, places-test: a list that passes the tests is so, and the other way round
---   places-at          each place of them is below n
+--   places-at          each place of them is below n; places-unblanked: those of them that count are so too
 --   Decided word ps ns   the nodes ns are those of the word at all places that count but the doubtful ones that are left, ps
 --   decided-step       one doubtful place less: its node is decided, with the symbol that the word gets there
 --   decided-through    where none is left, what passes through ns passes through the word, and back
@@ -26,6 +26,8 @@ use Rattle.lists.specs.Listed.{listed, listed-length, listed-at}
 use Rattle.algebra.specs.Subspace.{_⊆_, common-fewer}
 use Rattle.algebra.specs.Koetter.{Basis}
 use Rattle.galois.specs.BinaryField.{GF, K}
+use Rattle.soft.specs.Blank.{unblanked}
+use Rattle.soft.specs.BlankLaws.{unblanked-nil, unblanked-in, unblanked-out, unblanked-member}
 use Rattle.soft.specs.TestWord.{expand}
 use Rattle.soft.specs.TestWordLaws.{expand-settled}
 use Rattle.family.specs.Member.{Member, places}
@@ -61,6 +63,15 @@ pub places-at : {n : ℕ} {ps : List ℕ} → Places n ps → (i : ℕ) → i < 
 places-at places-nil i h = absurd (omega arith)
 places-at (places-cons a f P) zero h = a
 places-at (places-cons a f P) (suc i) h = places-at P i (le-of-suc-le-suc h)
+
+-- those that count of different places are different places
+pub places-unblanked : {n : ℕ} (counts : ℕ → Bool) {ps : List ℕ} → Places n ps → Places n (unblanked counts ps)
+places-unblanked {n} counts places-nil = subst (Places n) (sym (unblanked-nil counts)) places-nil
+places-unblanked {n} counts (places-cons {p} {ps} h fresh P) = go (counts p) refl (places-unblanked counts P)
+  where
+    go : (b : Bool) → counts p ≡ b → Places n (unblanked counts ps) → Places n (unblanked counts (p ∷ ps))
+    go true e r = subst (Places n) (sym (unblanked-in counts p ps e)) (places-cons h (λ m. fresh (unblanked-member counts ps p m .0)) r)
+    go false e r = subst (Places n) (sym (unblanked-out counts p ps e)) r
 
 module _ (𝓜 : Member) (counts : ℕ → Bool) where
   open Member 𝓜 using (gf)

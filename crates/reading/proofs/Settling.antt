@@ -1,19 +1,23 @@
 -- The places flagged, each with the word's symbol, are the book's settled places.
 --
---   flag-away, flag-doubtful, flag-settled   the three cases of a flag
+--   flag-away, flag-doubtful, flag-blank, flag-settled   the four cases of a flag
 --   settled-session      the nodes of the word of best symbols and the flags are those of the session's book
 --   session-reading      so their reading is the book's
 use mathlib.Core.Bool.{Bool, true, false, cond, not, _&&_}
 use mathlib.Core.Path.{_≡_, refl, sym, ap, ap₂, _∙_}
 use mathlib.Core.List.{List, _∷_}
+use mathlib.Core.Logic.{_≢_}
 use Prim.Native.Nat.{ℕ, zero, suc, _+_, _<_, _≤_}
 use native.Mathlib.Omega.{arith}
 use lib.Dec.{eqb}
 use lib.ListN.{getD, take}
+use borrow.Author.Tests.{eq-eqb, ne-eqb}
 use Rattle.lists.specs.Count.{bit}
 use Rattle.lists.specs.Listed.{listed, listed-at}
 use Rattle.lists.specs.Distinct.{among}
 use Rattle.soft.specs.Column.{symbols, columnOf}
+use Rattle.soft.specs.Blank.{openAt, flagsOf}
+use Rattle.soft.specs.BlankLaws.{flags-at}
 use Rattle.soft.specs.TestWord.{bestWord}
 use Rattle.soft.specs.TestWordLaws.{bestWord-at}
 use Rattle.family.specs.Nodes.{Node, node}
@@ -25,34 +29,42 @@ use Rattle.book.specs.Here.{places}
 use Rattle.session.specs.declared.Session.{Session}
 use Rattle.session.specs.View.{bookOf, Good}
 use Rattle.session.specs.Table.{settled-taken, settled-table}
-use Rattle.reading.specs.Flags.{flagOf, flagAt}
+use Rattle.reading.specs.Flags.{flagOf, readFlag}
 
-module _ (there : Bool) (doubtful : List ℕ) (p : ℕ) where
-  pub flag-away : there ≡ false → 0 ≡ flagOf there doubtful p
+module _ (there : Bool) (doubtful : List ℕ) (p counts : ℕ) where
+  pub flag-away : there ≡ false → 0 ≡ flagOf there doubtful p counts
   unfolding flagOf
   flag-away e = rw e
 
-  pub flag-doubtful : there ≡ true → among p doubtful ≡ true → 0 ≡ flagOf there doubtful p
+  pub flag-doubtful : there ≡ true → among p doubtful ≡ true → 0 ≡ flagOf there doubtful p counts
   unfolding flagOf
   flag-doubtful e d = rw (e, d)
 
-  pub flag-settled : there ≡ true → among p doubtful ≡ false → 1 ≡ flagOf there doubtful p
+  pub flag-blank : there ≡ true → among p doubtful ≡ false → counts ≢ 1 → 0 ≡ flagOf there doubtful p counts
   unfolding flagOf
-  flag-settled e d = rw (e, d)
+  flag-blank e d b = rw (e, d, ne-eqb counts 1 b)
+
+  pub flag-settled : there ≡ true → among p doubtful ≡ false → counts ≡ 1 → 1 ≡ flagOf there doubtful p counts
+  unfolding flagOf
+  flag-settled e d b = rw (e, d, eq-eqb counts 1 b)
 
 bit-one : (b : Bool) → eqb (bit b) 1 ≡ b
 bit-one true = refl
 bit-one false = refl
 
-module _ (s : Session) (good : Good s) (word flags : List ℕ) (w : word ≡ bestWord places (columnOf symbols (s .costs)))
-    (f : flags ≡ listed places (flagAt (s .taken) (take (s .doubt) (s .doubtful)))) where
+module _ (s : Session) (good : Good s) (word counts flags : List ℕ) (w : word ≡ bestWord places (columnOf symbols (s .costs)))
+    (o : counts ≡ flagsOf places (columnOf symbols (s .costs)))
+    (f : flags ≡ listed places (readFlag (s .taken) (take (s .doubt) (s .doubtful)) counts)) where
+  opened : (p : ℕ) → p < places → eqb (getD counts p 0) 1 ≡ openAt (columnOf symbols (s .costs)) p
+  opened p h = ap (λ (l : List ℕ). eqb (getD l p 0) 1) o ∙ flags-at places (columnOf symbols (s .costs)) p h
+
   flagged : (p : ℕ) → p < places → eqb (getD flags p 0) 1 ≡ isSettled (bookOf s) p
-  unfolding flagOf flagAt
+  unfolding flagOf readFlag
   flagged p h =
-      ap (λ x. eqb x 1)
-      (ap (λ (l : List ℕ). getD l p 0) f ∙ listed-at places p (flagAt (s .taken) (take (s .doubt) (s .doubtful))) 0 h)
-      ∙ bit-one (getD (s .taken) p false && not (among p (take (s .doubt) (s .doubtful))))
-      ∙ sym (settled-taken s good p)
+      let list = take (s .doubt) (s .doubtful) in
+      ap (λ x. eqb x 1) (ap (λ (l : List ℕ). getD l p 0) f ∙ listed-at places p (readFlag (s .taken) list counts) 0 h)
+      ∙ bit-one (getD (s .taken) p false && (not (among p list) && eqb (getD counts p 0) 1))
+      ∙ ap (λ b. getD (s .taken) p false && (not (among p list) && b)) (opened p h) ∙ sym (settled-taken s good p)
 
   noded : (p : ℕ) → p < places → node p (getD word p 0) ≡ settledAt (bookOf s) p
   noded p h =

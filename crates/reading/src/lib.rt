@@ -4,7 +4,7 @@ ghost use mathlib.Core.Path.{_≡_};
 ghost use Rattle.lists.specs.Listed.{listed};
 ghost use Rattle.book.specs.Here.{places};
 ghost use Rattle.session.specs.Answering.{Reading};
-ghost use Rattle.reading.specs.Flags.{flagOf, flagAt};
+ghost use Rattle.reading.specs.Flags.{flagOf, readFlag};
 use doubt::MOST_DOUBT;
 use interpolation::PLACES;
 use interpolation::READING;
@@ -18,9 +18,9 @@ use session::Session;
 // M above the rate: a message of k symbols uses the orders up to k + 5.
 const M_ABOVE_RATE: usize = 5;
 
-// 1 for a settled place that is taken, else 0.
-fn flag(there: bool, doubtful: &[u8], place: usize) -> u8
-    ensures { λ r. ⌜ r ≡ flagOf there (now (doubtful .entry)) place ⌝ }
+// 1 for a settled place that is taken and not blank, else 0.
+fn flag(there: bool, doubtful: &[u8], place: usize, counts: u8) -> u8
+    ensures { λ r. ⌜ r ≡ flagOf there (now (doubtful .entry)) place counts ⌝ }
 {
     if !there {
         return 0;
@@ -28,16 +28,19 @@ fn flag(there: bool, doubtful: &[u8], place: usize) -> u8
     if session::is_among(place, doubtful) {
         return 0;
     }
+    if counts != 1 {
+        return 0;
+    }
     1
 }
 
-fn flags(taken: [bool; PLACES], doubtful: &[u8]) -> [u8; PLACES]
-    ensures { λ r. ⌜ r ≡ listed places (flagAt taken (now (doubtful .entry))) ⌝ }
+fn flags(taken: [bool; PLACES], doubtful: &[u8], counts: [u8; PLACES]) -> [u8; PLACES]
+    ensures { λ r. ⌜ r ≡ listed places (readFlag taken (now (doubtful .entry)) counts) ⌝ }
 {
     let mut out = [0u8; PLACES];
     let mut place = 0;
     while place < PLACES {
-        out[place] = flag(taken[place], doubtful, place);
+        out[place] = flag(taken[place], doubtful, place, counts[place]);
         place += 1;
     }
     out
@@ -62,7 +65,8 @@ pub fn read_interpolant(session: Session, out: &mut [u8]) -> u8
     let doubtful = session.doubtful;
     let costs = session.costs;
     let word = columns::word::best_word(&costs);
-    let settled = flags(taken, &doubtful[..doubt]);
+    let counts = columns::blank::open_places(&costs);
+    let settled = flags(taken, &doubtful[..doubt], counts);
     let bytes = interpolation::reading::reading(word, settled, rate + M_ABOVE_RATE);
     copy(&bytes, out);
     ACCEPTED

@@ -1,4 +1,5 @@
-// Prints the readings of R7: a new session's, and that of place 0 settled with best symbol 0; then one after 64 settled places.
+// Prints the readings of R7: a new session's, and that of place 0 settled with best symbol 0; then one after 64 settled places, and one after
+// a blank place, which is not interpolated: it is the new session's.
 use io::print_decimal;
 use libc::STDOUT_FILENO;
 use session::Session;
@@ -38,8 +39,13 @@ fn settled(count: usize) -> Session {
     held
 }
 
+fn faded() -> Session {
+    session::deliver(session::open(39, b"").session, 0, [9u16; 16]).session
+}
+
 fn main() {
     show_reading(settled(0));
     show_reading(settled(1));
     show_reading(settled(64));
+    show_reading(faded());
 }

@@ -12,6 +12,7 @@
 --   noneNear         9: no codeword is near
 --   wrongVersion     10: the version is not 1
 --   wrongLength      11: size or length wrong
+--   tooBlank         12: more than 13 blank places at rate 39, more than 3 at rate 49
 --   notTaken         13: a place that is not taken
 use Prim.Native.Nat.{ℕ}
 
@@ -50,6 +51,9 @@ wrongVersion = 10
 
 abbrev pub wrongLength : ℕ
 wrongLength = 11
+
+abbrev pub tooBlank : ℕ
+tooBlank = 12
 
 abbrev pub notTaken : ℕ
 notTaken = 13

@@ -24,6 +24,8 @@ pub const PLACE_TAKEN: u8 = 6;
 pub const NO_CODEWORD: u8 = 8;
 // 9: none near.
 pub const NONE_NEAR: u8 = 9;
+// 12: more than 13 blank places at rate 39, more than 3 at rate 49.
+pub const TOO_BLANK: u8 = 12;
 
 // The recorder.
 // 10: the version is not 1.

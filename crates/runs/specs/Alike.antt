@@ -32,7 +32,7 @@ use Rattle.runs.specs.Runs.{Run, run-good}
 use Rattle.runs.specs.Follows.{Start, start-good}
 
 pub data Reached (t : Session) : Type 0 where
-  reached : {T : ℕ} {book : Book} {s : Session} {calls : List Call} {given : List Answer} → Start T book s → Run s calls given t → Reached t
+  reached : {book : Book} {s : Session} {calls : List Call} {given : List Answer} → Start book s → Run s calls given t → Reached t
 
 pub reached-good : {t : Session} → Reached t → Good t
 reached-good (reached start run) = run-good run (start-good start)

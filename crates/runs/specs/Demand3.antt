@@ -1,27 +1,34 @@
 -- Demand 3, whole: 'No sequence of calls can lose, add or change an answer.'
 --
---   ClosedAfter T book calls a   closing after those calls, into buffers of the right sizes, is given the answer a; the calls are made on a session that an
---                        accepted opening returned, with that book and reach
+--   ClosedAfter book calls a   closing after those calls, into buffers of the right sizes, is given the answer a; the calls are made on a session that an
+--                        accepted opening returned, with that book
 --   Demand3              the claim, sentence by sentence
 --   whole                it holds
 --
 -- It speaks of runs, whose steps are what the contract of `step` says of every call that it makes (Step, Stepping), and of openings (Start), which are what
--- the contracts of `open` and `open_capture` say. A book with its reach T is one of rate 39 with T = 6 or of rate 49 with T = 1.
+-- the contracts of `open` and `open_capture` say. T is that of the closing (ReachAfter): by the rate and the places that are blank in the columns held then.
+-- With none blank it is 6 at rate 39 and 1 at rate 49, and there is one up to 13 blank places at rate 39 and 3 at rate 49 (limits).
 use mathlib.Core.Bool.{true}
 use mathlib.Core.Path.{_≡_}
 use mathlib.Core.List.{List, [], _∷_, _++_}
 use mathlib.Core.Logic.{_↔_, _≢_, _⊎_}
-use Prim.Native.Nat.{ℕ}
+use Prim.Native.Nat.{ℕ, _<_, _≤_}
+use native.Mathlib.Decide.{decLe}
+use native.Mathlib.Omega.{arith}
 use lib.ListN.{length}
-use Rattle.refusals.specs.Refusal.{accepted, placeMissing, noneNear}
+use Rattle.refusals.specs.Refusal.{accepted, placeMissing, noneNear, tooBlank}
 use Rattle.lists.specs.Distinct.{below}
+use Rattle.family.specs.Member.{m16}
+use Rattle.near.specs.Here.{blankLimit, reachOf, IsReach}
+use Rattle.near.specs.Reach.{reach-is}
+use Rattle.book.specs.Model.{known-workable}
 use Rattle.book.specs.Book.{Book, columnIn}
 use Rattle.book.specs.Columns.{Agree}
 use Rattle.book.specs.PlaceOrder.{InPlaceOrder}
 use Rattle.book.specs.Delivery.{withEntry}
 use Rattle.book.specs.Withdrawal.{withoutPlace}
 use Rattle.book.specs.CaptureOpening.{recordsIn, openCaptureOf}
-use Rattle.book.specs.OpeningLaws.{Rate}
+use Rattle.book.specs.OpeningLaws.{Rate, rate-39, rate-49, rate-known, reachAt, mostBlank, rate-reach, rate-blanks}
 use Rattle.book.specs.AnyCalls.{Answer}
 use Rattle.book.specs.Calls.{Call, deliver, writing, closing, withdraw, firstLent, secondLent, answer, after, answers, afterAll}
 use Rattle.book.specs.Here.{openOf, reportLength, Missing, DoubtfulList, IsNear, IsAnswer, Closes}
@@ -34,41 +41,55 @@ use Rattle.session.specs.View.{bookOf, Good}
 use Rattle.session.specs.Calls.{Opening}
 use Rattle.runs.specs.Step.{Step}
 use Rattle.runs.specs.Runs.{Run}
-use Rattle.runs.specs.Follows.{closedBy, Start, opening-accepted, start-follows, one-start, CaptureStarts, capture-starts}
+use Rattle.runs.specs.Follows.{closedBy, blanksAfter, ReachAfter, reach-after, limit-after, Start, opening-accepted, start-rate, start-follows, one-start, CaptureStarts, capture-starts}
 use Rattle.runs.specs.Shown.{run-writes, capture-written, capture-back}
 use Rattle.runs.specs.Alike as agreeing
 use Rattle.runs.specs.Alike.{Reached, SameHeld, Alike}
 use Rattle.runs.specs.Undone as undoing
 
-pub data ClosedAfter (T : ℕ) (book : Book) (calls : List Call) (a : Answer) : Type 0 where
-  closed-after : {s t u : Session} {given : List Answer} {message report : List ℕ} → Start T book s → Run s calls given t
-      → Step t (closing message report) a u → length message ≡ book .rate → length report ≡ reportLength → ClosedAfter T book calls a
+pub data ClosedAfter (book : Book) (calls : List Call) (a : Answer) : Type 0 where
+  closed-after : {s t u : Session} {given : List Answer} {message report : List ℕ} → Start book s → Run s calls given t
+      → Step t (closing message report) a u → length message ≡ book .rate → length report ≡ reportLength → ClosedAfter book calls a
 
 pub record Demand3 : Type 0 where
   -- 'For every rate and every strictly rising list of up to 8 doubtful places, none above 63, opening accepts;'
-  pub opening-accepts : {rate T : ℕ} {list : List ℕ} {r : Opened} → Rate rate T → DoubtfulList list → Opening (openOf rate list) r
+  pub opening-accepts : {rate : ℕ} {list : List ℕ} {r : Opened} → Rate rate → DoubtfulList list → Opening (openOf rate list) r
       → r .refusal ≡ accepted
   -- 'and in every list of deliveries, interpolant readings, capture writings and closings from the session so opened, refused ones included and in
   -- whatever order, each answer and each lent buffer afterwards are those of document 01's book.' Document 02: 'Withdrawals stand in demand 3's list too'
-  pub answered : {T : ℕ} {book : Book} {s t : Session} {calls : List Call} {given : List Answer} → Start T book s → Run s calls given t
+  pub answered : {book : Book} {s t : Session} {calls : List Call} {given : List Answer} → Start book s → Run s calls given t
       → given ≡ answers book calls
   -- so is the session left: it is good, its book agrees with the book after the calls, and the calls determine it
-  pub left : {T : ℕ} {book : Book} {s t : Session} {calls : List Call} {given : List Answer} → Start T book s → Run s calls given t
+  pub left : {book : Book} {s t : Session} {calls : List Call} {given : List Answer} → Start book s → Run s calls given t
       → Good t × Agree (bookOf t) (afterAll book calls)
-  pub one-left : {T : ℕ} {book : Book} {s t u : Session} {calls : List Call} {given other : List Answer} → Start T book s → Run s calls given t
+  pub one-left : {book : Book} {s t u : Session} {calls : List Call} {given other : List Answer} → Start book s → Run s calls given t
       → Run s calls other u → t ≡ u
   -- and every list of calls can be made
-  pub some-run : {T : ℕ} {book : Book} {s : Session} {calls : List Call} → Start T book s → AllFit calls
+  pub some-run : {book : Book} {s : Session} {calls : List Call} → Start book s → AllFit calls
       → (given : List Answer) × (t : Session) × Run s calls given t
   -- 'Closing after such a list, into buffers of the right sizes, is refused as early exactly when a place is missing.'
-  pub early : {T : ℕ} {book : Book} {calls : List Call} {a : Answer} → ClosedAfter T book calls a
+  pub early : {book : Book} {calls : List Call} {a : Answer} → ClosedAfter book calls a
       → (a .number ≡ placeMissing) ↔ ((p : ℕ) × Missing (afterAll book calls .row) p)
-  -- 'With none missing it says 'none near' exactly when no codeword differs from some test word in at most 6 places (rate 39) or 1 place (rate 49);'
-  pub none-near : {T : ℕ} {book : Book} {calls : List Call} {a : Answer} → ClosedAfter T book calls a
-      → ((p : ℕ) → Missing (afterAll book calls .row) p → ⊥) → (a .number ≡ noneNear) ↔ ((m : List ℕ) → IsNear (afterAll book calls) T m → ⊥)
+  -- document 02: 'there a closing with no place missing but too many blank gives 12', and no other does
+  pub too-blank : {book : Book} {calls : List Call} {a : Answer} → ClosedAfter book calls a
+      → (a .number ≡ tooBlank) ↔ (((p : ℕ) → Missing (afterAll book calls .row) p → ⊥) × (blankLimit (book .rate) < blanksAfter book calls))
+  -- 'more than 13 blanks at rate 39, more than 3 at rate 49'; T with none blank and with so many
+  pub limits : (blankLimit 39 ≡ 13) × (blankLimit 49 ≡ 3) × IsReach 39 0 6 × IsReach 49 0 1 × IsReach 39 13 0 × IsReach 49 3 0
+  -- no call but closing gives 12
+  pub blank-closing : (book : Book) (call : Call) → answer book call .number ≡ tooBlank
+      → (message : List ℕ) × (report : List ℕ) × (call ≡ closing message report)
+  -- without that there is a T: 'With b blank places T is the largest number with 2T + b < 64 − M − 6'
+  pub some-reach : {book : Book} {calls : List Call} {a : Answer} → ClosedAfter book calls a
+      → ((p : ℕ) → Missing (afterAll book calls .row) p → ⊥) → a .number ≢ tooBlank → (T : ℕ) × ReachAfter book calls T
+  -- 'With none missing it says 'none near' exactly when no codeword differs from some test word in at most 6 places (rate 39) or 1 place (rate 49);' document
+  -- 02: 'demand 3 is read with this T and this way of counting'
+  pub none-near : {book : Book} {calls : List Call} {a : Answer} → ClosedAfter book calls a
+      → ((p : ℕ) → Missing (afterAll book calls .row) p → ⊥) → {T : ℕ} → ReachAfter book calls T
+      → (a .number ≡ noneNear) ↔ ((m : List ℕ) → IsNear (afterAll book calls) T m → ⊥)
   -- 'otherwise it gives the message of such a codeword, and every other such codeword has a larger total cost, or an equal total and a larger message.'
-  pub otherwise : {T : ℕ} {book : Book} {calls : List Call} {a : Answer} → ClosedAfter T book calls a
-      → ((p : ℕ) → Missing (afterAll book calls .row) p → ⊥) → a .number ≢ noneNear → IsAnswer (afterAll book calls) T (closedBy a)
+  pub otherwise : {book : Book} {calls : List Call} {a : Answer} → ClosedAfter book calls a
+      → ((p : ℕ) → Missing (afterAll book calls .row) p → ⊥) → {T : ℕ} → ReachAfter book calls T → a .number ≢ noneNear
+      → IsAnswer (afterAll book calls) T (closedBy a)
   -- document 01: 'opening an accepted capture counts as opening with its rate and list and then delivering its records in their order': it is one of
   -- the openings (Start) of which all of this is said
   pub captures : {bytes : List ℕ} {r : Opened} → Opening (openCaptureOf bytes) r → r .refusal ≡ accepted → CaptureStarts bytes r
@@ -86,9 +107,9 @@ pub record Demand3 : Type 0 where
   pub alike : {s t : Session} → Reached s → Reached t → SameHeld s t → Alike s t
   -- they are equal, and so are two sessions that openings by one book return
   pub one-held : {s t : Session} → Reached s → Reached t → SameHeld s t → s ≡ t
-  pub one-start : {T R : ℕ} {book : Book} {s t : Session} → Start T book s → Start R book t → s ≡ t
+  pub one-start : {book : Book} {s t : Session} → Start book s → Start book t → s ≡ t
   -- document 02: 'The writer shall put records in rising place order'
-  pub in-order : {T : ℕ} {book : Book} {s t : Session} {calls : List Call} {given : List Answer} → Start T book s → Run s calls given t
+  pub in-order : {book : Book} {s t : Session} {calls : List Call} {given : List Answer} → Start book s → Run s calls given t
       → {out : List ℕ} {a : Answer} {u : Session} → Step t (writing out) a u → a .number ≡ accepted → InPlaceOrder (recordsIn (a .first))
   -- 'and writing what was read from an accepted capture returns it unchanged exactly if it is in place order'
   pub unchanged : {bytes out : List ℕ} {r : Opened} {a : Answer} {u : Session} → below 256 bytes ≡ true → Opening (openCaptureOf bytes) r
@@ -101,15 +122,36 @@ pub record Demand3 : Type 0 where
   -- document 02: 'A delivery shall be undone: … the session answers and reads as if that delivery, and every call refused since, had never been made. It need
   -- not be the latest one.' With that delivery, calls that do not withdraw its place and the withdrawal, and with those of the calls alone that were accepted,
   -- the session left is the same
-  pub undone : {T : ℕ} {book : Book} {s t u : Session} {calls : List Call} {given other : List Answer} → Start T book s → (before : List Call) (p : ℕ)
+  pub undone : {book : Book} {s t u : Session} {calls : List Call} {given other : List Answer} → Start book s → (before : List Call) (p : ℕ)
       (column : List ℕ) → answer (afterAll book before) (deliver p column) .number ≡ accepted → Spares p calls
       → Run s (before ++ (deliver p column ∷ (calls ++ (withdraw p ∷ [])))) given t
       → Run s (before ++ acceptedOf (after (afterAll book before) (deliver p column)) calls) other u → t ≡ u
 
-closes-after : {T : ℕ} {book : Book} {calls : List Call} {a : Answer} → ClosedAfter T book calls a → Closes (afterAll book calls) T (closedBy a)
+closes-after : {book : Book} {calls : List Call} {a : Answer} → ClosedAfter book calls a → Closes (afterAll book calls) (closedBy a)
 closes-after (closed-after start run step long whole-report) = start-follows start .closed run step long whole-report
 
+closed-rate : {book : Book} {calls : List Call} {a : Answer} → ClosedAfter book calls a → Rate (book .rate)
+closed-rate (closed-after start run step long whole-report) = start-rate start
+
+module _ {book : Book} {calls : List Call} {a : Answer} (c : ClosedAfter book calls a) where
+  blank-after : (a .number ≡ tooBlank) ↔ (((p : ℕ) → Missing (afterAll book calls .row) p → ⊥) × (blankLimit (book .rate) < blanksAfter book calls))
+  blank-after = (
+    λ n. (full n, omega (arith, limit-after book calls, closes-after c .too-blank (full n) .0 n)),
+    λ r. closes-after c .too-blank (r .0) .1 (omega (arith, limit-after book calls, r .1)),
+  )
+    where
+      full : a .number ≡ tooBlank → (p : ℕ) → Missing (afterAll book calls .row) p → ⊥
+      full n p m = omega (arith, n, closes-after c .early .1 (p, m))
+
+  reach-there : ((p : ℕ) → Missing (afterAll book calls .row) p → ⊥) → a .number ≢ tooBlank → (T : ℕ) × ReachAfter book calls T
+  reach-there full n = go (decLe (blanksAfter book calls) (blankLimit (book .rate)))
+    where
+      go : Dec (blanksAfter book calls ≤ blankLimit (book .rate)) → (T : ℕ) × ReachAfter book calls T
+      go (yes few) = (reachOf (book .rate) (blanksAfter book calls), reach-is m16 (known-workable (book .rate) (rate-known (closed-rate c))) few)
+      go (no many) = absurd (n (blank-after .1 (full, omega arith)))
+
 pub whole : Demand3
+unfolding mostBlank reachAt
 whole =
     record {
       opening-accepts = λ known fit opened. opening-accepted known fit opened;
@@ -118,8 +160,12 @@ whole =
       one-left = λ start run other. start-follows start .one-left run other;
       some-run = λ start fit. start-follows start .not-empty fit;
       early = λ c. closes-after c .early;
-      none-near = λ c full. closes-after c .none-near full;
-      otherwise = λ c full n. closes-after c .otherwise full n;
+      too-blank = λ c. blank-after c;
+      limits = (rate-blanks rate-39 .0, rate-blanks rate-49 .0, rate-reach rate-39, rate-reach rate-49, rate-blanks rate-39 .1, rate-blanks rate-49 .1);
+      blank-closing = laws.only-closing-blank;
+      some-reach = λ c full n. reach-there c full n;
+      none-near = λ {book} {calls} c full reach. closes-after c .none-near full (reach-after book calls reach);
+      otherwise = λ {book} {calls} c full reach n. closes-after c .otherwise full (reach-after book calls reach) n;
       captures = λ opened n. capture-starts opened n;
       only-changes = laws.only-changes;
       takes-out = laws.withdrawn-after;

@@ -5,17 +5,23 @@
 --   columnsAfter rate list calls   that book's columns by place
 --   run-repaired           opened with no doubtful places: if none is missing and at most T places have a best symbol that is not the sent one, closing
 --                          accepts and gives the message sent, with its report
+--   run-faded              so it does if places are blank, no more than 13 at rate 39 or 3 at rate 49, and at most T of the others are wrong
 --   run-found              opened with any doubtful list: if none is missing and few places are wrong, closing accepts, and what it gives is the message
 --                          sent or no dearer
+--
+-- T is the one that the blank places leave (ReachAfter), and they are none of the wrong ones.
 use mathlib.Core.Path.{_≡_, refl, sym, _∙_, subst, subst₂}
 use mathlib.Core.List.{List, []}
 use Prim.Native.Nat.{ℕ, _≤_}
 use native.Mathlib.Omega.{arith}
 use lib.ListN.{length}
 use Rattle.lists.specs.Words.{Word}
-use Rattle.book.specs.Model.{modem64}
+use Rattle.family.specs.Member.{m16}
+use Rattle.near.specs.Here.{reachOf}
+use Rattle.near.specs.Reach.{reach-is}
+use Rattle.book.specs.Model.{modem64, known-workable}
 use Rattle.book.specs.Book.{Book, newBook}
-use Rattle.book.specs.OpeningLaws.{Rate, rate-is}
+use Rattle.book.specs.OpeningLaws.{Rate, rate-known, mostBlank, rate-blanks}
 use Rattle.book.specs.AnyCalls.{Answer}
 use Rattle.book.specs.Calls.{Call, closing, afterAll}
 use Rattle.book.specs.Repairs.{closes-repaired, closes-found}
@@ -26,20 +32,21 @@ use Rattle.session.specs.declared.Opened.{Opened}
 use Rattle.session.specs.Calls.{Opening}
 use Rattle.runs.specs.Step.{Step}
 use Rattle.runs.specs.Runs.{Run}
-use Rattle.runs.specs.Follows.{closedBy, Follows, by-opening, start-follows}
+use Rattle.runs.specs.Follows.{closedBy, Follows, blanksAfter, ReachAfter, reach-after, by-opening, start-follows}
 
-module _ {T : ℕ} {s : Session} {book : Book} (follows : Follows T s book) {calls : List Call} {given : List Answer} {t : Session}
+module _ {s : Session} {book : Book} (follows : Follows s book) {calls : List Call} {given : List Answer} {t : Session}
     (run : Run s calls given t) {message report : List ℕ} {a : Answer} {u : Session} (step : Step t (closing message report) a u)
     (long : length message ≡ book .rate) (whole-report : length report ≡ reportLength) (full : (p : ℕ) → Missing (afterAll book calls .row) p → ⊥)
-    (m : List ℕ) where
-  pub follows-repaired : Rate (book .rate) T → book .doubtful ≡ [] → Word 16 (book .rate) m
+    {T : ℕ} (reach : ReachAfter book calls T) (m : List ℕ) where
+  pub follows-repaired : Rate (book .rate) → book .doubtful ≡ [] → Word 16 (book .rate) m
       → notBest (book .rate) (columnsOf (afterAll book calls .row)) m ≤ T
       → Repaired (book .rate) (columnsOf (afterAll book calls .row)) (book .doubtful) m (closedBy a)
   follows-repaired rate none-doubtful word few =
       let k = sym (rate-held book calls) in
       subst₂ (λ r l. Repaired r (columnsOf (afterAll book calls .row)) l m (closedBy a))
       (rate-held book calls) (list-held book calls)
-      (closes-repaired modem64 (follows .closed run step long whole-report) full (rate-is (subst (λ r. Rate r T) k rate)) (list-held book calls ∙ none-doubtful) m
+      (closes-repaired modem64 (follows .closed run step long whole-report) full (reach-after book calls reach) (rate-known (subst Rate k rate))
+      (list-held book calls ∙ none-doubtful) m
       (subst (λ r. Word 16 r m) k word)
       (subst (λ r. notBest r (columnsOf (afterAll book calls .row)) m ≤ T) k few))
 
@@ -48,7 +55,7 @@ module _ {T : ℕ} {s : Session} {book : Book} (follows : Follows T s book) {cal
   follows-found few =
       subst₂ (λ r l. NoDearer r (columnsOf (afterAll book calls .row)) l m (closedBy a))
       (rate-held book calls) (list-held book calls)
-      (closes-found modem64 (follows .closed run step long whole-report) full m
+      (closes-found modem64 (follows .closed run step long whole-report) full (reach-after book calls reach) m
       (subst₂ (λ r l. FewWrong r (columnsOf (afterAll book calls .row)) l T m) (sym (rate-held book calls)) (sym (list-held book calls)) few))
 
 -- ---- an opened session
@@ -62,16 +69,27 @@ columnsAfter rate list calls = columnsOf (afterAll (newBook rate list) calls .ro
 no-places : DoubtfulList []
 no-places = record { short = omega arith; in-range = λ i l. absurd (omega arith); rises = λ i l. absurd (omega arith) }
 
-module _ {rate T : ℕ} (known : Rate rate T) {r : Opened} {calls : List Call} {given : List Answer} {t : Session} {message report : List ℕ}
+module _ {rate : ℕ} (known : Rate rate) {r : Opened} {calls : List Call} {given : List Answer} {t : Session} {message report : List ℕ}
     {a : Answer} {u : Session} (step : Step t (closing message report) a u) (long : length message ≡ rate) (whole-report : length report ≡ reportLength)
     (m : List ℕ) where
-  pub run-repaired : Opening (openOf rate []) r → Run (r .session) calls given t → Full rate [] calls → Word 16 rate m
+  pub run-repaired : Opening (openOf rate []) r → Run (r .session) calls given t → Full rate [] calls
+      → {T : ℕ} → ReachAfter (newBook rate []) calls T → Word 16 rate m
       → notBest rate (columnsAfter rate [] calls) m ≤ T → Repaired rate (columnsAfter rate [] calls) [] m (closedBy a)
   unfolding newBook
-  run-repaired opened run full word few =
-      follows-repaired (start-follows (by-opening known no-places opened)) run step long whole-report full m known refl word few
+  run-repaired opened run full reach word few =
+      follows-repaired (start-follows (by-opening known no-places opened)) run step long whole-report full reach m known refl word few
+
+  pub run-faded : Opening (openOf rate []) r → Run (r .session) calls given t → Full rate [] calls
+      → blanksAfter (newBook rate []) calls ≤ mostBlank known → Word 16 rate m
+      → notBest rate (columnsAfter rate [] calls) m ≤ reachOf rate (blanksAfter (newBook rate []) calls)
+      → Repaired rate (columnsAfter rate [] calls) [] m (closedBy a)
+  unfolding newBook
+  run-faded opened run full few-blank word few =
+      run-repaired opened run full (reach-is m16 (known-workable rate (rate-known known)) (omega (arith, rate-blanks known .0))) word few
 
   pub run-found : {list : List ℕ} → DoubtfulList list → Opening (openOf rate list) r → Run (r .session) calls given t → Full rate list calls
+      → {T : ℕ} → ReachAfter (newBook rate list) calls T
       → FewWrong rate (columnsAfter rate list calls) list T m → NoDearer rate (columnsAfter rate list calls) list m (closedBy a)
   unfolding newBook
-  run-found d opened run full few = follows-found (start-follows (by-opening known d opened)) run step long whole-report full m few
+  run-found d opened run full reach few =
+      follows-found (start-follows (by-opening known d opened)) run step long whole-report full reach m few

@@ -51,7 +51,7 @@ module _ {t : Session} {book : Book} (good : Good t) (same : Agree (bookOf t) bo
   step-reads {out} step long =
       let rate = known-rate (bookOf t .rate) (good-proper t good .rate-known) in
       subst (λ (x : Answer). (x .number ≡ accepted) × Reads book (x .first)) (sym (step .answered good ∙ answer-alike same (reading out)))
-      (reading-least book (subst (λ k. Rate k (rate .0)) (same .same-rate) (rate .1)) out long)
+      (reading-least book (subst Rate (same .same-rate) rate) out long)
 
   pub step-shows : {message report : List ℕ} {a : Answer} {u : Session} → RowColumns (book .row) → Step t (closing message report) a u
       → a .number ≡ accepted → ReportedIn book (closedBy a)
@@ -72,7 +72,7 @@ step-writes {t} good {out} {a} step n =
     (sym (ap (λ (x : Answer). x .first) e ∙ ap (λ (f : Filled). f .bytes) (write-accepted (bookOf t) out (w .0) (w .1))))
     (written-order (bookOf t) (good-proper t good))
 
-module _ {T : ℕ} {book : Book} {s : Session} (start : Start T book s) {calls : List Call} {given : List Answer} {t : Session}
+module _ {book : Book} {s : Session} (start : Start book s) {calls : List Call} {given : List Answer} {t : Session}
     (run : Run s calls given t) where
   good : Good t
   good = start-follows start .left run .0
@@ -91,14 +91,14 @@ module _ {T : ℕ} {book : Book} {s : Session} (start : Start T book s) {calls :
   pub run-writes : {out : List ℕ} {a : Answer} {u : Session} → Step t (writing out) a u → a .number ≡ accepted → InPlaceOrder (recordsIn (a .first))
   run-writes step n = step-writes good step n
 
-pub opened-shows : {rate T : ℕ} {list : List ℕ} {r : Opened} → Rate rate T → DoubtfulList list → Opening (openOf rate list) r
+pub opened-shows : {rate : ℕ} {list : List ℕ} {r : Opened} → Rate rate → DoubtfulList list → Opening (openOf rate list) r
     → {calls : List Call} {given : List Answer} {t : Session} → Run (r .session) calls given t → AllFit calls
     → {message report : List ℕ} {a : Answer} {u : Session} → Step t (closing message report) a u → a .number ≡ accepted
     → ReportedIn (afterAll (newBook rate list) calls) (closedBy a)
-opened-shows {rate} {T} {list} known doubtful opened run fit step n =
+opened-shows {rate} {list} known doubtful opened run fit step n =
     run-shows (by-opening known doubtful opened) run (new-costs modem64 rate list) fit step n
 
-pub capture-shows : {T : ℕ} {r : Opened} (bytes : List ℕ) → below 256 bytes ≡ true → Rate (rateIn bytes) T → Opening (openCaptureOf bytes) r
+pub capture-shows : {r : Opened} (bytes : List ℕ) → below 256 bytes ≡ true → Rate (rateIn bytes) → Opening (openCaptureOf bytes) r
     → r .refusal ≡ accepted → {calls : List Call} {given : List Answer} {t : Session} → Run (r .session) calls given t → AllFit calls
     → {message report : List ℕ} {a : Answer} {u : Session} → Step t (closing message report) a u → a .number ≡ accepted
     → ReportedIn (afterAll (captureBook bytes) calls) (closedBy a)

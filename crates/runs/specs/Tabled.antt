@@ -179,7 +179,7 @@ brings-holds {table} {calls} brings rate list p h =
 
 -- ---- the claim
 
-module _ {rate T : ℕ} (known : Rate rate T) (table : List ℕ) (whole : length table ≡ tableLength) (doubt : ℕ) (few : doubt ≤ mostDoubt) {r : Opened}
+module _ {rate : ℕ} (known : Rate rate) (table : List ℕ) (whole : length table ≡ tableLength) (doubt : ℕ) (few : doubt ≤ mostDoubt) {r : Opened}
     (opened : Opening (openOf rate (pickedOf table doubt)) r) where
   pub picked-accepted : r .refusal ≡ accepted
   picked-accepted = opening-accepted known (fits-list modem64 (pickedOf table doubt) (picked-fit modem64 table doubt few)) opened
@@ -192,7 +192,7 @@ module _ {rate T : ℕ} (known : Rate rate T) (table : List ℕ) (whole : length
   table-as-run {calls} {given} {t} run holds {message} {report} step =
       let list : List ℕ = pickedOf table doubt in
       let fit = fits-list modem64 list (picked-fit modem64 table doubt few) in
-      let follows : Follows T (r .session) (newBook rate list) = start-follows (by-opening known fit opened) in
+      let follows : Follows (r .session) (newBook rate list) = start-follows (by-opening known fit opened) in
       let good : Good t = follows .left run .0 in
       let book : Book = afterAll (newBook rate list) calls in
       let agree : Agree (bookOf t) book = follows .left run .1 in

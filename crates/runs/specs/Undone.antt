@@ -37,8 +37,8 @@ step-frees {s} {t} {p} good step n =
     withdrawn-cleared t p (bookOf s) (step .good good) (step .book good) (sym (ap (λ (x : Answer). x .number) (step .answered good)) ∙ n)
 
 -- the calls that count as made with an opening, as the deliveries of a capture's records, are `brought`; `plain` is an opening without them
-module _ {T R : ℕ} {book : Book} {s v t u : Session} {calls : List Call} {given other : List Answer} (plain : Start T book v) (brought : List Call)
-    (start : Start R (afterAll book brought) s) (made before : List Call) (p : ℕ) (column : List ℕ)
+module _ {book : Book} {s v t u : Session} {calls : List Call} {given other : List Answer} (plain : Start book v) (brought : List Call)
+    (start : Start (afterAll book brought) s) (made before : List Call) (p : ℕ) (column : List ℕ)
     (all : brought ++ made ≡ before ++ (deliver p column ∷ calls)) (n : answer (afterAll book before) (deliver p column) .number ≡ accepted)
     (spares : Spares p calls) (run : Run s (made ++ (withdraw p ∷ [])) given t)
     (without : Run v (before ++ acceptedOf (after (afterAll book before) (deliver p column)) calls) other u) where
@@ -55,7 +55,7 @@ module _ {T R : ℕ} {book : Book} {s v t u : Session} {calls : List Call} {give
       ∙ sym (after-append after book before (acceptedOf (after b (deliver p column)) calls)) in
       one-session t u (f .0) (g .0) (agree-trans (f .1) (agree-trans (agree-path same) (agree-sym (g .1))))
 
-module _ {T : ℕ} {book : Book} {s t u : Session} {calls : List Call} {given other : List Answer} (start : Start T book s) (before : List Call) (p : ℕ)
+module _ {book : Book} {s t u : Session} {calls : List Call} {given other : List Answer} (start : Start book s) (before : List Call) (p : ℕ)
     (column : List ℕ) (n : answer (afterAll book before) (deliver p column) .number ≡ accepted) (spares : Spares p calls)
     (run : Run s (before ++ (deliver p column ∷ (calls ++ (withdraw p ∷ [])))) given t)
     (without : Run s (before ++ acceptedOf (after (afterAll book before) (deliver p column)) calls) other u) where
@@ -72,7 +72,7 @@ module _ {T : ℕ} {book : Book} {s t u : Session} {calls : List Call} {given ot
       let c : Run t later second w = subst (λ x. Run x later second w) (sym undone) b in
       (every-run a good ∙ sym (every-run c good), one-end good a c)
 
-pub as-if : {T : ℕ} {book : Book} {s : Session} → Start T book s → {before calls : List Call} → AllFit before → AllFit calls → (p : ℕ) (column : List ℕ)
+pub as-if : {book : Book} {s : Session} → Start book s → {before calls : List Call} → AllFit before → AllFit calls → (p : ℕ) (column : List ℕ)
     → (given : List Answer) × (u : Session) × Run s (before ++ acceptedOf (after (afterAll book before) (deliver p column)) calls) given u
 as-if {book = book} start {before} fits fit p column =
     start-follows start .not-empty (each-append fits (accepted-each accepts after fit (after (afterAll book before) (deliver p column))))

@@ -2,15 +2,16 @@
 --
 --   columns-table      the columns by place are those of the table, at every place: where a place is free both hold zeros
 --   missing-taken      a place is missing exactly if not every flag is set
---   settled-taken      a place is settled exactly if its flag is set and it is not in the doubtful list
+--   settled-taken      a place is settled exactly if its flag is set, it is not in the doubtful list and its column in the table is not blank
 --   settled-table      its best symbol is the best of its column in the table
-use mathlib.Core.Bool.{false, not, _&&_}
-use mathlib.Core.Path.{_≡_, ap}
+use mathlib.Core.Bool.{Bool, false, not, _&&_}
+use mathlib.Core.Path.{_≡_, ap, ap₂}
 use mathlib.Core.List.{List}
 use Prim.Native.Nat.{ℕ}
 use lib.ListN.{getD, take}
 use Rattle.lists.specs.Distinct.{among}
 use Rattle.soft.specs.Column.{symbols, bestOf, columnOf}
+use Rattle.soft.specs.Blank.{openAt}
 use Rattle.family.specs.Nodes.{node}
 use Rattle.book.specs.Model.{modem64}
 use Rattle.book.specs.Reading.{isSettled, settledAt}
@@ -31,9 +32,10 @@ module _ (s : Session) (good : Good s) where
   missing-taken = laws.missing-taken modem64 (held s) good
 
   pub settled-taken : (p : ℕ)
-      → isSettled (bookOf s) p ≡ (getD (s .taken) p false && not (among p (take (s .doubt) (s .doubtful))))
+      → isSettled (bookOf s) p ≡ (getD (s .taken) p false && (not (among p (take (s .doubt) (s .doubtful))) && openAt (columnOf symbols (s .costs)) p))
   unfolding isSettled bookOf
-  settled-taken p = ap (λ b. b && not (among p (take (s .doubt) (s .doubtful)))) (book-taken s good p)
+  settled-taken p =
+      ap₂ (λ (a : Bool) (f : ℕ → List ℕ). a && (not (among p (take (s .doubt) (s .doubtful))) && openAt f p)) (book-taken s good p) columns-table
 
   pub settled-table : (p : ℕ) → settledAt (bookOf s) p ≡ node p (bestOf (columnOf symbols (s .costs) p))
   unfolding settledAt

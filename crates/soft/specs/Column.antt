@@ -5,15 +5,17 @@
 --   bestOf column          the best symbol (hard decision): least cost, equal costs to the smaller symbol
 --   secondOf column        the second symbol: the best of the others
 --   gapOf column           the gap (reliability): second cost minus best cost
+--   isBlank column         the column is blank (an erasure): all its costs are equal
 --   bestBut column b n     the best of the first n symbols, b left out; step by step, firstBut and betterOf
 --   pairAt bytes i         the number in two bytes, high first
 --   costsFrom n bytes      n costs from their bytes, two each: a column, or the columns of a table one after the other
 --   columnOf q costs p     the column of place p in a list of costs, q to a place, place 0 first
-use mathlib.Core.Bool.{cond}
+use mathlib.Core.Bool.{Bool, cond}
 use mathlib.Core.List.{List}
 use Prim.Native.Nat.{ℕ, zero, suc, _+_, _-_, _*_}
 use lib.Dec.{ltb, eqb}
 use lib.ListN.{length, getD}
+use Rattle.lists.specs.Every.{every}
 use Rattle.lists.specs.Listed.{listed}
 
 abbrev pub places : ℕ
@@ -52,6 +54,9 @@ secondOf column = bestBut column (bestOf column) (length column)
 
 unfoldable pub gapOf : List ℕ → ℕ
 gapOf column = costOf column (secondOf column) - costOf column (bestOf column)
+
+unfoldable pub isBlank : List ℕ → Bool
+isBlank column = every (length column) (λ s. eqb (costOf column s) (costOf column 0))
 
 abbrev pub pairAt : List ℕ → ℕ → ℕ
 pairAt bytes i = getD bytes i 0 * 256 + getD bytes (i + 1) 0

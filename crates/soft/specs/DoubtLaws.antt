@@ -1,13 +1,17 @@
 -- Laws of the doubtful places.
 --
 --   ahead-key              of two of n places one is ahead exactly if its key, the gap times n plus the place, is smaller
---   smallest-length        exactly d places are chosen
---   smallest-rising, smallest-below, smallest-few, smallest-member   they rise, are places, and are those with fewer than d places ahead of them
---   smallest-ahead         each chosen place is ahead of each place that is not chosen
---   doubtful-length, doubtful-rising, doubtful-below, doubtful-ahead   the same of a table's doubtful places
+--   smallest-length        exactly d places are chosen, where so many count; smallest-most: never more
+--   smallest-all           all that count, where they are no more than d; doubtful-all: all places that are not blank
+--   smallest-rising, smallest-below, smallest-counts, smallest-few, smallest-member   they rise, are places that count, and are those with fewer
+--                          than d such places ahead of them
+--   smallest-ahead         each chosen place is ahead of each place that counts and is not chosen
+--   doubtful-length, doubtful-most, doubtful-rising, doubtful-below, doubtful-open, doubtful-ahead   the same of a table's doubtful places
+--   doubtful-unblanked     none of them is blank, so all of them are doubled
 --   doubtful-none          no doubt, no doubtful places
 --   aheadOf-ext, smallest-ext, doubtful-ext   only the n places matter
-use mathlib.Core.Path.{_≡_, sym, ap, ap₂, _∙_}
+use mathlib.Core.Bool.{Bool, true, false, not, _&&_}
+use mathlib.Core.Path.{_≡_, refl, sym, ap, ap₂, _∙_, subst}
 use mathlib.Core.List.{List, [], List·Memᴰ}
 use Prim.Native.Nat.{ℕ, suc, _+_, _*_, _<_, _≤_}
 use native.Mathlib.Nat.{mul-le-mul-right, suc-mul}
@@ -16,31 +20,44 @@ use native.Mathlib.Omega.{arith}
 use lib.Dec.{T, ltb, ltb→lt, lt→ltb}
 use lib.ListN.{length}
 use borrow.Author.Tests.{lt-ltb, le-ltb, eq-eqb, ne-eqb}
-use Rattle.lists.specs.Count.{count-ext, kept-ext, kept-length, kept-member, kept-passes, kept-rising, kept-none, Rising}
-use Rattle.lists.specs.Rank.{rankOf, rank-exact, rank-before}
-use Rattle.soft.specs.Column.{gapOf}
+use Rattle.lists.specs.Count.{count, count-ext, count-mono, count-strict, kept, kept-ext, kept-length, kept-member, kept-passes, kept-rising, kept-none, Rising}
+use Rattle.lists.specs.Distinct.{and-both}
+use Rattle.lists.specs.Every.{both-left, both-right, both-intro, T-true, true-T}
+use Rattle.soft.specs.Column.{gapOf, isBlank}
+use Rattle.soft.specs.Blank.{openAt, blanksOf, unblanked}
+use Rattle.soft.specs.BlankLaws.{open-count, unblanked-all}
+use Rattle.soft.specs.Ranks.{rankIn, rank-in-exact, rank-in-before}
 use Rattle.soft.specs.Doubt.{ahead, aheadBy, aheadOf, fewAhead, smallest, gapAt, doubtfulOf}
 
--- only the gaps of the n places matter
-pub aheadOf-ext : (n : ℕ) (g h : ℕ → ℕ) → ((p : ℕ) → p < n → g p ≡ h p) → (q : ℕ) → q < n → aheadOf n g q ≡ aheadOf n h q
-unfolding aheadOf
-aheadOf-ext n g h e q l =
-    count-ext n (λ p. ahead g p q) (λ p. ahead h p q) (λ p k. ap₂ (λ x y. aheadBy x p y q) (e p k) (e q l))
+-- only what is said of the n places matters
+module _ (n : ℕ) (c e : ℕ → Bool) (g h : ℕ → ℕ) (counts : (p : ℕ) → p < n → c p ≡ e p) (gaps : (p : ℕ) → p < n → g p ≡ h p) where
+  pub aheadOf-ext : (q : ℕ) → q < n → aheadOf n c g q ≡ aheadOf n e h q
+  unfolding aheadOf
+  aheadOf-ext q l =
+      count-ext n (λ p. c p && ahead g p q) (λ p. e p && ahead h p q)
+      (λ p k. ap₂ (λ (a b : Bool). a && b) (counts p k) (ap₂ (λ x y. aheadBy x p y q) (gaps p k) (gaps q l)))
 
-pub smallest-ext : (n d : ℕ) (g h : ℕ → ℕ) → ((p : ℕ) → p < n → g p ≡ h p) → smallest n d g ≡ smallest n d h
-unfolding smallest
-smallest-ext n d g h e =
-    kept-ext n (fewAhead n d g) (fewAhead n d h) (λ q l. ap (λ r. ltb r d) (aheadOf-ext n g h e q l))
+  pub smallest-ext : (d : ℕ) → smallest n d c g ≡ smallest n d e h
+  unfolding smallest
+  smallest-ext d =
+      kept-ext n (fewAhead n d c g) (fewAhead n d e h)
+      (λ q l. ap₂ (λ (a : Bool) (r : ℕ). a && ltb r d) (counts q l) (aheadOf-ext q l))
 
 pub doubtful-ext : (n d : ℕ) (c e : ℕ → List ℕ) → ((p : ℕ) → p < n → c p ≡ e p) → doubtfulOf n d c ≡ doubtfulOf n d e
 unfolding doubtfulOf
-doubtful-ext n d c e h = smallest-ext n d (gapAt c) (gapAt e) (λ p l. ap gapOf (h p l))
+doubtful-ext n d c e h =
+    smallest-ext n (openAt c) (openAt e) (gapAt c) (gapAt e) (λ p l. ap (λ x. not (isBlank x)) (h p l)) (λ p l. ap gapOf (h p l)) d
 
 -- no doubt, no doubtful places
 pub doubtful-none : (n : ℕ) (columns : ℕ → List ℕ) → doubtfulOf n 0 columns ≡ []
 unfolding doubtfulOf smallest
 doubtful-none n columns =
-    kept-none n (fewAhead n 0 (gapAt columns)) (λ k l. le-ltb (aheadOf n (gapAt columns) k) 0 (omega arith))
+    kept-none n (fewAhead n 0 (openAt columns) (gapAt columns))
+    (λ k l. nothing (openAt columns k) (ltb (aheadOf n (openAt columns) (gapAt columns) k) 0) (le-ltb (aheadOf n (openAt columns) (gapAt columns) k) 0 (omega arith)))
+  where
+    nothing : (a b : Bool) → b ≡ false → (a && b) ≡ false
+    nothing true b e = e
+    nothing false b e = refl
 
 key-lt : (n g h p q : ℕ) → g < h → p < n → g * n + p < h * n + q
 key-lt n g h p q l k = let m : suc g * n ≤ h * n = mul-le-mul-right n l in omega (arith, suc-mul g n)
@@ -72,11 +89,6 @@ module _ (n : ℕ) (gap : ℕ → ℕ) where
           let e : gap p ≡ gap q = omega arith in
           simp (le-ltb (gap p) (gap q) (omega arith), eq-eqb (gap p) (gap q) e) (even e)
 
-  -- so the places ahead are counted by a rank,
-  ahead-rank : (q : ℕ) → q < n → aheadOf n gap q ≡ rankOf key n q
-  unfolding aheadOf rankOf
-  ahead-rank q l = count-ext n (λ p. ahead gap p q) (λ p. ltb (key p) (key q)) (λ p k. ahead-key p q k l)
-
   -- and no two places share it
   key-injective : (p q : ℕ) → p < n → q < n → key p ≡ key q → p ≡ q
   key-injective p q lp lq e = go (decLe (suc (gap p)) (gap q)) (decLe (suc (gap q)) (gap p))
@@ -88,58 +100,127 @@ module _ (n : ℕ) (gap : ℕ → ℕ) where
           let g : gap p ≡ gap q = omega arith in
           omega (arith, ap (λ x. x * n) g)
 
-  pub smallest-length : (d : ℕ) → d ≤ n → length (smallest n d gap) ≡ d
-  unfolding smallest
-  smallest-length d l =
-      kept-length n (fewAhead n d gap)
-      ∙ count-ext n (fewAhead n d gap) (λ p. ltb (rankOf key n p) d) (λ p k. ap (λ r. ltb r d) (ahead-rank p k))
-      ∙ rank-exact key n d key-injective l
+  module _ (counts : ℕ → Bool) where
+    -- so the places ahead are counted by a rank
+    ahead-rank : (q : ℕ) → q < n → aheadOf n counts gap q ≡ rankIn counts key n q
+    unfolding aheadOf rankIn
+    ahead-rank q l =
+        count-ext n (λ p. counts p && ahead gap p q) (λ p. counts p && ltb (key p) (key q))
+        (λ p k. ap (λ b. counts p && b) (ahead-key p q k l))
 
-  module _ (d : ℕ) where
-    pub smallest-rising : Rising (smallest n d gap)
+    pub smallest-length : (d : ℕ) → d ≤ count n counts → length (smallest n d counts gap) ≡ d
     unfolding smallest
-    smallest-rising = kept-rising n (fewAhead n d gap)
+    smallest-length d l =
+        kept-length n (fewAhead n d counts gap)
+        ∙ count-ext n (fewAhead n d counts gap) (λ p. counts p && ltb (rankIn counts key n p) d)
+        (λ p k. ap (λ r. counts p && ltb r d) (ahead-rank p k))
+        ∙ rank-in-exact counts key n key-injective d l
 
-    pub smallest-below : (p : ℕ) → List·Memᴰ p (smallest n d gap) → p < n
+    -- no more than count
+    all-chosen : (d : ℕ) → length (smallest n d counts gap) ≤ count n counts
     unfolding smallest
-    smallest-below p m = kept-passes n (fewAhead n d gap) p m .0
+    all-chosen d =
+        omega (
+          arith,
+          kept-length n (fewAhead n d counts gap),
+          count-mono n (fewAhead n d counts gap) counts (λ p l t. both-left (counts p) (ltb (aheadOf n counts gap p) d) t),
+        )
 
-    pub smallest-few : (p : ℕ) → List·Memᴰ p (smallest n d gap) → aheadOf n gap p < d
-    unfolding smallest
-    smallest-few p m = ltb→lt (aheadOf n gap p) d (kept-passes n (fewAhead n d gap) p m .1)
-
-    pub smallest-member : (p : ℕ) → p < n → aheadOf n gap p < d → List·Memᴰ p (smallest n d gap)
-    unfolding smallest
-    smallest-member p l f = kept-member n (fewAhead n d gap) p l (lt→ltb (aheadOf n gap p) d f)
-
-    pub smallest-ahead : (p q : ℕ) → List·Memᴰ p (smallest n d gap) → q < n → (List·Memᴰ q (smallest n d gap) → ⊥) → T (ahead gap p q)
-    smallest-ahead p q m l out = go (decLe d (aheadOf n gap q))
+    pub smallest-most : (d : ℕ) → length (smallest n d counts gap) ≤ d
+    smallest-most d = go (decLe d (count n counts))
       where
-        lp : p < n
-        lp = smallest-below p m
+        go : Dec (d ≤ count n counts) → length (smallest n d counts gap) ≤ d
+        go (yes l) = omega (arith, smallest-length d l)
+        go (no l) = omega (arith, all-chosen d)
 
-        go : Dec (d ≤ aheadOf n gap q) → T (ahead gap p q)
-        go (no a) = absurd (out (smallest-member q l (omega arith)))
-        go (yes a) =
-            rw (ahead-key p q lp l)
-            (lt→ltb (key p) (key q)
-            (rank-before key n p q (omega (arith, smallest-few p m, ahead-rank p lp, ahead-rank q l))))
+    pub smallest-all : (d : ℕ) → count n counts ≤ d → smallest n d counts gap ≡ kept n counts
+    unfolding smallest aheadOf
+    smallest-all d few = kept-ext n (fewAhead n d counts gap) counts (λ q l. at q l (counts q) refl)
+      where
+        -- a place that counts is not ahead of itself, so fewer than all that count are
+        short : (q : ℕ) → q < n → counts q ≡ true → count n (λ p. counts p && ahead gap p q) < count n counts
+        short q l e =
+            count-strict n q (λ p. counts p && ahead gap p q) counts (λ p k t. both-left (counts p) (ahead gap p q) t) l
+            (λ t.
+            omega
+            (arith, ltb→lt (key q) (key q) (subst T (ahead-key q q l l) (both-right (counts q) (ahead gap q q) t))))
+            (true-T (counts q) e)
+
+        at : (q : ℕ) → q < n → (b : Bool) → counts q ≡ b → fewAhead n d counts gap q ≡ counts q
+        at q l true e = and-both (counts q) (ltb (count n (λ p. counts p && ahead gap p q)) d) e (lt-ltb _ d (omega (arith, short q l e))) ∙ sym e
+        at q l false e = ap (λ b. b && ltb (count n (λ p. counts p && ahead gap p q)) d) e ∙ sym e
+
+    module _ (d : ℕ) where
+      pub smallest-rising : Rising (smallest n d counts gap)
+      unfolding smallest
+      smallest-rising = kept-rising n (fewAhead n d counts gap)
+
+      pub smallest-below : (p : ℕ) → List·Memᴰ p (smallest n d counts gap) → p < n
+      unfolding smallest
+      smallest-below p m = kept-passes n (fewAhead n d counts gap) p m .0
+
+      pub smallest-counts : (p : ℕ) → List·Memᴰ p (smallest n d counts gap) → counts p ≡ true
+      unfolding smallest
+      smallest-counts p m =
+          T-true (counts p) (both-left (counts p) (ltb (aheadOf n counts gap p) d) (kept-passes n (fewAhead n d counts gap) p m .1))
+
+      pub smallest-few : (p : ℕ) → List·Memᴰ p (smallest n d counts gap) → aheadOf n counts gap p < d
+      unfolding smallest
+      smallest-few p m =
+          ltb→lt (aheadOf n counts gap p) d
+          (both-right (counts p) (ltb (aheadOf n counts gap p) d) (kept-passes n (fewAhead n d counts gap) p m .1))
+
+      pub smallest-member : (p : ℕ) → p < n → counts p ≡ true → aheadOf n counts gap p < d → List·Memᴰ p (smallest n d counts gap)
+      unfolding smallest
+      smallest-member p l c f =
+          kept-member n (fewAhead n d counts gap) p l
+          (both-intro (counts p) (ltb (aheadOf n counts gap p) d) (true-T (counts p) c) (lt→ltb (aheadOf n counts gap p) d f))
+
+      pub smallest-ahead : (p q : ℕ) → List·Memᴰ p (smallest n d counts gap) → q < n → counts q ≡ true
+          → (List·Memᴰ q (smallest n d counts gap) → ⊥) → T (ahead gap p q)
+      smallest-ahead p q m l c out = go (decLe d (aheadOf n counts gap q))
+        where
+          lp : p < n
+          lp = smallest-below p m
+
+          go : Dec (d ≤ aheadOf n counts gap q) → T (ahead gap p q)
+          go (no a) = absurd (out (smallest-member q l c (omega arith)))
+          go (yes a) =
+              rw (ahead-key p q lp l)
+              (lt→ltb (key p) (key q)
+              (rank-in-before counts key n p q lp l (smallest-counts p m) c
+              (omega (arith, smallest-few p m, ahead-rank p lp, ahead-rank q l))))
 
 -- the same of a table's doubtful places
 module _ (n d : ℕ) (columns : ℕ → List ℕ) where
-  pub doubtful-length : d ≤ n → length (doubtfulOf n d columns) ≡ d
+  pub doubtful-length : d + blanksOf n columns ≤ n → length (doubtfulOf n d columns) ≡ d
   unfolding doubtfulOf
-  doubtful-length = smallest-length n (gapAt columns) d
+  doubtful-length l = smallest-length n (gapAt columns) (openAt columns) d (omega (arith, open-count n columns))
+
+  pub doubtful-most : length (doubtfulOf n d columns) ≤ d
+  unfolding doubtfulOf
+  doubtful-most = smallest-most n (gapAt columns) (openAt columns) d
+
+  pub doubtful-all : n ≤ d + blanksOf n columns → doubtfulOf n d columns ≡ kept n (openAt columns)
+  unfolding doubtfulOf
+  doubtful-all l = smallest-all n (gapAt columns) (openAt columns) d (omega (arith, open-count n columns))
 
   pub doubtful-rising : Rising (doubtfulOf n d columns)
   unfolding doubtfulOf
-  doubtful-rising = smallest-rising n (gapAt columns) d
+  doubtful-rising = smallest-rising n (gapAt columns) (openAt columns) d
 
   pub doubtful-below : (p : ℕ) → List·Memᴰ p (doubtfulOf n d columns) → p < n
   unfolding doubtfulOf
-  doubtful-below = smallest-below n (gapAt columns) d
+  doubtful-below = smallest-below n (gapAt columns) (openAt columns) d
 
-  pub doubtful-ahead : (p q : ℕ) → List·Memᴰ p (doubtfulOf n d columns) → q < n → (List·Memᴰ q (doubtfulOf n d columns) → ⊥)
-      → T (ahead (gapAt columns) p q)
+  pub doubtful-open : (p : ℕ) → List·Memᴰ p (doubtfulOf n d columns) → openAt columns p ≡ true
   unfolding doubtfulOf
-  doubtful-ahead = smallest-ahead n (gapAt columns) d
+  doubtful-open = smallest-counts n (gapAt columns) (openAt columns) d
+
+  pub doubtful-unblanked : unblanked (openAt columns) (doubtfulOf n d columns) ≡ doubtfulOf n d columns
+  doubtful-unblanked = unblanked-all (openAt columns) (doubtfulOf n d columns) doubtful-open
+
+  pub doubtful-ahead : (p q : ℕ) → List·Memᴰ p (doubtfulOf n d columns) → q < n → openAt columns q ≡ true
+      → (List·Memᴰ q (doubtfulOf n d columns) → ⊥) → T (ahead (gapAt columns) p q)
+  unfolding doubtfulOf
+  doubtful-ahead = smallest-ahead n (gapAt columns) (openAt columns) d

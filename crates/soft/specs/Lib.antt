@@ -1,8 +1,11 @@
 pub mod Column
+pub mod Blank
+pub mod Ranks
 pub mod Doubt
 pub mod TestWord
 pub mod Total
 pub mod ColumnLaws
+pub mod BlankLaws
 pub mod DoubtLaws
 pub mod TestWordLaws
 pub mod TotalLaws

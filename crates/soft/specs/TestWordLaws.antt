@@ -1,15 +1,17 @@
 -- Laws of the test words.
 --
 --   expand-nil, expand-cons   the definition step by step
---   expand-count, testWords-count     d doubtful places make 2 ^ d test words
+--   expand-count, testWords-count     d doubtful places that are not blank make 2 ^ d test words
 --   expand-length, testWords-length   each has as many places as the word that it is made of
---   testWords-settled      each carries the best symbol at every settled place,
+--   testWords-kept         each carries the best symbol at every place that is not doubled; testWords-settled: at every place that is not in the list,
+--   testWords-blank        at every blank place,
 --   testWords-symbol       and the best or the second symbol at every place
 --   testWords-first        the first carries the best symbol everywhere
 --   testWords-different    no two are equal: different doubtful places, each with two symbols at least, make different words
---   chosen-test            whichever of the two symbols is chosen at each doubtful place, a test word has the chosen ones
+--   chosen-test            whichever of the two symbols is chosen at each doubtful place that is not blank, a test word has the chosen ones
 --   bestWord-length, bestWord-at   the word of best symbols
 --   bestWord-ext, expand-ext, testWords-ext   only the columns of the places matter
+use mathlib.Core.Bool.{true, not, true≢false}
 use mathlib.Core.Path.{_≡_, refl, sym, ap, ap₂, _∙_, subst}
 use mathlib.Core.List.{List, [], _∷_, _++_, List·Memᴰ, List·Memᴰ·head, List·Memᴰ·tail, List·Memᴰ·cases-cons, List·Memᴰ·append-cases, List·Memᴰ·not-nil, List·Memᴰ·eq-of-singleton, Memᴰ·append-left, Memᴰ·append-right}
 use mathlib.Core.Logic.{_≢_, _⊎_, inl, inr, ⊎-elim}
@@ -21,7 +23,9 @@ use lib.ListN.{length, getD, set, length-append, length-set}
 use lib.Seq.{getD-set-same, getD-set-other, set-getD, set-out}
 use Rattle.lists.specs.Listed.{listed-length, listed-at, listed-ext}
 use Rattle.lists.specs.Different.{Different, different-nil, different-cons, different-append}
-use Rattle.soft.specs.Column.{bestOf, secondOf}
+use Rattle.soft.specs.Column.{bestOf, secondOf, isBlank}
+use Rattle.soft.specs.Blank.{openAt, unblanked}
+use Rattle.soft.specs.BlankLaws.{unblanked-member, member-unblanked, unblanked-different, unblanked-ext}
 use Rattle.soft.specs.TestWord.{bestAt, secondAt, Offered, bestWord, expand, testWords}
 use Rattle.soft.specs.ColumnLaws.{second-other}
 
@@ -138,35 +142,49 @@ expand-first n columns (p ∷ ps) =
     )
 
 module _ (n : ℕ) (columns : ℕ → List ℕ) (doubtful : List ℕ) where
-  pub testWords-count : length (testWords n columns doubtful) ≡ 2 ^ length doubtful
+  -- the places that are doubled
+  abbrev pub doubled : List ℕ
+  doubled = unblanked (openAt columns) doubtful
+
+  pub testWords-count : length (testWords n columns doubtful) ≡ 2 ^ length doubled
   unfolding testWords
-  testWords-count = expand-count columns (bestWord n columns) doubtful
+  testWords-count = expand-count columns (bestWord n columns) doubled
 
   pub testWords-first : (rest : List (List ℕ)) × (testWords n columns doubtful ≡ bestWord n columns ∷ rest)
   unfolding testWords
-  testWords-first = expand-first n columns doubtful
+  testWords-first = expand-first n columns doubled
 
   module _ (t : List ℕ) (m : List·Memᴰ t (testWords n columns doubtful)) where
     pub testWords-length : length t ≡ n
     unfolding testWords
-    testWords-length = expand-length columns (bestWord n columns) doubtful t m ∙ bestWord-length n columns
+    testWords-length = expand-length columns (bestWord n columns) doubled t m ∙ bestWord-length n columns
+
+    -- what is not doubled carries its best symbol
+    pub testWords-kept : (p : ℕ) → p < n → (List·Memᴰ p doubled → ⊥) → getD t p 0 ≡ bestAt columns p
+    unfolding testWords
+    testWords-kept p l out = expand-settled columns (bestWord n columns) doubled t m p out ∙ bestWord-at n columns p l
 
     pub testWords-settled : (p : ℕ) → p < n → (List·Memᴰ p doubtful → ⊥) → getD t p 0 ≡ bestAt columns p
-    unfolding testWords
-    testWords-settled p l out =
-        expand-settled columns (bestWord n columns) doubtful t m p out ∙ bestWord-at n columns p l
+    testWords-settled p l out = testWords-kept p l (λ i. out (unblanked-member (openAt columns) doubtful p i .0))
+
+    pub testWords-blank : (p : ℕ) → p < n → isBlank (columns p) ≡ true → getD t p 0 ≡ bestAt columns p
+    testWords-blank p l e =
+        testWords-kept p l
+        (λ i. true≢false (sym (unblanked-member (openAt columns) doubtful p i .1) ∙ ap not e))
 
     pub testWords-symbol : (p : ℕ) → p < n → Offered columns p (getD t p 0)
     unfolding testWords
     testWords-symbol p l =
-        expand-either columns (bestWord n columns) doubtful t m p (omega (arith, bestWord-length n columns)) (inl (bestWord-at n columns p l))
+        expand-either columns (bestWord n columns) doubled t m p (omega (arith, bestWord-length n columns)) (inl (bestWord-at n columns p l))
 
 pub testWords-different : (n : ℕ) (columns : ℕ → List ℕ) {doubtful : List ℕ} → Different doubtful → ((p : ℕ) → List·Memᴰ p doubtful → p < n)
     → ((p : ℕ) → List·Memᴰ p doubtful → 1 < length (columns p)) → Different (testWords n columns doubtful)
 unfolding testWords
-testWords-different n columns d b two =
-    expand-different columns (bestWord n columns) d
-    (λ p m. (omega (arith, bestWord-length n columns, b p m), second-other (columns p) (two p m)))
+testWords-different n columns {doubtful} d b two =
+    expand-different columns (bestWord n columns) (unblanked-different (openAt columns) d)
+    (λ p m.
+    let i = unblanked-member (openAt columns) doubtful p m .0 in
+    (omega (arith, bestWord-length n columns, b p i), second-other (columns p) (two p i)))
 
 module _ (columns : ℕ → List ℕ) (symbol : ℕ → ℕ) where
   -- what is chosen already stays chosen
@@ -209,12 +227,18 @@ module _ (columns : ℕ → List ℕ) (symbol : ℕ → ℕ) where
             c),
       )
 
-  pub chosen-test : (n : ℕ) (doubtful : List ℕ) → ((p : ℕ) → List·Memᴰ p doubtful → Offered columns p (symbol p))
-      → (t : List ℕ) × List·Memᴰ t (testWords n columns doubtful) × ((p : ℕ) → p < n → List·Memᴰ p doubtful → getD t p 0 ≡ symbol p)
+  pub chosen-test : (n : ℕ) (doubtful : List ℕ) → ((p : ℕ) → List·Memᴰ p doubtful → openAt columns p ≡ true → Offered columns p (symbol p))
+      → (t : List ℕ) × List·Memᴰ t (testWords n columns doubtful)
+      × ((p : ℕ) → p < n → List·Memᴰ p doubtful → openAt columns p ≡ true → getD t p 0 ≡ symbol p)
   unfolding testWords
   chosen-test n doubtful h =
-      let r = expand-chosen (bestWord n columns) doubtful h in
-      (r .0, r .1, λ p l m. r .2 p (omega (arith, bestWord-length n columns)) (inl m))
+      let r =
+      expand-chosen (bestWord n columns) (unblanked (openAt columns) doubtful)
+      (λ p m. let i = unblanked-member (openAt columns) doubtful p m in h p (i .0) (i .1)) in (
+        r .0,
+        r .1,
+        λ p l m c. r .2 p (omega (arith, bestWord-length n columns)) (inl (member-unblanked (openAt columns) doubtful p m c)),
+      )
 
 -- only the columns of the places matter
 pub bestWord-ext : (n : ℕ) (c e : ℕ → List ℕ) → ((p : ℕ) → p < n → c p ≡ e p) → bestWord n c ≡ bestWord n e
@@ -235,4 +259,6 @@ pub testWords-ext : (n : ℕ) (c e : ℕ → List ℕ) (doubtful : List ℕ) →
     → testWords n c doubtful ≡ testWords n e doubtful
 unfolding testWords
 testWords-ext n c e doubtful h b =
-    expand-ext c e (bestWord n c) doubtful (λ p m. h p (b p m)) ∙ ap (λ w. expand e w doubtful) (bestWord-ext n c e h)
+    ap (expand c (bestWord n c)) (unblanked-ext (openAt c) (openAt e) doubtful (λ p m. ap (λ x. not (isBlank x)) (h p (b p m))))
+    ∙ expand-ext c e (bestWord n c) (unblanked (openAt e) doubtful) (λ p m. h p (b p (unblanked-member (openAt e) doubtful p m .0)))
+    ∙ ap (λ w. expand e w (unblanked (openAt e) doubtful)) (bestWord-ext n c e h)

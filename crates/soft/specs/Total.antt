@@ -4,7 +4,7 @@
 --   costIn columns word p      what the word's symbol costs at place p
 --   totalOf n columns word     the total: the sum of these costs over n places, a cost at the ceiling summed as it stands
 --   pinnedOf n columns word    the pinned places: how many of these costs are at the ceiling (saturated)
---   changedOf n columns word   the changed places (where the hard decision is overruled): where the word's symbol is not the best symbol
+--   changedOf n columns word   the changed places (where the hard decision is overruled): not blank, and the word's symbol is not the best symbol
 --   agree u v p                the words have equal entries at place p, and neither lacks one
 --   differingIn counts n u v   in how many of n places, of those that count, two words differ; a missing entry differs
 --   differing n u v            the same where every place counts
@@ -20,6 +20,7 @@ use lib.Dec.{ltb, eqb}
 use lib.ListN.{length, getD}
 use Rattle.lists.specs.Count.{sumOf, count}
 use Rattle.soft.specs.Column.{costOf, bestOf, ceiling}
+use Rattle.soft.specs.Blank.{openAt}
 
 abbrev pub symbolAt : List ℕ → ℕ → ℕ
 symbolAt word p = getD word p 0
@@ -37,7 +38,7 @@ unfoldable pub pinnedOf : ℕ → (ℕ → List ℕ) → List ℕ → ℕ
 pinnedOf n columns word = count n (pinnedAt columns word)
 
 abbrev pub changedAt : (ℕ → List ℕ) → List ℕ → ℕ → Bool
-changedAt columns word p = not (eqb (symbolAt word p) (bestOf (columns p)))
+changedAt columns word p = openAt columns p && not (eqb (symbolAt word p) (bestOf (columns p)))
 
 unfoldable pub changedOf : ℕ → (ℕ → List ℕ) → List ℕ → ℕ
 changedOf n columns word = count n (changedAt columns word)

@@ -6,10 +6,14 @@
 --   total-bound            n costs of at most b cost at most n * b
 --   totalOf-ext, pinnedOf-ext, changedOf-ext   only the columns of the places matter
 --   differing-le, differing-self, differing-comm, differing-triangle, differing-none   differing is a distance of words of n places
---   changed-differing      the changed places are those in which a word differs from the word of best symbols
+--   differing-fewer        of the places that count two words differ in no more than of all
+--   changed-blank, differing-open   a blank place is never changed, and what a word has at places that do not count never makes it differ
+--   blank-cost, blank-total   all symbols cost the same at a blank place; so the total is the sum over the other places, and what the blank ones add is
+--                          the same for every word of symbols
+--   changed-differing      the changed places are those, of those that are not blank, in which a word differs from the word of best symbols
 --   bytesOf-length, marginBytes-length, reportOf-length   how many bytes a report has: 13 where each count of places is one byte
-use mathlib.Core.Bool.{Bool, true, false, not, _&&_}
-use mathlib.Core.Path.{_≡_, refl, sym, ap, _∙_, subst}
+use mathlib.Core.Bool.{Bool, true, false, not, cond, _&&_}
+use mathlib.Core.Path.{_≡_, refl, sym, ap, ap₂, _∙_, subst}
 use mathlib.Core.List.{List, [], _∷_, _++_}
 use mathlib.Core.Logic.{_≢_, _⊎_, inl, inr, ⊎-elim}
 use mathlib.Core.Option.{Option, none, some}
@@ -21,8 +25,10 @@ use lib.Dec.{T, ltb, eqb, ltb→lt, eqb→eq}
 use lib.ListN.{length, length-append}
 use lib.Seq.{ext-getD}
 use borrow.Author.Tests.{lt-ltb, eq-eqb, ne-eqb, not-false}
-use Rattle.lists.specs.Count.{bit, sumOf-suc, sumOf-ext, sumOf-mono, sumOf-plus, sumOf-bound, count, count-nil, count-suc, count-ext, count-le, count-none, count-zero}
-use Rattle.soft.specs.Column.{costOf, bestOf, ceiling}
+use Rattle.lists.specs.Count.{bit, sumOf, sumOf-suc, sumOf-ext, sumOf-mono, sumOf-plus, sumOf-bound, count, count-nil, count-suc, count-ext, count-le, count-mono, count-none, count-zero}
+use Rattle.soft.specs.Column.{costOf, bestOf, ceiling, isBlank}
+use Rattle.soft.specs.Blank.{openAt}
+use Rattle.soft.specs.BlankLaws.{blank-same}
 use Rattle.soft.specs.TestWord.{bestAt, bestWord}
 use Rattle.soft.specs.Total.{symbolAt, costIn, totalOf, pinnedAt, pinnedOf, changedAt, changedOf, agree, differAt, differingIn, differing, bytesOf, marginBytes, reportOf}
 use Rattle.soft.specs.TestWordLaws.{bestWord-length, bestWord-at}
@@ -82,7 +88,8 @@ module _ (n : ℕ) (c e : ℕ → List ℕ) (word : List ℕ) (h : (p : ℕ) →
 
   pub changedOf-ext : changedOf n c word ≡ changedOf n e word
   unfolding changedOf
-  changedOf-ext = count-ext n (changedAt c word) (changedAt e word) (λ p l. ap (λ x. not (eqb (symbolAt word p) (bestOf x))) (h p l))
+  changedOf-ext =
+      count-ext n (changedAt c word) (changedAt e word) (λ p l. ap (λ x. not (isBlank x) && not (eqb (symbolAt word p) (bestOf x))) (h p l))
 
 -- two words agree at a place exactly if both have an entry there and it is the same
 pub agree-true : (u v : List ℕ) (p : ℕ) → p < length u → p < length v → symbolAt u p ≡ symbolAt v p → agree u v p ≡ true
@@ -182,11 +189,64 @@ differing-none n u v lu lv e =
     ext-getD 0 u v (lu ∙ sym lv)
     (λ p l. agree-facts u v p (subst T (sym (not-false (agree u v p) (count-zero n (differAt u v) e p (omega arith)))) tt) .same)
 
--- the changed places of a word of n places are those in which it differs from the word of best symbols
+pub differing-fewer : (counts : ℕ → Bool) (n : ℕ) (u v : List ℕ) → differingIn counts n u v ≤ differing n u v
+unfolding differingIn
+differing-fewer counts n u v =
+    count-mono n (λ p. counts p && differAt u v p) (differAt u v) (λ p l t. both-true (counts p) (differAt u v p) t .1)
+
+pub changed-blank : (columns : ℕ → List ℕ) (word : List ℕ) (p : ℕ) → isBlank (columns p) ≡ true → changedAt columns word p ≡ false
+changed-blank columns word p e = ap (λ b. not b && not (eqb (symbolAt word p) (bestOf (columns p)))) e
+
+-- words that agree at the places that count differ equally from any other
+pub differing-open : (counts : ℕ → Bool) (n : ℕ) (u v t : List ℕ) → length u ≡ length v
+    → ((p : ℕ) → p < n → counts p ≡ true → symbolAt u p ≡ symbolAt v p) → differingIn counts n u t ≡ differingIn counts n v t
+unfolding differingIn agree
+differing-open counts n u v t long same =
+    count-ext n (λ p. counts p && differAt u t p) (λ p. counts p && differAt v t p) (λ p l. at p l (counts p) refl)
+  where
+    at : (p : ℕ) → p < n → (b : Bool) → counts p ≡ b → (counts p && differAt u t p) ≡ (counts p && differAt v t p)
+    at p l true e =
+        ap₂ (λ (m s : ℕ). counts p && not (ltb p m && (ltb p (length t) && eqb s (symbolAt t p)))) long (same p l e)
+    at p l false e = ap (λ b. b && differAt u t p) e ∙ sym (ap (λ b. b && differAt v t p) e)
+
+-- at a blank place every symbol costs what symbol 0 costs
+pub blank-cost : (columns : ℕ → List ℕ) (word : List ℕ) (p : ℕ) → isBlank (columns p) ≡ true → symbolAt word p < length (columns p)
+    → costIn columns word p ≡ costOf (columns p) 0
+blank-cost columns word p e l = blank-same (columns p) .0 e (symbolAt word p) 0 l (omega arith)
+
+-- what the places that are not blank cost, and what the blank ones do
+unfoldable pub openTotal : ℕ → (ℕ → List ℕ) → List ℕ → ℕ
+openTotal n columns word = sumOf n (λ p. cond (openAt columns p) (costIn columns word p) 0)
+
+unfoldable pub blankTotal : ℕ → (ℕ → List ℕ) → ℕ
+blankTotal n columns = sumOf n (λ p. cond (openAt columns p) 0 (costOf (columns p) 0))
+
+pub blank-total : (n : ℕ) (columns : ℕ → List ℕ) (word : List ℕ) → ((p : ℕ) → p < n → symbolAt word p < length (columns p))
+    → totalOf n columns word ≡ openTotal n columns word + blankTotal n columns
+unfolding totalOf openTotal blankTotal
+blank-total n columns word symbols =
+    sumOf-ext n (costIn columns word) (λ p. cond (openAt columns p) (costIn columns word p) 0 + cond (openAt columns p) 0 (costOf (columns p) 0))
+    (λ p l. at p l (isBlank (columns p)) refl)
+    ∙ sumOf-plus n (λ p. cond (openAt columns p) (costIn columns word p) 0) (λ p. cond (openAt columns p) 0 (costOf (columns p) 0))
+  where
+    at : (p : ℕ) → p < n → (b : Bool) → isBlank (columns p) ≡ b
+        → costIn columns word p ≡ cond (not (isBlank (columns p))) (costIn columns word p) 0 + cond (not (isBlank (columns p))) 0 (costOf (columns p) 0)
+    at p l true e =
+        omega (
+          arith,
+          blank-cost columns word p e (symbols p l),
+          ap (λ b. cond (not b) (costIn columns word p) 0 + cond (not b) 0 (costOf (columns p) 0)) e,
+        )
+    at p l false e =
+        omega (arith, ap (λ b. cond (not b) (costIn columns word p) 0 + cond (not b) 0 (costOf (columns p) 0)) e)
+
+-- the changed places of a word of n places are those, of those that are not blank, in which it differs from the word of best symbols
 pub changed-differing : (n : ℕ) (columns : ℕ → List ℕ) (word : List ℕ) → length word ≡ n
-    → changedOf n columns word ≡ differing n word (bestWord n columns)
+    → changedOf n columns word ≡ differingIn (openAt columns) n word (bestWord n columns)
 unfolding changedOf differingIn
-changed-differing n columns word l = count-ext n (changedAt columns word) (differAt word (bestWord n columns)) (λ p k. ap not (at p k))
+changed-differing n columns word l =
+    count-ext n (changedAt columns word) (λ p. openAt columns p && differAt word (bestWord n columns) p)
+    (λ p k. ap (λ b. openAt columns p && not b) (at p k))
   where
     best : (p : ℕ) → p < n → bestAt columns p ≡ symbolAt (bestWord n columns) p
     best p k = sym (bestWord-at n columns p k)

@@ -1,4 +1,4 @@
-// Prints what the bench sheet's columns C9 and C10 read, the three doubtful places of a small table, and what the zero word costs there.
+// Prints what the bench sheet's columns C9 and C10 read, the doubtful places of a small table with doubt 3, how many they are, and what the zero word costs there.
 use columns::column;
 use columns::costs;
 use io::print_decimal;
@@ -31,15 +31,17 @@ fn main() {
     nine[9] = 0;
     show_column(nine);
     show_column([65535u16; 16]);
-    // Equal costs, so gap 0, at every place but 0 and 2.
+    // Every place but 0 and 2 is blank, so only these two are doubtful.
     let mut bytes = [255u8; 2048];
     bytes[0] = 0;
     bytes[64] = 1;
     let table = costs::table_from(&bytes);
-    let places = doubt::doubtful(&table, 3);
+    let picked = doubt::doubtful(&table, 3);
+    let places = picked.places;
     show_place(places[0]);
     show_place(places[1]);
     show_place(places[2]);
+    show(picked.count as u64);
     end_line();
     let word = [0u8; 64];
     show(total::total(&table, &word) as u64);

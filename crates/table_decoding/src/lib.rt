@@ -38,6 +38,7 @@ pub fn decode_table(
         return WRONG_DOUBT;
     }
     let costs = columns::costs::table_from(table);
-    let doubtful = doubt::doubtful(&costs, doubt);
-    decode(rate, &costs, doubtful, doubt, message, report)
+    let picked = doubt::doubtful(&costs, doubt);
+    let doubtful = picked.places;
+    decode(rate, &costs, doubtful, picked.count, message, report)
 }

@@ -1,5 +1,6 @@
 // What a word costs over 64 places, and where it differs.
 use columns::bit::bit;
+use columns::blank::is_open;
 use columns::column::best;
 use columns::costs::PLACES;
 use columns::costs::byte_at;
@@ -8,7 +9,8 @@ use columns::costs::cost_of;
 ghost use mathlib.Core.Path.{_≡_};
 ghost use Prim.Native.Nat.{_<_};
 ghost use Rattle.soft.specs.Column.{places, symbols, columnOf};
-ghost use Rattle.soft.specs.Total.{totalOf, pinnedOf, changedOf, agree, differing};
+ghost use Rattle.soft.specs.Blank.{flagAt};
+ghost use Rattle.soft.specs.Total.{totalOf, pinnedOf, changedAt, changedOf, agree, differingIn};
 
 pub const CEILING: u16 = 65535;
 
@@ -33,12 +35,22 @@ pub fn pinned(costs: &[u16], word: &[u8]) -> u8
     n as u8
 }
 
+// Where the symbol is the best one, it does not matter whether the place is blank.
+fn is_changed(costs: &[u16], word: &[u8], place: usize) -> bool
+    ensures { λ r. ⌜ r ≡ changedAt (columnOf symbols (now (costs .entry))) (now (word .entry)) place ⌝ }
+{
+    if byte_at(word, place) == best(column_of(costs, place)) {
+        return false;
+    }
+    is_open(costs, place)
+}
+
 pub fn changed(costs: &[u16], word: &[u8]) -> u8
     ensures { λ r. ⌜ r ≡ changedOf places (columnOf symbols (now (costs .entry))) (now (word .entry)) ⌝ }
 {
     let mut n = 0u16;
     for place in 0..PLACES {
-        n += bit(byte_at(word, place) != best(column_of(costs, place)));
+        n += bit(is_changed(costs, word, place));
     }
     n as u8
 }
@@ -56,12 +68,13 @@ fn agreeing(u: &[u8], v: &[u8], place: usize) -> bool
     u[place] == v[place]
 }
 
-pub fn differing(u: &[u8], v: &[u8]) -> u16
-    ensures { λ r. ⌜ r ≡ differing places (now (u .entry)) (now (v .entry)) ⌝ }
+// In how many of the places that count two words differ: those whose flag is 1.
+pub fn differing_in(u: &[u8], v: &[u8], counts: [u8; PLACES]) -> u16
+    ensures { λ r. ⌜ r ≡ differingIn (flagAt counts) places (now (u .entry)) (now (v .entry)) ⌝ }
 {
     let mut n = 0u16;
     for place in 0..PLACES {
-        n += bit(!agreeing(u, v, place));
+        n += bit(counts[place] == 1) * bit(!agreeing(u, v, place));
     }
     n
 }

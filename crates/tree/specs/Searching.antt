@@ -1,11 +1,14 @@
 -- What a node of the tree knows, and what it finds.
 --
 --   Lowest leads n r       of the first n classes none has a smaller lead than r
---   Ready k word ps rows leads   a basis up to the limit through the nodes decided so far: those of the word but for the places ps
+--   Ready k columns word ps rows leads   a basis up to the limit through the nodes decided so far: those of the word at the places that are not
+--                          blank, but for the places ps, of which none is blank
 --   LeafOf k columns word row f  what a leaf finds from its row
 --   SearchOf …             what a search of the tree finds
 --   BranchOf …             what a branch of a node finds
-use mathlib.Core.List.{List, [], _∷_}
+use mathlib.Core.Bool.{true}
+use mathlib.Core.Path.{_≡_}
+use mathlib.Core.List.{List, [], _∷_, List·Memᴰ}
 use Prim.Native.Nat.{ℕ, _^_, _<_, _≤_}
 use lib.ListN.{set}
 use Rattle.algebra.specs.Koetter.{Basis}
@@ -15,8 +18,9 @@ use Rattle.basis.specs.Step.{classes}
 use Rattle.interpolation.specs.Polynomial.{polynomials}
 use Rattle.code.specs.Nodes.{ThroughNodes}
 use Rattle.family.specs.Nodes.{Node}
+use Rattle.soft.specs.Blank.{openAt}
 use Rattle.soft.specs.TestWord.{expand}
-use Rattle.near.specs.Here.{mOf, limitOf, Places, Decided}
+use Rattle.near.specs.Here.{mOf, limitOf, blanksIn, Places, Decided}
 use Rattle.answers.specs.declared.Found.{Found}
 use Rattle.answers.specs.Nearest.{Nearest}
 use Rattle.candidate.specs.Candidate.{Held}
@@ -25,19 +29,20 @@ pub record Lowest (leads : List ℕ) (n r : ℕ) : Type 0 where
   pub within : r < classes
   pub lowest : (q : ℕ) → q < n → leadAt leads r ≤ leadAt leads q
 
-pub record Ready (k : ℕ) (word ps : List ℕ) (rows : List (List ℕ)) (leads : List ℕ) : Type 0 where
+pub record Ready (k : ℕ) (columns : ℕ → List ℕ) (word ps : List ℕ) (rows : List (List ℕ)) (leads : List ℕ) : Type 0 where
   pub nodes : List Node
-  pub decided : Decided word ps nodes
-  pub basis : Basis K16 classes (limitOf k) (ThroughNodes (mOf k) nodes) (polynomials (mOf k) rows) (leadAt leads)
+  pub decided : Decided columns word ps nodes
+  pub all-open : (p : ℕ) → List·Memᴰ p ps → openAt columns p ≡ true
+  pub basis : Basis K16 classes (limitOf k (blanksIn columns)) (ThroughNodes (mOf k) nodes) (polynomials (mOf k) rows) (leadAt leads)
 
 pub record LeafOf (k : ℕ) (columns : ℕ → List ℕ) (word row : List ℕ) (f : Found) : Type 0 where
   pub few : f .tests ≤ 1
-  pub finds : Held k word row → Nearest k columns (word ∷ []) f
+  pub finds : Held k columns word row → Nearest k columns (word ∷ []) f
 
 pub record SearchOf (k : ℕ) (columns : ℕ → List ℕ) (word ps : List ℕ) (rows : List (List ℕ)) (leads : List ℕ) (left : ℕ) (f : Found) : Type 0 where
   pub few : f .tests ≤ 2 ^ left
-  pub finds : Ready k word ps rows leads → Places ps → Nearest k columns (expand columns word ps) f
+  pub finds : Ready k columns word ps rows leads → Places ps → Nearest k columns (expand columns word ps) f
 
 pub record BranchOf (k : ℕ) (columns : ℕ → List ℕ) (word : List ℕ) (place symbol : ℕ) (ps : List ℕ) (rows : List (List ℕ)) (leads : List ℕ) (left : ℕ) (f : Found) : Type 0 where
   pub few : f .tests ≤ 2 ^ left
-  pub finds : Ready k word (place ∷ ps) rows leads → Places (place ∷ ps) → Nearest k columns (expand columns (set word place symbol) ps) f
+  pub finds : Ready k columns word (place ∷ ps) rows leads → Places (place ∷ ps) → Nearest k columns (expand columns (set word place symbol) ps) f

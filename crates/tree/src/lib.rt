@@ -8,6 +8,7 @@ ghost use Rattle.soft.specs.Column.{places, symbols, columnOf};
 ghost use Rattle.soft.specs.Total.{totalOf};
 ghost use Rattle.answers.specs.Answered.{Sound};
 ghost use Rattle.candidate.specs.Ranged.{Ranged};
+ghost use Rattle.candidate.specs.Marked.{Marked};
 ghost use Rattle.known.specs.Known.{leftOf, Fits};
 ghost use Rattle.tree.specs.Searching.{Lowest, LeafOf, SearchOf, BranchOf};
 use answers::Answer;
@@ -42,16 +43,17 @@ fn cost(costs: &[u16], codeword: Word) -> u32
     total(costs, &codeword)
 }
 
-// One test word: what its row holds, if its codeword is within T of the word. No other codeword is, so there is no runner-up.
-fn leaf(row: Row, word: Word, costs: &[u16], k: usize) -> Found
-    requires { ⌜ Ranged k ⌝ }
+// One test word: what its row holds, if its codeword is within T of the word. No other codeword is, so there is no runner-up. Of the places
+// those count that have the flag 1; the others are blank.
+fn leaf(row: Row, word: Word, costs: &[u16], k: usize, counts: [u8; PLACES], blanks: usize) -> Found
+    requires { ⌜ Ranged k × Marked k (columnOf symbols (now costs)) counts blanks ⌝ }
     ensures { λ r.
         ⌜ LeafOf k (columnOf symbols (now (costs .entry))) word row r × Sound k (columnOf symbols (now (costs .entry))) r ⌝ }
 {
     let held = candidate_of(row, k);
     let message = held.message;
     let codeword = held.codeword;
-    if reach(k) < distance(codeword, word) {
+    if reach(k, blanks) < distance(codeword, word, counts) {
         return none_near();
     }
     Found {
@@ -100,23 +102,36 @@ fn branch(
     known: Found,
     place: usize,
     symbol: u8,
+    counts: [u8; PLACES],
+    blanks: usize,
 ) -> Found
-    requires { ⌜ Ranged k × Fits undecided × (place < places) × Sound k (columnOf symbols (now costs)) known ⌝ }
+    requires { ⌜ Ranged k × Fits undecided × (place < places) × Sound k (columnOf symbols (now costs)) known
+        × Marked k (columnOf symbols (now costs)) counts blanks ⌝ }
     ensures { λ r.
         ⌜ BranchOf k (columnOf symbols (now (costs .entry))) word place symbol (leftOf undecided) rows leads (undecided .left) r
         × Sound k (columnOf symbols (now (costs .entry))) r ⌝ }
 {
     let mut next_word = word;
     next_word[place] = symbol;
-    if governs(known, next_word, k, undecided) {
+    if governs(known, next_word, k, undecided, counts, blanks) {
         let codeword = known.codeword;
-        let tests = tests_within(codeword, next_word, costs, k, undecided);
+        let tests = tests_within(codeword, next_word, costs, k, undecided, counts, blanks);
         return below(known, tests);
     }
-    let limit = largest_key(k);
+    let limit = largest_key(k, blanks);
     let mut next_leads = leads;
     let next_rows = extend(rows, &mut next_leads, limit, place, symbol);
-    search(next_rows, next_leads, next_word, costs, k, undecided, known)
+    search(
+        next_rows,
+        next_leads,
+        next_word,
+        costs,
+        k,
+        undecided,
+        known,
+        counts,
+        blanks,
+    )
 }
 
 // The test words below a node: the doubtful places left are doubled one after the other, first with the best symbol and then with the
@@ -129,20 +144,23 @@ pub fn search(
     k: usize,
     undecided: Undecided,
     known: Found,
+    counts: [u8; PLACES],
+    blanks: usize,
 ) -> Found
-    requires { ⌜ Ranged k × Fits undecided × Sound k (columnOf symbols (now costs)) known ⌝ }
+    requires { ⌜ Ranged k × Fits undecided × Sound k (columnOf symbols (now costs)) known
+        × Marked k (columnOf symbols (now costs)) counts blanks ⌝ }
     ensures { λ r.
         ⌜ SearchOf k (columnOf symbols (now (costs .entry))) word (leftOf undecided) rows leads (undecided .left) r
         × Sound k (columnOf symbols (now (costs .entry))) r ⌝ }
 {
-    let limit = largest_key(k);
+    let limit = largest_key(k, blanks);
     let class = least(leads);
     if limit < leads[class] {
         return none_near();
     }
     let left = undecided.left;
     if left == 0 {
-        return leaf(rows[class], word, costs, k);
+        return leaf(rows[class], word, costs, k, counts, blanks);
     }
     let place = undecided.doubtful[undecided.doubt - left] as usize % PLACES;
     let mut next = undecided;
@@ -150,7 +168,19 @@ pub fn search(
     let column = column_of(costs, place);
     let symbol = best(column);
     let other = second(column);
-    let first = branch(rows, leads, word, costs, k, next, known, place, symbol);
+    let first = branch(
+        rows,
+        leads,
+        word,
+        costs,
+        k,
+        next,
+        known,
+        place,
+        symbol,
+        counts,
+        blanks,
+    );
     let rest = branch(
         rows,
         leads,
@@ -161,6 +191,8 @@ pub fn search(
         later(first, known),
         place,
         other,
+        counts,
+        blanks,
     );
     better(first, rest, k)
 }

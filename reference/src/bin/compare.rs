@@ -6,6 +6,7 @@ use std::io::{self, Read, Write};
 use std::process::ExitCode;
 use std::time::Instant;
 
+use reference::blanks::{OF_CAPTURES, OF_LISTS};
 use reference::calls::{answer_all, Call};
 use reference::damage::capture_of;
 use reference::decode::{decode, test_words};
@@ -27,12 +28,15 @@ compare code SEED COUNT                     the proved encoding and reading back
 compare tables SEED COUNT                   the proved table decoding (feature proved)
 LETTERS are those of the calls wanted, of OCDRWXLU.
 The count of frames with a margin is printed; fewer than one in six are a failure.
+The counts of frames with blank places are printed, by kind, by rate and number of these places, and
+by what came of them, and in lists of calls those of readings, captures and look-ups with blank
+places; too few of one of them are a failure.
 The counts of captures written after places that arrived in each sort of order are printed; fewer
 than one in five frames after deliveries, or one a frame after captures, are a failure, and so is a
 capture that comes back unchanged and is not in place order, or the other way round.
 The counts of withdrawals are printed, by the place's sort or the refusal, and those of deliveries,
 readings, closings and writings after them; fewer than one a frame are a failure, or than one in six
-frames where the place is doubtful.";
+frames where the place is doubtful or blank.";
 
 fn main() -> ExitCode {
     let arguments: Vec<String> = std::env::args().skip(1).collect();
@@ -67,14 +71,22 @@ fn run(arguments: &[String]) -> Result<(), String> {
             if chosen("OCDRWXU") {
                 tally.withdrawals.check(number(count)?)?;
             }
+            if chosen("OCDRWXL") {
+                tally.blanks.check(number(count)?, &OF_LISTS)?;
+            }
             Ok(())
         }
         ["example"] => output(&example()),
         ["show"] => output(show(&input()?).as_bytes()),
         ["shows", seed, count, _, ..] => {
             let shown = compare_shows(&arguments[3..], number(seed)?, number(count)?)?;
-            let Shown { captures, margins } = shown;
-            output(format!("{captures} captures alike ({margins})\n").as_bytes())?;
+            let Shown {
+                captures,
+                margins,
+                blanks,
+            } = shown;
+            output(format!("{captures} captures alike ({blanks}; {margins})\n").as_bytes())?;
+            blanks.check(captures / 2, &OF_CAPTURES)?;
             margins.check(captures)
         }
         ["time", count] => time(number(count)?),
@@ -137,7 +149,7 @@ fn time(count: u64) -> Result<(), String> {
             let start = Instant::now();
             let answers = frames
                 .iter()
-                .filter_map(|f| decode(finder, &f.columns, &f.doubtful));
+                .filter_map(|f| decode(finder, &f.columns, &f.doubtful).ok());
             let near: u64 = answers.map(|answer| u64::from(answer.tests)).sum();
             let micros = start.elapsed().as_secs_f64() * 1e6 / tests as f64;
             output(
@@ -153,10 +165,10 @@ fn time(count: u64) -> Result<(), String> {
 
 #[cfg(feature = "proved")]
 mod proved {
-    use reference::margins::Margins;
+    use reference::blanks::OF_TABLES;
     use reference::proved::{PROVED, PROVED_TABLE};
     use reference::trials::{
-        compare, encode_trial, read_back_trial, table_trial, Difference, Trial, REFERENCE,
+        compare, encode_trial, read_back_trial, table_trial, Difference, Tally, Trial, REFERENCE,
         REFERENCE_TABLE,
     };
 
@@ -169,24 +181,26 @@ mod proved {
 
     pub fn tables(seed: u64, count: u64) -> Result<(), String> {
         let both = [&REFERENCE_TABLE, &PROVED_TABLE];
-        let margins = report("decode table", table_trial, both, seed, count)?;
-        super::output(format!("decode table: {margins}\n").as_bytes())?;
+        let tally = report("decode table", table_trial, both, seed, count)?;
+        let Tally {
+            margins, blanks, ..
+        } = tally;
+        super::output(format!("decode table: {blanks}; {margins}\n").as_bytes())?;
+        blanks.check(count, &OF_TABLES)?;
         margins.check(count)
     }
 
-    /// Prints how often each number was returned; the margins are handed back.
+    /// Prints how often each number was returned; the counts are handed back.
     fn report<L: Sync>(
         name: &str,
         trial: Trial<L>,
         libraries: [&L; 2],
         seed: u64,
         count: u64,
-    ) -> Result<Margins, String> {
+    ) -> Result<Tally, String> {
         let tally = compare(trial, libraries, seed, count).map_err(|difference| {
-            let Difference {
-                trial,
-                outcomes: [expected, got],
-            } = difference;
+            let Difference { trial, outcomes } = difference;
+            let [expected, got] = *outcomes;
             format!("{name}: trial {trial} of seed {seed}: expected {expected:x?}, got {got:x?}")
         })?;
         let returned = tally.numbers.iter().enumerate();
@@ -195,6 +209,6 @@ mod proved {
             .map(|(n, times)| format!("{n}: {times}"))
             .collect();
         super::output(format!("{name}: {count} alike ({})\n", returned.join(", ")).as_bytes())?;
-        Ok(tally.margins)
+        Ok(tally)
     }
 }

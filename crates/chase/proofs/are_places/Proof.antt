@@ -5,23 +5,24 @@ use Prim.Native.Nat.{_-_, _<_, _≤_}
 use native.Mathlib.Omega.{arith}
 use lib.ListN.{length, take}
 use Rattle.lists.specs.Distinct.{below, distinct}
+use Rattle.soft.specs.Total.{everywhere}
 use Rattle.chase.specs.Places.{arePlaces, Flagged}
 use Rattle.near.specs.Flags as Family
-use Rattle.near.specs.Flags.{flag-start, places-turn, places-above, places-again}
+use Rattle.near.specs.Flags.{flag-all, places-turn, places-above, places-again}
 use borrow.Author.Needs.{needs}
 use Rattle.chase.proofs.are_places.Statement.{statement}
 use Rattle.chase.proofs.are_places.Tie as tie
 
 abbrev Inv-loop : tie.InvT-loop
 Inv-loop doubt doubtful unnamed₀ i₀ unnamed i =
-    (i ≤ doubt) × (length doubtful ≡ 8) × (length unnamed ≡ 64) × Flagged (take i doubtful) unnamed × (arePlaces (take i doubtful) ≡ true)
+    (i ≤ doubt) × (length doubtful ≡ 8) × (length unnamed ≡ 64) × Flagged everywhere (take i doubtful) unnamed × (arePlaces (take i doubtful) ≡ true)
 
 abbrev μ-loop : tie.MeasureT-loop
 μ-loop doubt doubtful unnamed₀ i₀ unnamed i = doubt - i
 
 loop-holds : tie.Need-loop-holds Inv-loop μ-loop
 unfolding Family.arePlaces below distinct
-loop-holds c = (search needs, search needs, search needs, flag-start (c .args .t1), refl)
+loop-holds c = (search needs, search needs, search needs, flag-all (c .args .t1), refl)
 
 array-read-place : tie.Need-array-read-place Inv-loop μ-loop
 array-read-place c = search needs

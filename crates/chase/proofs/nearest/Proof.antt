@@ -1,14 +1,17 @@
 -- The root of the tree: all settled places are decided.
-use mathlib.Core.Path.{sym, _∙_, subst}
+use mathlib.Core.Bool.{true}
+use mathlib.Core.Path.{_≡_, sym, _∙_, subst}
 use mathlib.Core.Logic.{inl, inr}
 use native.Mathlib.Omega.{arith}
 use borrow.Author.Tests.{not-true, not-false}
-use Rattle.chase.specs.Call.{Asked}
-use Rattle.chase.specs.Laws.{asked-yes}
+use Rattle.soft.specs.Column.{symbols, columnOf}
+use Rattle.chase.specs.Call.{Asked, wellFormed}
+use Rattle.chase.specs.Laws.{asked-form}
 use Rattle.answers.specs.Answered.{Sound, sound-nothing}
 use Rattle.candidate.specs.Ranged.{top-small, limit-small}
-use Rattle.chase.proofs.Settling.{known-range, root}
-use Rattle.chase.proofs.Asking.{unasked, unasked-rate, unasked-doubt, unasked-test}
+use Rattle.candidate.specs.Marked.{Marked}
+use Rattle.chase.proofs.Settling.{known-range, blank-number, marked, picked-few, root}
+use Rattle.chase.proofs.Asking.{unasked, unasked-rate, unasked-doubt, unasked-form, unasked-blank}
 use borrow.Author.Needs.{needs}
 use Rattle.chase.proofs.nearest.Statement.{statement}
 use Rattle.chase.proofs.nearest.Tie as tie
@@ -31,20 +34,47 @@ none-near-requires-3 c κs = search needs
 returns-3 : tie.Need-returns-3
 returns-3 c = unasked _ _ _ _ _ (unasked-doubt _ _ _ _ (c .before .if3 .taken)) (c .none-near3 .ensures)
 
-asked-requires : tie.Need-asked-requires
-asked-requires c κs = search needs
+well-formed-requires : tie.Need-well-formed-requires
+well-formed-requires c κs = search needs
 
 none-near-requires-4 : tie.Need-none-near-requires-4
 none-near-requires-4 c κs = search needs
 
 returns-4 : tie.Need-returns-4
 returns-4 c =
-    unasked _ _ _ _ _ (unasked-test _ _ _ _ (sym (c .before .before .asked .ensures) ∙ not-true _ (c .before .if4 .taken))) (c .none-near4 .ensures)
+    unasked _ _ _ _ _ (unasked-form _ _ _ _ (sym (c .before .before .well-formed .ensures) ∙ not-true _ (c .before .if4 .taken))) (c .none-near4 .ensures)
 
--- past the test the arguments are those of a session
-may-ask : (c : tie.Else4)
-    → Asked (c .before .before .before .before .before .before .args .rate) (c .before .before .before .before .before .before .args .costs .now) (c .before .before .before .before .before .before .args .doubtful) (c .before .before .before .before .before .before .args .doubt)
-may-ask c = asked-yes _ _ _ _ (sym (c .before .asked .ensures) ∙ not-false _ (c .if4 .left))
+formed : (c : tie.Else4) → wellFormed (c .before .before .before .before .before .before .args .rate) (c .before .before .before .before .before .before .args .costs .now) (c .before .before .before .before .before .before .args .doubtful) (c .before .before .before .before .before .before .args .doubt) ≡ true
+formed c = sym (c .before .well-formed .ensures) ∙ not-false _ (c .if4 .left)
+
+open-places-requires : tie.Need-open-places-requires
+open-places-requires c κs = search needs
+
+blanks-requires : tie.Need-blanks-requires
+blanks-requires c κs = search needs
+
+blank-limit-requires : tie.Need-blank-limit-requires
+blank-limit-requires c κs = search needs
+
+none-near-requires-5 : tie.Need-none-near-requires-5
+none-near-requires-5 c κs = search needs
+
+returns-5 : tie.Need-returns-5
+returns-5 c =
+    let number = blank-number _ _ (c .before .before .before .before .open-places .ensures) _ (c .before .before .before .blanks .ensures) in
+    unasked _ _ _ _ _ (unasked-blank _ _ _ _ _ _ number (c .before .before .blank-limit .ensures) (c .before .if5 .taken)) (c .none-near5 .ensures)
+
+-- past the tests the arguments are those of a session, and no more places are blank than the rate allows
+may-ask : (c : tie.Else5)
+    → Asked (c .before .before .before .before .before .before .before .before .before .before .args .rate) (c .before .before .before .before .before .before .before .before .before .before .args .costs .now) (c .before .before .before .before .before .before .before .before .before .before .args .doubtful) (c .before .before .before .before .before .before .before .before .before .before .args .doubt)
+may-ask c =
+    let number = blank-number _ _ (c .before .before .before .open-places .ensures) _ (c .before .before .blanks .ensures) in
+    asked-form _ _ _ _ (formed (c .before .before .before .before))
+    (omega (arith, number, c .before .blank-limit .ensures, c .if5 .left))
+
+few-blank : (c : tie.Else5) → Marked (c .before .before .before .before .before .before .before .before .before .before .args .rate) (columnOf symbols (c .before .before .before .before .before .before .before .before .before .before .args .costs .now)) (c .before .before .before .open-places .result) (c .before .before .blanks .result)
+few-blank c =
+    marked _ _ (c .before .before .before .open-places .ensures) _ (c .before .before .blanks .ensures) _ (may-ask c .size) _ (c .before .blank-limit .ensures) (c .if5 .left)
 
 best-word-requires : tie.Need-best-word-requires
 best-word-requires c κs = search needs
@@ -53,32 +83,41 @@ top-order-requires : tie.Need-top-order-requires
 top-order-requires c κs = search needs
 
 largest-key-requires : tie.Need-largest-key-requires
-largest-key-requires c κs = search needs
+largest-key-requires c κs =
+    let a = c .before .before in
+    (known-range _ (may-ask a .known), few-blank a .few)
+
+doubled-places-requires : tie.Need-doubled-places-requires
+doubled-places-requires c κs = may-ask (c .before .before .before) .few
 
 settled-places-requires : tie.Need-settled-places-requires
-settled-places-requires c κs = may-ask (c .before .before .before) .few
+settled-places-requires c κs = picked-few _ _ (may-ask (c .before .before .before .before .before) .few) (c .before .doubled-places .ensures)
 
 settle-requires : tie.Need-settle-requires
 settle-requires c κs =
-    let r = known-range _ (may-ask (c .before .before .before .before .before) .known) in
+    let r = known-range _ (may-ask (c .before .before .before .before .before .before .before) .known) in
     let m = top-small r in
-    let m-is = c .before .before .before .top-order .ensures in
-    (omega (arith, m, m-is), omega (arith, m, m-is), omega (arith, limit-small r, c .before .before .largest-key .ensures))
+    let m-is = c .before .before .before .before .before .top-order .ensures in
+    (omega (arith, m, m-is), omega (arith, m, m-is), omega (arith, limit-small r (c .before .before .before .before .before .before .before .before .before .blanks .result), c .before .before .before .before .largest-key .ensures))
 
-none-near-requires-5 : tie.Need-none-near-requires-5
-none-near-requires-5 c κs = search needs
+none-near-requires-6 : tie.Need-none-near-requires-6
+none-near-requires-6 c κs = search needs
 
 search-requires : tie.Need-search-requires
 search-requires c κs =
-    let a = may-ask (c .before .before .before .before .before .before .before) in
-    (known-range _ (a .known), (a .few, search needs), subst (Sound _ _) (sym (c .none-near5 .ensures)) sound-nothing)
+    let a = c .before .before .before .before .before .before .before .before .before in (
+      known-range _ (may-ask a .known),
+      (picked-few _ _ (may-ask a .few) (c .before .before .before .before .before .doubled-places .ensures), search needs),
+      subst (Sound _ _) (sym (c .none-near6 .ensures)) sound-nothing,
+      few-blank a,
+    )
 
-returns-5 : tie.Need-returns-5
-returns-5 c =
-    let a = may-ask (c .before .before .before .before .before .before .before .before) in
-    root _ _ _ _ _ _ _ _ _ _ _ a (c .before .before .before .before .before .before .before .best-word .ensures) (c .before .before .before .before .settled-places .ensures)
-    (c .before .before .before .before .before .before .top-order .ensures) (c .before .before .before .before .before .largest-key .ensures)
-    (c .before .before .settle .ensures) (c .search .ensures .0) (c .search .ensures .1)
+returns-6 : tie.Need-returns-6
+returns-6 c =
+    let a = c .before .before .before .before .before .before .before .before .before .before in
+    root _ _ _ _ _ _ _ _ _ _ _ _ _ _ (may-ask a) (few-blank a) (c .before .before .before .before .before .before .before .before .before .best-word .ensures) (c .before .before .before .before .before .before .doubled-places .ensures)
+    (c .before .before .before .before .settled-places .ensures) (c .before .before .before .before .before .before .before .before .top-order .ensures) (c .before .before .before .before .before .before .before .largest-key .ensures) (c .before .before .settle .ensures)
+    (c .search .ensures .0) (c .search .ensures .1)
 
 pub nearest-spec : {M : Type 1} → statement M
 nearest-spec =
@@ -90,14 +129,20 @@ nearest-spec =
     returns-2
     none-near-requires-3
     returns-3
-    asked-requires
+    well-formed-requires
     none-near-requires-4
     returns-4
+    open-places-requires
+    blanks-requires
+    blank-limit-requires
+    none-near-requires-5
+    returns-5
     best-word-requires
     top-order-requires
     largest-key-requires
+    doubled-places-requires
     settled-places-requires
     settle-requires
-    none-near-requires-5
+    none-near-requires-6
     search-requires
-    returns-5)
+    returns-6)

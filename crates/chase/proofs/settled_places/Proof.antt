@@ -1,8 +1,9 @@
--- The places passed have the flag 0.
+-- The places passed have the flag 0, the others the flag that they had.
 use mathlib.Core.Path.{_≡_, subst}
 use Prim.Native.Nat.{_≤_, _-_, _<_}
 use native.Mathlib.Omega.{arith}
 use lib.ListN.{length, take}
+use Rattle.soft.specs.Blank.{flagAt}
 use Rattle.near.specs.Here.{Places}
 use Rattle.chase.specs.Places.{Flagged}
 use Rattle.near.specs.Flags.{flag-start, flag-turn, place-small}
@@ -11,13 +12,13 @@ use Rattle.chase.proofs.settled_places.Statement.{statement}
 use Rattle.chase.proofs.settled_places.Tie as tie
 
 abbrev Inv-loop : tie.InvT-loop
-Inv-loop doubt doubtful out₀ i₀ out i = (i ≤ doubt) × (length doubtful ≡ 8) × (length out ≡ 64) × (Places (take doubt doubtful) → Flagged (take i doubtful) out)
+Inv-loop doubt doubtful out₀ i₀ out i = (i ≤ doubt) × (length doubtful ≡ 8) × (length out ≡ 64) × (Places (take doubt doubtful) → Flagged (flagAt out₀) (take i doubtful) out)
 
 abbrev μ-loop : tie.MeasureT-loop
 μ-loop doubt doubtful out₀ i₀ out i = doubt - i
 
 loop-holds : tie.Need-loop-holds Inv-loop μ-loop
-loop-holds c = (search needs, search needs, search needs, λ P. flag-start (c .args .t1))
+loop-holds c = (search needs, search needs, search needs, λ P. flag-start _ (c .args .t1) (search needs))
 
 array-read-place : tie.Need-array-read-place Inv-loop μ-loop
 array-read-place c = search needs
@@ -45,7 +46,7 @@ loop-again c =
 returns : tie.Need-returns Inv-loop μ-loop
 returns c =
     let e : c .before .loop .i ≡ c .before .before .args .doubt = omega arith in
-    λ P. subst (λ n. Flagged (take n (c .before .before .args .t1)) (c .before .loop .out)) e (c .before .loop .inv .3 P)
+    λ P. subst (λ n. Flagged (flagAt (c .before .before .args .counts)) (take n (c .before .before .args .t1)) (c .before .loop .out)) e (c .before .loop .inv .3 P)
 
 pub settled-places-spec : {M : Type 1} → statement M
 settled-places-spec =

@@ -7,7 +7,7 @@ use lib.Seq.{length-take-le}
 use Rattle.session.specs.declared.Session.{Session}
 use Rattle.session.specs.declared.Opened.{Opened}
 use Rattle.session.specs.AnsweringLaws.{closing-by-hand, closing-wrong-size, closing-early, closing-decoded}
-use Rattle.decoding.specs.Asked.{asked-fit}
+use Rattle.decoding.specs.Asked.{askable-fit}
 use Rattle.closing.proofs.Opened.{fit-opened, opened-fit}
 use borrow.Author.Needs.{needs}
 use borrow.Author.Tests.{not-true, not-false}
@@ -66,7 +66,7 @@ decode-requires c κs =
     let s : Session = c .before .before .before .before .before .before .before .before .before .before .before .before .before .before .before .before .before .before .args .session in
     let f = opened-fit (s .rate) (take (s .doubt) (s .doubtful)) (sym (ap (λ (o : Opened). o .refusal) (c .before .before .before .before .before .before .«open» .ensures)) ∙ c .before .before .before .before .if5 .left) in
     record {
-      asked = asked-fit (s .rate) (s .costs) (s .doubtful) (s .doubt) (f .0) (f .1) (table-room (c .before .before .before .before .before .before .before .before .before .before .before .before .before .before .before .before .before .before)) (c .before .before .before .before .before .before .before .before .if4 .left);
+      askable = askable-fit (s .rate) (s .costs) (s .doubtful) (s .doubt) (f .0) (f .1) (table-room (c .before .before .before .before .before .before .before .before .before .before .before .before .before .before .before .before .before .before)) (c .before .before .before .before .before .before .before .before .if4 .left);
       message-long = c .before .before .before .before .before .before .before .before .before .before .before .before .before .before .if1 .left;
       report-long = c .before .before .before .before .before .before .before .before .before .before .before .before .before .if2 .left;
     }

@@ -6,7 +6,7 @@ use Rattle.code.specs.Rates.{known-bounds}
 use Rattle.book.specs.Here.{reportLength}
 use Rattle.answers.specs.Result.{total-near}
 use Rattle.chase.specs.Laws.{nearest-call}
-use Rattle.decoding.proofs.Answered.{list-few, tests-few, answered-none, decoded-near}
+use Rattle.decoding.proofs.Answered.{tests-few, answered-none, decoded-near}
 use borrow.Author.Needs.{needs}
 use Rattle.decoding.proofs.decode.Statement.{statement}
 use Rattle.decoding.proofs.decode.Tie as tie
@@ -28,9 +28,13 @@ enum-known-answer c = search needs
 enum-told : tie.Need-enum-told
 enum-told c = search needs
 
+unanswered-requires : tie.Need-unanswered-requires
+unanswered-requires c κs = c .before .before .before .before .before .before .pre .askable .known
+
 returns : tie.Need-returns
 returns c =
-    answered-none _ _ _ _ (nearest-call _ _ _ _ _ (c .before .before .nearest .ensures) .asked (c .before .before .before .before .before .before .pre .asked)) _ _ (c .enum-told .given .1)
+    answered-none (c .before .before .before .before .before .before .before .pre .askable)
+    (nearest-call _ _ _ _ _ (c .before .before .before .nearest .ensures)) _ _ (c .before .enum-told .given .1) (c .unanswered .ensures)
 
 slice-aggregate-copy : tie.Need-slice-aggregate-copy
 slice-aggregate-copy c = search needs
@@ -52,8 +56,10 @@ changed-requires c κs = search needs
 
 cast-report : tie.Need-cast-report
 cast-report c =
-    let asked = c .before .before .before .before .before .before .before .before .before .before .before .before .before .before .before .before .before .before .before .pre .asked in
-    omega (arith, tests-few _ _ _ _ (nearest-call _ _ _ _ _ (c .before .before .before .before .before .before .before .before .before .before .before .before .before .before .before .nearest .ensures) .asked asked) (list-few asked))
+    omega (
+      arith,
+      tests-few (c .before .before .before .before .before .before .before .before .before .before .before .before .before .before .before .before .before .before .before .pre .askable) (nearest-call _ _ _ _ _ (c .before .before .before .before .before .before .before .before .before .before .before .before .before .before .before .nearest .ensures)) _ _ (c .before .before .before .before .before .before .before .before .before .before .before .before .before .answer .given .1),
+    )
 
 report-requires : tie.Need-report-requires
 report-requires c κs = search needs
@@ -75,7 +81,7 @@ returns-2 c =
     let given = c .before .before .before .before .before .before .before .before .before .before .before .before .before .before .before .before .before .before .before .before .before .before .before .before .before .pre in
     let near = nearest-call _ _ _ _ _ (c .before .before .before .before .before .before .before .before .before .before .before .before .before .before .before .before .before .before .before .before .before .nearest .ensures) in
     let answer = c .before .before .before .before .before .before .before .before .before .before .before .before .before .before .before .before .before .before .before .answer .given .1 in
-    decoded-near _ _ _ _ (near .asked (given .asked)) _ _ answer (given .message-long) (found-room (c .before .before .before .before .before .before .before .before .before .before .before .before .before .before .before .before .before .before .before .before .before)) (known-bounds _ (given .asked .known) .1)
+    decoded-near (given .askable) near _ _ answer (given .message-long) (found-room (c .before .before .before .before .before .before .before .before .before .before .before .before .before .before .before .before .before .before .before .before .before)) (known-bounds _ (given .askable .known) .1)
     (c .before .before .before .before .before .before .before .before .before .before .before .before .before .before .copy .ensures) (near .encoded _ (total-near answer)) (c .before .before .before .before .before .before .before .before .before .pinned .ensures) (c .before .before .before .before .before .before .before .changed .ensures) (c .before .before .before .before .before .report .ensures)
     (given .report-long ∙ sym (report-room (c .before .before .before .before .before))) (c .before .before .copy2 .ensures)
 
@@ -86,6 +92,7 @@ decode-spec =
     nearest-requires
     enum-known-answer
     enum-told
+    unanswered-requires
     returns
     slice-aggregate-copy
     copy-requires

@@ -4,7 +4,6 @@ use Prim.Native.Nat.{ℕ, _+_, _<_, _≤_}
 use native.Mathlib.Omega.{arith}
 use lib.ListN.{length}
 use Rattle.soft.specs.Column.{bestOf, secondOf}
-use Rattle.soft.specs.Total.{everywhere}
 use Rattle.family.specs.Member.{m16}
 use Rattle.near.specs.Within.{within-end, within-node}
 use Rattle.near.specs.Left.{none-left, some-left}
@@ -61,7 +60,7 @@ tests-within-within-requires : (t : ℕ) → tests-within-lts.Need-within-requir
 tests-within-within-requires t c κs = search needs
 
 tests-within-returns : (t : ℕ) → tests-within-lts.Need-returns (tests-within-claims t) (tests-within-at t) tests-within.Post
-tests-within-returns t c = within-end m16 everywhere _ _ _ _ _ _ _ (c .before .if1 .taken) (none-left _ _ _ (c .before .if1 .taken)) (c .within .ensures)
+tests-within-returns t c = within-end m16 _ _ _ _ _ _ _ _ (c .before .if1 .taken) (none-left _ _ _ (c .before .if1 .taken)) (c .within .ensures)
 
 tests-within-sub-place : (t : ℕ) → tests-within-lts.Need-sub-place (tests-within-claims t) (tests-within-at t) tests-within.Post
 tests-within-sub-place t c = search needs
@@ -90,7 +89,7 @@ tests-within-array-write-first-word t c = search needs
 tests-within-tests-within-requires : (t : ℕ) → tests-within-lts.Need-tests-within-requires (tests-within-claims t) (tests-within-at t) tests-within.Post
 tests-within-tests-within-requires t c κs =
     let h = c .before .before .before .before .before .before .pre in
-    (omega (arith, h .0, c .before .before .before .before .if1 .left), (h .1 .0, (h .1 .1 .0, omega (arith, h .1 .1 .1))))
+    (omega (arith, h .0, c .before .before .before .before .if1 .left), (h .1 .0, (h .1 .1 .0, omega (arith, h .1 .1 .1)), h .1 .2))
 
 tests-within-array-write-other-word : (t : ℕ) → tests-within-lts.Need-array-write-other-word (tests-within-claims t) (tests-within-at t) tests-within.Post
 tests-within-array-write-other-word t c = search needs
@@ -98,7 +97,7 @@ tests-within-array-write-other-word t c = search needs
 tests-within-tests-within-requires-2 : (t : ℕ) → tests-within-lts.Need-tests-within-requires-2 (tests-within-claims t) (tests-within-at t) tests-within.Post
 tests-within-tests-within-requires-2 t c κs =
     let h = c .before .before .before .before .before .before .before .pre in
-    (omega (arith, h .0, c .before .before .before .before .before .if1 .left), (h .1 .0, (h .1 .1 .0, omega (arith, h .1 .1 .1))))
+    (omega (arith, h .0, c .before .before .before .before .before .if1 .left), (h .1 .0, (h .1 .1 .0, omega (arith, h .1 .1 .1)), h .1 .2))
 
 tests-within-add-result : (t : ℕ) → tests-within-lts.Need-add-result (tests-within-claims t) (tests-within-at t) tests-within.Post
 tests-within-add-result t c =
@@ -110,7 +109,7 @@ tests-within-add-result t c =
 tests-within-returns-2 : (t : ℕ) → tests-within-lts.Need-returns-2 (tests-within-claims t) (tests-within-at t) tests-within.Post
 tests-within-returns-2 t c =
     let h = c .before .before .before .before .before .before .before .before .pre .1 in
-    within-node m16 everywhere _ _ _ _ (tests-within-lengths t (c .before .before .before .before .before .before .before .before)) (h .1 .0) (h .1 .1) (some-left _ (c .before .before .before .before .before .before .if1 .left)) _ _ _ refl _ _
+    within-node m16 _ _ _ _ _ (tests-within-lengths t (c .before .before .before .before .before .before .before .before)) (h .1 .0) (h .1 .1) (some-left _ (c .before .before .before .before .before .before .if1 .left)) _ _ _ refl _ _
     (c .before .before .before .best .ensures ∙ ap bestOf (c .before .before .before .before .column-of .ensures)) (c .before .before .second .ensures ∙ ap secondOf (c .before .before .before .before .column-of .ensures)) _ _ _
     (c .before .tests-within .ensures) (c .tests-within2 .ensures)
 

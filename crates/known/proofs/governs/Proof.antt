@@ -1,11 +1,12 @@
 -- The two cases of the known answer.
 use mathlib.Core.Path.{_≡_, sym, subst}
 use Prim.Native.Nat.{_≤_}
+use native.Mathlib.Omega.{arith}
 use lib.ListN.{length}
-use Rattle.soft.specs.TotalLaws.{differing-le}
 use Rattle.candidate.specs.Ranged.{reach-small}
 use Rattle.near.specs.Left.{rest-length}
-use Rattle.known.proofs.Counting.{governs-none, governs-some}
+use Rattle.near.specs.Near as Near
+use Rattle.known.proofs.Counting.{distance-small, governs-none, governs-some}
 use borrow.Author.Needs.{needs}
 use Rattle.known.proofs.governs.Statement.{statement}
 use Rattle.known.proofs.governs.Tie as tie
@@ -14,7 +15,7 @@ enum-told : tie.Need-enum-told
 enum-told c = search needs
 
 returns : tie.Need-returns
-returns c = governs-none _ _ _ _ (c .enum-told .given .1)
+returns c = governs-none _ _ _ _ _ _ (c .enum-told .given .1)
 
 enum-told-2 : tie.Need-enum-told-2
 enum-told-2 c = search needs
@@ -27,31 +28,36 @@ distance-requires c κs = search needs
 
 -- a distance is at most 64
 measured : (c : tie.After-distance) → c .distance .result ≤ 64
-measured c = subst (λ n. n ≤ 64) (sym (c .distance .ensures)) (differing-le 64 _ _)
+measured c = subst (λ n. n ≤ 64) (sym (c .distance .ensures)) (distance-small _ _ _)
 
-add-result : tie.Need-add-result
-add-result c =
+add-apart : tie.Need-add-apart
+add-apart c =
     let d = measured (c .before) in
     search needs
 
 reach-requires : tie.Need-reach-requires
 reach-requires c κs = search needs
 
-add-result-2 : tie.Need-add-result-2
-add-result-2 c =
+add-apart-2 : tie.Need-add-apart-2
+add-apart-2 c =
     let d = measured (c .before .before) in
-    let r : c .reach .result ≤ 28 = subst (λ n. n ≤ 28) (sym (c .reach .ensures)) (reach-small _) in
+    let r : c .reach .result ≤ 28 = subst (λ n. n ≤ 28) (sym (c .reach .ensures)) (reach-small _ _) in
     search needs
 
 least-distance-requires : tie.Need-least-distance-requires
 least-distance-requires c κs = search needs
+
+-- the blank places are within the limit
+sub-result : tie.Need-sub-result
+unfolding Near.blankLimit
+sub-result c = omega arith
 
 returns-2 : tie.Need-returns-2
 returns-2 c =
     let s = c .before .before .before .before .before .before .before .before in
     let l : length (s .args .undecided .doubtful) ≡ 8 = search needs in
     let g = c .before .before .before .before .before .before .enum-told2 .given in
-    governs-some _ _ _ _ _ _ _ _ _ _ _ (g .1) (rest-length _ _ _ l (s .pre .1 .0) (s .pre .1 .1)) (c .before .before .before .before .filled .ensures) (c .before .before .before .distance .ensures)
+    governs-some _ _ _ _ _ _ _ _ _ _ _ _ _ (g .1) (rest-length _ _ _ l (s .pre .1 .0) (s .pre .1 .1)) (c .before .before .before .before .filled .ensures) (c .before .before .before .distance .ensures)
     (c .before .reach .ensures) (c .least-distance .ensures)
 
 pub governs-spec : {M : Type 1} → statement M
@@ -63,8 +69,9 @@ governs-spec =
     enum-told-2
     filled-requires
     distance-requires
-    add-result
+    add-apart
     reach-requires
-    add-result-2
+    add-apart-2
     least-distance-requires
+    sub-result
     returns-2)

@@ -1,5 +1,4 @@
 -- The two cases.
-use Rattle.soft.specs.Total.{everywhere}
 use Rattle.family.specs.Member.{m16}
 use Rattle.near.specs.Within.{within-yes, within-no}
 use borrow.Author.Needs.{needs}
@@ -13,10 +12,10 @@ reach-requires : tie.Need-reach-requires
 reach-requires c κs = search needs
 
 returns : tie.Need-returns
-returns c = within-yes m16 everywhere _ _ _ _ _ (c .before .before .distance .ensures) (c .before .reach .ensures) (c .if1 .taken)
+returns c = within-yes m16 _ _ _ _ _ _ (c .before .before .distance .ensures) (c .before .reach .ensures) (c .if1 .taken)
 
 returns-2 : tie.Need-returns-2
-returns-2 c = within-no m16 everywhere _ _ _ _ _ (c .before .before .distance .ensures) (c .before .reach .ensures) (c .if1 .left)
+returns-2 c = within-no m16 _ _ _ _ _ _ (c .before .before .distance .ensures) (c .before .reach .ensures) (c .if1 .left)
 
 pub within-spec : {M : Type 1} → statement M
 within-spec = tie.close (tie.spec distance-requires reach-requires returns returns-2)

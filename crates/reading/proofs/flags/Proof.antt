@@ -4,21 +4,24 @@ use Prim.Native.Nat.{_-_}
 use lib.ListN.{replicate}
 use borrow.Author.Needs.{needs}
 use Rattle.lists.specs.Filled.{Filled, filled-start, filled-turn, filled-end}
-use Rattle.reading.specs.Flags.{flagAt}
+use Rattle.reading.specs.Flags.{readFlag}
 use Rattle.reading.proofs.flags.Statement.{statement}
 use Rattle.reading.proofs.flags.Tie as tie
 
 abbrev Inv-loop : tie.InvT-loop
-Inv-loop doubtful taken out₀ place₀ out place = Filled (replicate 64 0) (flagAt taken doubtful) place out
+Inv-loop doubtful taken counts out₀ place₀ out place = Filled (replicate 64 0) (readFlag taken doubtful counts) place out
 
 abbrev μ-loop : tie.MeasureT-loop
-μ-loop doubtful taken out₀ place₀ out place = 64 - place
+μ-loop doubtful taken counts out₀ place₀ out place = 64 - place
 
 loop-holds : tie.Need-loop-holds Inv-loop μ-loop
 loop-holds c = filled-start _ _
 
 array-read-flag : tie.Need-array-read-flag Inv-loop μ-loop
 array-read-flag c = search needs
+
+array-read-flag-2 : tie.Need-array-read-flag-2 Inv-loop μ-loop
+array-read-flag-2 c = search needs
 
 flag-requires : tie.Need-flag-requires Inv-loop μ-loop
 flag-requires c κs = search needs
@@ -33,7 +36,7 @@ loop-less : tie.Need-loop-less Inv-loop μ-loop
 loop-less c = search needs
 
 loop-again : tie.Need-loop-again Inv-loop μ-loop
-unfolding flagAt
+unfolding readFlag
 loop-again c = filled-turn 0 (c .before .before .loop .inv) _ (search needs) (c .flag .ensures)
 
 returns : tie.Need-returns Inv-loop μ-loop
@@ -47,6 +50,7 @@ flags-spec =
     μ-loop
     loop-holds
     array-read-flag
+    array-read-flag-2
     flag-requires
     array-write-out
     add-place

@@ -43,14 +43,20 @@ slice-aggregate-best-word c = search needs
 best-word-requires : tie.Need-best-word-requires
 best-word-requires c κs = search needs
 
+slice-aggregate-open-places : tie.Need-slice-aggregate-open-places
+slice-aggregate-open-places c = search needs
+
+open-places-requires : tie.Need-open-places-requires
+open-places-requires c κs = search needs
+
 array-share-prefix-doubtful : tie.Need-array-share-prefix-doubtful
 array-share-prefix-doubtful c =
-    let l : length (c .before .before .before .before .before .before .before .before .before .before .before .args .session .doubtful) ≡ 8 = search needs in
-    omega (arith, c .before .before .before .before .before .if3 .left)
+    let l : length (c .before .before .before .before .before .before .before .before .before .before .before .before .before .args .session .doubtful) ≡ 8 = search needs in
+    omega (arith, c .before .before .before .before .before .before .before .if3 .left)
 
 slice-aggregate-flags : tie.Need-slice-aggregate-flags
 slice-aggregate-flags c =
-    let s : Session = c .before .before .before .before .before .before .before .before .before .before .before .before .args .session in
+    let s : Session = c .before .before .before .before .before .before .before .before .before .before .before .before .before .before .args .session in
     sym (length-take-le (s .doubt) (s .doubtful) (array-share-prefix-doubtful (c .before)))
 
 flags-requires : tie.Need-flags-requires
@@ -60,7 +66,7 @@ add-reading : tie.Need-add-reading
 add-reading c = search needs
 
 reading-requires : tie.Need-reading-requires
-reading-requires c κs = omega (arith, known-bounds _ (known (c .before .before .before .before .before .before .before .before)))
+reading-requires c κs = omega (arith, known-bounds _ (known (c .before .before .before .before .before .before .before .before .before .before)))
 
 slice-aggregate-copy : tie.Need-slice-aggregate-copy
 slice-aggregate-copy c = search needs
@@ -73,12 +79,12 @@ same-length c = search needs
 
 returns-4 : tie.Need-returns-4
 returns-4 c =
-    let s : Session = c .before .before .before .before .before .before .before .before .before .before .before .before .before .before .before .before .before .before .before .args .session in
-    let sized = c .before .before .before .before .before .before .before .before .before .before .before .before .before .before .before .before .before .if1 .left in
+    let s : Session = c .before .before .before .before .before .before .before .before .before .before .before .before .before .before .before .before .before .before .before .before .before .args .session in
+    let sized = c .before .before .before .before .before .before .before .before .before .before .before .before .before .before .before .before .before .before .before .if1 .left in
     let size = ap length (c .before .before .before .before .before .reading .ensures) ∙ reading-size _ _ in
     let read = c .before .before .copy .ensures ∙ over-same _ _ (sized ∙ sym size) ∙ c .before .before .before .before .before .reading .ensures in
     reading-read s _ _ sized (ap length read ∙ reading-size _ _)
-    (λ good. read ∙ session-reading s good _ _ (c .before .before .before .before .before .before .before .before .best-word .ensures) (c .before .before .before .before .before .before .flags .ensures))
+    (λ good. read ∙ session-reading s good _ _ _ (c .before .before .before .before .before .before .before .before .before .before .best-word .ensures) (c .before .before .before .before .before .before .before .before .open-places .ensures) (c .before .before .before .before .before .before .flags .ensures))
 
 pub read-interpolant-spec : {M : Type 1} → statement M
 read-interpolant-spec =
@@ -91,6 +97,8 @@ read-interpolant-spec =
     returns-3
     slice-aggregate-best-word
     best-word-requires
+    slice-aggregate-open-places
+    open-places-requires
     array-share-prefix-doubtful
     slice-aggregate-flags
     flags-requires

@@ -7,7 +7,7 @@ use Rattle.code.specs.Encoding.{knownRate}
 use Rattle.book.specs.Model.{modem64}
 use Rattle.book.specs.Closing.{refusedClosing}
 use Rattle.book.specs.Table.{table-rate, table-size, table-doubt}
-use Rattle.table_decoding.proofs.Tabled.{table-asked, table-answers}
+use Rattle.table_decoding.proofs.Tabled.{table-askable, table-answers}
 use borrow.Author.Needs.{needs}
 use Rattle.table_decoding.proofs.decode_table.Statement.{statement}
 use Rattle.table_decoding.proofs.decode_table.Tie as tie
@@ -57,11 +57,11 @@ slice-aggregate-decode c = search needs
 decode-requires : tie.Need-decode-requires
 decode-requires c κs =
     record {
-      asked =
-          table-asked _ _ (c .before .before .before .before .before .before .if5 .left) (c .before .before .before .before .before .table-from .ensures) (c .before .before .before .doubtful .ensures) _
-          (known (c .before .before .before .before .before .before .before .before .before .before));
-      message-long = c .before .before .before .before .before .before .before .before .if3 .left;
-      report-long = c .before .before .before .before .before .before .before .if4 .left;
+      askable =
+          table-askable _ _ (c .before .before .before .before .before .before .before .if5 .left) (c .before .before .before .before .before .before .table-from .ensures) (c .before .before .before .before .doubtful .ensures) _
+          (known (c .before .before .before .before .before .before .before .before .before .before .before));
+      message-long = c .before .before .before .before .before .before .before .before .before .if3 .left;
+      report-long = c .before .before .before .before .before .before .before .before .if4 .left;
     }
 
 same-length : tie.Need-same-length
@@ -72,8 +72,8 @@ same-length-2 c = search needs
 
 returns-6 : tie.Need-returns-6
 returns-6 c =
-    table-answers _ _ (c .before .before .before .before .before .before .before .before .before .before .before .if5 .left) (c .before .before .before .before .before .before .before .before .before .before .table-from .ensures) (c .before .before .before .before .before .before .before .before .doubtful .ensures) _ (known (c .before .before .before .before .before .before .before .before .before .before .before .before .before .before .before)) _ _
-    (c .before .before .before .before .before .before .before .before .before .before .before .before .before .before .if2 .left) (c .before .before .before .before .before .before .before .before .before .before .before .before .before .if3 .left) (c .before .before .before .before .before .before .before .before .before .before .before .before .if4 .left) (c .before .before .before .before .decode .ensures)
+    table-answers _ _ (c .before .before .before .before .before .before .before .before .before .before .before .before .if5 .left) (c .before .before .before .before .before .before .before .before .before .before .before .table-from .ensures) (c .before .before .before .before .before .before .before .before .before .doubtful .ensures) _ (known (c .before .before .before .before .before .before .before .before .before .before .before .before .before .before .before .before)) _ _
+    (c .before .before .before .before .before .before .before .before .before .before .before .before .before .before .before .if2 .left) (c .before .before .before .before .before .before .before .before .before .before .before .before .before .before .if3 .left) (c .before .before .before .before .before .before .before .before .before .before .before .before .before .if4 .left) (c .before .before .before .before .decode .ensures)
 
 pub decode-table-spec : {M : Type 1} → statement M
 decode-table-spec =

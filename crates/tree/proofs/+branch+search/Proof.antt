@@ -10,6 +10,7 @@ use Rattle.answers.specs.Better.{sound-better}
 use Rattle.known.specs.Governing.{sound-below, sound-later}
 use Rattle.tree.specs.Searching.{SearchOf, BranchOf}
 use Rattle.candidate.specs.Ranged.{limit-small}
+use Rattle.candidate.specs.Marked.{limit-marked}
 use Rattle.tree.proofs.Descending.{branch-known, branch-node, node-spent, node-leaf, node-branch}
 use Rattle.near.specs.Left.{none-left, some-left}
 use Rattle.known.specs.Counts.{tests-fit}
@@ -106,10 +107,14 @@ branch-array-write-next-word : (t : ℕ) → branch-lts.Need-array-write-next-wo
 branch-array-write-next-word t c = search needs
 
 branch-governs-requires : (t : ℕ) → branch-lts.Need-governs-requires (branch-claims t) (branch-at t) branch.Post
-branch-governs-requires t c κs = search needs
+branch-governs-requires t c κs =
+    let h = c .before .pre .1 in
+    (h .0, h .1, h .4 .few)
 
 branch-tests-within-requires : (t : ℕ) → branch-lts.Need-tests-within-requires (branch-claims t) (branch-at t) branch.Post
-branch-tests-within-requires t c κs = search needs
+branch-tests-within-requires t c κs =
+    let h = c .before .before .before .before .pre .1 in
+    (h .0, h .1, h .4 .few)
 
 branch-below-requires : (t : ℕ) → branch-lts.Need-below-requires (branch-claims t) (branch-at t) branch.Post
 branch-below-requires t c κs = search needs
@@ -117,34 +122,38 @@ branch-below-requires t c κs = search needs
 branch-returns : (t : ℕ) → branch-lts.Need-returns (branch-claims t) (branch-at t) branch.Post
 branch-returns t c =
     let h = c .before .before .before .before .before .before .pre .1 in (
-      subst (BranchOf _ _ _ _ _ _ _ _ _) (sym (c .below .ensures)) (branch-known (h .0) _ _ _ _ _ _ _ _ (branch-lengths t (c .before .before .before .before .before .before)) _ _ _ (h .3) (c .before .before .before .before .governs .ensures) (c .before .before .before .if1 .taken) (c .before .tests-within .ensures)),
+      subst (BranchOf _ _ _ _ _ _ _ _ _) (sym (c .below .ensures)) (branch-known (h .0) _ _ _ _ _ _ _ _ (branch-lengths t (c .before .before .before .before .before .before)) (h .4) _ _ _ (h .3) (c .before .before .before .before .governs .ensures) (c .before .before .before .if1 .taken) (c .before .tests-within .ensures)),
       subst (Sound _ _) (sym (c .below .ensures)) (sound-below (h .3) _),
     )
 
 branch-largest-key-requires : (t : ℕ) → branch-lts.Need-largest-key-requires (branch-claims t) (branch-at t) branch.Post
-branch-largest-key-requires t c κs = search needs
+branch-largest-key-requires t c κs =
+    let h = c .before .before .before .pre .1 in
+    (h .0, h .4 .few)
 
 branch-extend-requires : (t : ℕ) → branch-lts.Need-extend-requires (branch-claims t) (branch-at t) branch.Post
 branch-extend-requires t c κs =
-    let l = subst (λ n. n ≤ 127) (sym (c .before .largest-key .ensures)) (limit-small (c .before .before .before .before .before .pre .1 .0)) in
+    let l = subst (λ n. n ≤ 127) (sym (c .before .largest-key .ensures)) (limit-small (c .before .before .before .before .before .pre .1 .0) _) in
     (search needs, l, search needs)
 
 branch-search-requires : (t : ℕ) → branch-lts.Need-search-requires (branch-claims t) (branch-at t) branch.Post
 branch-search-requires t c κs =
     let h = c .before .before .before .before .before .before .pre in
-    (omega (arith, h .0), (h .1 .0, h .1 .1, h .1 .3))
+    (omega (arith, h .0), (h .1 .0, h .1 .1, h .1 .3, h .1 .4))
 
 branch-returns-2 : (t : ℕ) → branch-lts.Need-returns-2 (branch-claims t) (branch-at t) branch.Post
 branch-returns-2 t c =
     let h = c .before .before .before .before .before .before .before .pre .1 in
-    (branch-node (h .0) _ _ _ _ _ _ _ _ (branch-lengths t (c .before .before .before .before .before .before .before)) _ (c .before .before .before .largest-key .ensures) _ _ (c .before .extend .ensures) _ (c .search .ensures .0), c .search .ensures .1)
+    (branch-node (h .0) _ _ _ _ _ _ _ _ (branch-lengths t (c .before .before .before .before .before .before .before)) _ (c .before .before .before .largest-key .ensures ∙ limit-marked (h .4)) _ _ (c .before .extend .ensures) _ (c .search .ensures .0), c .search .ensures .1)
 
 search-lengths : (t : ℕ) (c : search-lts.Start (search-claims t) (search-at t) search′.Post)
     → length (c .args .t6 .doubtful) ≡ 8
 search-lengths t c = search needs
 
 search-largest-key-requires : (t : ℕ) → search-lts.Need-largest-key-requires (search-claims t) (search-at t) search′.Post
-search-largest-key-requires t c κs = search needs
+search-largest-key-requires t c κs =
+    let h = c .before .pre .1 in
+    (h .0, h .3 .few)
 
 search-least-requires : (t : ℕ) → search-lts.Need-least-requires (search-claims t) (search-at t) search′.Post
 search-least-requires t c κs = search needs
@@ -160,10 +169,11 @@ search-none-near-requires t c κs = search needs
 
 search-returns : (t : ℕ) → search-lts.Need-returns (search-claims t) (search-at t) search′.Post
 unfolding leadAt
-search-returns t c = (
-  subst (SearchOf _ _ _ _ _ _ _) (sym (c .none-near .ensures)) (node-spent (c .before .before .before .before .before .pre .1 .0) _ _ _ _ _ _ _ (c .before .before .before .largest-key .ensures) _ (c .before .before .least .ensures) (c .before .if1 .taken)),
-  subst (Sound _ _) (sym (c .none-near .ensures)) sound-nothing,
-)
+search-returns t c =
+    let h = c .before .before .before .before .before .pre .1 in (
+      subst (SearchOf _ _ _ _ _ _ _) (sym (c .none-near .ensures)) (node-spent (h .0) _ _ _ _ _ _ _ (c .before .before .before .largest-key .ensures ∙ limit-marked (h .3)) _ (c .before .before .least .ensures) (c .before .if1 .taken)),
+      subst (Sound _ _) (sym (c .none-near .ensures)) sound-nothing,
+    )
 
 search-mul-leaf : (t : ℕ) → search-lts.Need-mul-leaf (search-claims t) (search-at t) search′.Post
 search-mul-leaf t c = search needs
@@ -172,14 +182,17 @@ search-array-copy-out-leaf : (t : ℕ) → search-lts.Need-array-copy-out-leaf (
 search-array-copy-out-leaf t c = search needs
 
 search-leaf-requires : (t : ℕ) → search-lts.Need-leaf-requires (search-claims t) (search-at t) search′.Post
-search-leaf-requires t c κs = search needs
+search-leaf-requires t c κs =
+    let h = c .before .before .before .before .before .before .pre .1 in
+    (h .0, h .3)
 
 search-returns-2 : (t : ℕ) → search-lts.Need-returns-2 (search-claims t) (search-at t) search′.Post
 unfolding leadAt
-search-returns-2 t c = (
-  node-leaf (c .before .before .before .before .before .before .before .pre .1 .0) _ _ _ _ _ _ _ (c .before .before .before .before .before .largest-key .ensures) _ (c .before .before .before .before .least .ensures) _ (c .before .before .if2 .taken) (none-left _ _ _ (c .before .before .if2 .taken)) (c .before .before .before .if1 .left) (c .leaf .ensures .0),
-  c .leaf .ensures .1,
-)
+search-returns-2 t c =
+    let h = c .before .before .before .before .before .before .before .pre .1 in (
+      node-leaf (h .0) _ _ _ _ _ _ _ (c .before .before .before .before .before .largest-key .ensures ∙ limit-marked (h .3)) _ (c .before .before .before .before .least .ensures) _ (c .before .before .if2 .taken) (none-left _ _ _ (c .before .before .if2 .taken)) (c .before .before .before .if1 .left) (c .leaf .ensures .0),
+      c .leaf .ensures .1,
+    )
 
 search-sub-place : (t : ℕ) → search-lts.Need-sub-place (search-claims t) (search-at t) search′.Post
 search-sub-place t c = search needs
@@ -205,7 +218,7 @@ search-second-requires t c κs = search needs
 search-branch-requires : (t : ℕ) → search-lts.Need-branch-requires (search-claims t) (search-at t) search′.Post
 search-branch-requires t c κs =
     let h = c .before .before .before .before .before .before .before .before .before .pre in
-    (omega (arith, h .0, c .before .before .before .before .if2 .left), (h .1 .0, (h .1 .1 .0, omega (arith, h .1 .1 .1)), search needs, h .1 .2))
+    (omega (arith, h .0, c .before .before .before .before .if2 .left), (h .1 .0, (h .1 .1 .0, omega (arith, h .1 .1 .1)), search needs, h .1 .2, h .1 .3))
 
 search-later-requires : (t : ℕ) → search-lts.Need-later-requires (search-claims t) (search-at t) search′.Post
 search-later-requires t c κs = search needs
@@ -213,7 +226,7 @@ search-later-requires t c κs = search needs
 search-branch-requires-2 : (t : ℕ) → search-lts.Need-branch-requires-2 (search-claims t) (search-at t) search′.Post
 search-branch-requires-2 t c κs =
     let h = c .before .before .before .before .before .before .before .before .before .before .before .pre in
-    (omega (arith, h .0, c .before .before .before .before .before .before .if2 .left), (h .1 .0, (h .1 .1 .0, omega (arith, h .1 .1 .1)), search needs, subst (Sound _ _) (sym (c .later .ensures)) (sound-later (h .1 .2) (c .before .branch .ensures .1))))
+    (omega (arith, h .0, c .before .before .before .before .before .before .if2 .left), (h .1 .0, (h .1 .1 .0, omega (arith, h .1 .1 .1)), search needs, subst (Sound _ _) (sym (c .later .ensures)) (sound-later (h .1 .2) (c .before .branch .ensures .1)), h .1 .3))
 
 search-better-requires : (t : ℕ) → search-lts.Need-better-requires (search-claims t) (search-at t) search′.Post
 search-better-requires t c κs =

@@ -1,5 +1,6 @@
 -- The candidate is checked: within T of the word it is the answer, and otherwise no codeword is.
 use mathlib.Core.Path.{sym, subst}
+use native.Mathlib.Omega.{arith}
 use Rattle.answers.specs.Answered.{Sound, sound-nothing}
 use Rattle.tree.specs.Searching.{LeafOf}
 use Rattle.tree.proofs.Leaves.{leaf-none, leaf-some, leaf-sound}
@@ -11,7 +12,9 @@ candidate-of-requires : tie.Need-candidate-of-requires
 candidate-of-requires c κs = search needs
 
 reach-requires : tie.Need-reach-requires
-reach-requires c κs = search needs
+reach-requires c κs =
+    let h = c .before .before .before .before .pre in
+    (h .0, omega (arith, h .1 .few))
 
 distance-requires : tie.Need-distance-requires
 distance-requires c κs = search needs
@@ -23,7 +26,7 @@ returns : tie.Need-returns
 returns c =
     let h = c .before .before .before .before .before .before .before .before .pre in
     let held = c .before .before .before .before .before .before .candidate-of .ensures in (
-      subst (LeafOf _ _ _ _) (sym (c .none-near .ensures)) (leaf-none h _ _ _ _ held _ (c .before .before .distance .ensures) _ (c .before .before .before .reach .ensures) (c .before .if1 .taken)),
+      subst (LeafOf _ _ _ _) (sym (c .none-near .ensures)) (leaf-none (h .0) (h .1) _ _ _ held _ (c .before .before .distance .ensures) _ (c .before .before .before .reach .ensures) (c .before .if1 .taken)),
       subst (Sound _ _) (sym (c .none-near .ensures)) sound-nothing,
     )
 
@@ -36,7 +39,7 @@ returns-2 c =
     let held = c .before .before .before .before .before .before .candidate-of .ensures in
     let d = c .before .before .distance .ensures in
     let r = c .before .before .before .reach .ensures in
-    (leaf-some h _ _ _ _ held _ d _ r _ (c .cost .ensures) (c .before .if1 .left), leaf-sound h _ _ _ _ held _ d _ r _ (c .cost .ensures))
+    (leaf-some (h .0) (h .1) _ _ _ held _ d _ r _ (c .cost .ensures) (c .before .if1 .left), leaf-sound (h .0) (h .1) _ _ _ held _ d _ r _ (c .cost .ensures))
 
 pub leaf-spec : {M : Type 1} → statement M
 leaf-spec =

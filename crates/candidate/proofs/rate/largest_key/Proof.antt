@@ -1,7 +1,7 @@
 -- The genus is 6.
 use native.Mathlib.Omega.{arith}
 use Rattle.hermitian.specs.Repair.{limit}
-use Rattle.near.specs.Here.{mOf, reachOf, genus-4, limitOf}
+use Rattle.near.specs.Here.{genus-4}
 use borrow.Author.Needs.{needs}
 use Rattle.candidate.proofs.rate.largest_key.Statement.{statement}
 use Rattle.candidate.proofs.rate.largest_key.Tie as tie
@@ -13,26 +13,26 @@ reach-requires : tie.Need-reach-requires
 reach-requires c κs = search needs
 
 add-result : tie.Need-add-result
-unfolding Interpolated.limitOf limit Near.mOf genus Near.reachOf
+unfolding Interpolated.limitOf limit Near.mOf genus Near.reachOf Near.blankLimit
 add-result c = omega arith
 
 top-order-requires : tie.Need-top-order-requires
 top-order-requires c κs = search needs
 
 add-result-2 : tie.Need-add-result-2
-unfolding Interpolated.limitOf limit Near.mOf genus Near.reachOf
+unfolding Interpolated.limitOf limit Near.mOf genus Near.reachOf Near.blankLimit
 add-result-2 c = omega arith
 
 mul-result : tie.Need-mul-result
-unfolding Interpolated.limitOf limit Near.mOf genus Near.reachOf
+unfolding Interpolated.limitOf limit Near.mOf genus Near.reachOf Near.blankLimit
 mul-result c = omega arith
 
 add-result-3 : tie.Need-add-result-3
-unfolding Interpolated.limitOf limit Near.mOf genus Near.reachOf
+unfolding Interpolated.limitOf limit Near.mOf genus Near.reachOf Near.blankLimit
 add-result-3 c = omega arith
 
 returns : tie.Need-returns
-unfolding Interpolated.limitOf limit Near.mOf genus Near.reachOf
+unfolding Interpolated.limitOf limit Near.mOf genus Near.reachOf Near.blankLimit
 returns c = omega (arith, genus-4)
 
 pub largest-key-spec : {M : Type 1} → statement M

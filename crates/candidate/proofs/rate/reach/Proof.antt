@@ -1,26 +1,19 @@
 -- The two roundings are the same.
 use native.Mathlib.Omega.{arith}
-use Rattle.near.specs.Here.{mOf, reachOf}
 use borrow.Author.Needs.{needs}
 use Rattle.candidate.proofs.rate.reach.Statement.{statement}
 use Rattle.candidate.proofs.rate.reach.Tie as tie
 use Rattle.near.specs.Near as Near
-use Rattle.hermitian.specs.Present.{genus}
 
-least-distance-requires : tie.Need-least-distance-requires
-least-distance-requires c κs = search needs
+blank-limit-requires : tie.Need-blank-limit-requires
+blank-limit-requires c κs = search needs
 
 sub-result : tie.Need-sub-result
-unfolding Near.mOf genus Near.reachOf
 sub-result c = omega arith
 
-sub-result-2 : tie.Need-sub-result-2
-unfolding Near.mOf genus Near.reachOf
-sub-result-2 c = omega arith
-
 returns : tie.Need-returns
-unfolding Near.mOf genus Near.reachOf
+unfolding Near.reachOf
 returns c = omega arith
 
 pub reach-spec : {M : Type 1} → statement M
-reach-spec = tie.close (tie.spec least-distance-requires sub-result sub-result-2 returns)
+reach-spec = tie.close (tie.spec blank-limit-requires sub-result returns)

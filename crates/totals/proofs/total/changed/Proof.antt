@@ -1,12 +1,10 @@
 -- `soft::total::changed` meets its contract.
-use mathlib.Core.Path.{_≡_, sym, ap, ap₂, _∙_}
-use mathlib.Core.Bool.{not}
+use mathlib.Core.Path.{_≡_, sym, ap, _∙_}
 use Prim.Native.Nat.{_≤_, _-_}
 use native.Mathlib.Omega.{arith}
-use lib.Dec.{eqb}
 use borrow.Author.Needs.{needs}
 use Rattle.lists.specs.Count.{bit, count, count-nil, count-turn}
-use Rattle.soft.specs.Column.{columnOf, bestOf}
+use Rattle.soft.specs.Column.{columnOf}
 use Rattle.soft.specs.Total.{changedAt, changedOf}
 use Rattle.totals.proofs.total.changed.Statement.{statement}
 use Rattle.totals.proofs.total.changed.Tie as tie
@@ -20,14 +18,8 @@ abbrev μ-loop : tie.MeasureT-loop
 loop-holds : tie.Need-loop-holds Inv-loop μ-loop
 loop-holds c = (omega arith, omega arith, sym (count-nil _))
 
-byte-at-requires : tie.Need-byte-at-requires Inv-loop μ-loop
-byte-at-requires c κs = search needs
-
-column-of-requires : tie.Need-column-of-requires Inv-loop μ-loop
-column-of-requires c κs = search needs
-
-best-requires : tie.Need-best-requires Inv-loop μ-loop
-best-requires c κs = search needs
+is-changed-requires : tie.Need-is-changed-requires Inv-loop μ-loop
+is-changed-requires c κs = search needs
 
 bit-requires : tie.Need-bit-requires Inv-loop μ-loop
 bit-requires c κs = search needs
@@ -45,9 +37,7 @@ loop-again : tie.Need-loop-again Inv-loop μ-loop
 loop-again c = (
   omega arith,
   omega arith,
-  count-turn _ _ _ _ (c .before .before .before .before .before .loop .inv .2)
-      (c .bit .ensures .0 ∙ ap₂ (λ x y. bit (not (eqb x y))) (c .before .before .before .byte-at .ensures)
-      (c .before .best .ensures ∙ ap bestOf (c .before .before .column-of .ensures))),
+  count-turn _ _ _ _ (c .before .before .before .loop .inv .2) (c .bit .ensures .0 ∙ ap bit (c .before .is-changed .ensures)),
 )
 
 cast-result : tie.Need-cast-result Inv-loop μ-loop
@@ -66,9 +56,7 @@ changed-spec =
     Inv-loop
     μ-loop
     loop-holds
-    byte-at-requires
-    column-of-requires
-    best-requires
+    is-changed-requires
     bit-requires
     add-n
     add-place

@@ -1,19 +1,20 @@
--- `soft::doubt::gaps_of` meets its contract. The loop's invariant: the places passed are stored, the rest is as it was.
+-- `columns::blank::open_places` meets its contract. The loop's invariant: the flags of the places passed are stored, the rest is as it was.
 use mathlib.Core.Path.{_≡_, ap, _∙_}
 use mathlib.Core.List.{_++_}
 use Prim.Native.Nat.{_≤_, _-_}
 use native.Mathlib.Omega.{arith}
 use lib.ListN.{drop}
 use borrow.Author.Needs.{needs}
+use Rattle.lists.specs.Count.{bit}
 use Rattle.lists.specs.Listed.{listed, listed-start, listed-store, listed-end}
-use Rattle.soft.specs.Column.{columnOf, gapOf}
-use Rattle.soft.specs.Doubt.{gapAt}
-use Rattle.doubt.proofs.gaps_of.Statement.{statement}
-use Rattle.doubt.proofs.gaps_of.Tie as tie
+use Rattle.soft.specs.Column.{columnOf}
+use Rattle.soft.specs.Blank.{openAt, flagsOf}
+use Rattle.columns.proofs.blank.open_places.Statement.{statement}
+use Rattle.columns.proofs.blank.open_places.Tie as tie
 
 abbrev Inv-loop : tie.InvT-loop
 Inv-loop costs out₀ place₀ out place =
-    (place ≤ 64) × (out ≡ listed place (gapAt (columnOf 16 costs)) ++ drop place out₀)
+    (place ≤ 64) × (out ≡ listed place (λ p. bit (openAt (columnOf 16 costs) p)) ++ drop place out₀)
 
 abbrev μ-loop : tie.MeasureT-loop
 μ-loop costs out₀ place₀ out place = 64 - place
@@ -21,14 +22,14 @@ abbrev μ-loop : tie.MeasureT-loop
 loop-holds : tie.Need-loop-holds Inv-loop μ-loop
 loop-holds c = (omega arith, listed-start _ _)
 
-column-of-requires : tie.Need-column-of-requires Inv-loop μ-loop
-column-of-requires c κs = search needs
+is-open-requires : tie.Need-is-open-requires Inv-loop μ-loop
+is-open-requires c κs = search needs
 
-gap-requires : tie.Need-gap-requires Inv-loop μ-loop
-gap-requires c κs = search needs
+bit-requires : tie.Need-bit-requires Inv-loop μ-loop
+bit-requires c κs = search needs
 
-mul-out : tie.Need-mul-out Inv-loop μ-loop
-mul-out c = search needs
+cast-out : tie.Need-cast-out Inv-loop μ-loop
+cast-out c = search needs
 
 array-write-out : tie.Need-array-write-out Inv-loop μ-loop
 array-write-out c = search needs
@@ -42,24 +43,25 @@ loop-less c = search needs
 loop-again : tie.Need-loop-again Inv-loop μ-loop
 loop-again c = (
   omega arith,
-  listed-store 0 _ _ _ _ _ (omega arith) (c .gap .ensures ∙ ap gapOf (c .before .column-of .ensures)) (c .before .before .before .loop .inv .1),
+  listed-store 0 _ _ _ _ _ (omega arith) (c .bit .ensures .0 ∙ ap bit (c .before .is-open .ensures)) (c .before .before .before .loop .inv .1),
 )
 
 returns : tie.Need-returns Inv-loop μ-loop
+unfolding flagsOf
 returns c =
     let e : c .before .loop .place ≡ 64 = omega arith in
     rw e at (listed-end _ _ _ _ (omega arith) (c .before .loop .inv .1))
 
-pub gaps-of-spec : {M : Type 1} → statement M
-gaps-of-spec =
+pub open-places-spec : {M : Type 1} → statement M
+open-places-spec =
     tie.close
     (tie.spec
     Inv-loop
     μ-loop
     loop-holds
-    column-of-requires
-    gap-requires
-    mul-out
+    is-open-requires
+    bit-requires
+    cast-out
     array-write-out
     add-place
     loop-less

@@ -1,25 +1,25 @@
--- `soft::total::differing` meets its contract.
-use mathlib.Core.Path.{_≡_, sym, ap, _∙_}
+-- `columns::blank::blanks` meets its contract. The loop's invariant: `n` counts the flags passed that are not 1.
 use mathlib.Core.Bool.{not}
+use mathlib.Core.Path.{_≡_, sym}
 use Prim.Native.Nat.{_≤_, _-_}
 use native.Mathlib.Omega.{arith}
 use borrow.Author.Needs.{needs}
-use Rattle.lists.specs.Count.{bit, count, count-nil, count-turn}
-use Rattle.soft.specs.Total.{differAt, differingIn}
-use Rattle.totals.proofs.total.differing.Statement.{statement}
-use Rattle.totals.proofs.total.differing.Tie as tie
+use Rattle.lists.specs.Count.{count, count-nil, count-turn}
+use Rattle.soft.specs.Blank.{flagAt}
+use Rattle.columns.proofs.blank.blanks.Statement.{statement}
+use Rattle.columns.proofs.blank.blanks.Tie as tie
 
 abbrev Inv-loop : tie.InvT-loop
-Inv-loop u v n₀ place₀ n place = (place ≤ 64) × (n ≤ place) × (n ≡ count place (differAt u v))
+Inv-loop flags n₀ place₀ n place = (place ≤ 64) × (n ≤ place) × (n ≡ count place (λ p. not (flagAt flags p)))
 
 abbrev μ-loop : tie.MeasureT-loop
-μ-loop u v n₀ place₀ n place = 64 - place
+μ-loop flags n₀ place₀ n place = 64 - place
 
 loop-holds : tie.Need-loop-holds Inv-loop μ-loop
 loop-holds c = (omega arith, omega arith, sym (count-nil _))
 
-agreeing-requires : tie.Need-agreeing-requires Inv-loop μ-loop
-agreeing-requires c κs = search needs
+array-read-bit : tie.Need-array-read-bit Inv-loop μ-loop
+array-read-bit c = search needs
 
 bit-requires : tie.Need-bit-requires Inv-loop μ-loop
 bit-requires c κs = search needs
@@ -34,30 +34,28 @@ loop-less : tie.Need-loop-less Inv-loop μ-loop
 loop-less c = search needs
 
 loop-again : tie.Need-loop-again Inv-loop μ-loop
-loop-again c = (
-  omega arith,
-  omega arith,
-  count-turn _ _ _ _ (c .before .before .before .loop .inv .2)
-      (c .bit .ensures .0 ∙ ap (λ x. bit (not x)) (c .before .agreeing .ensures)),
-)
+loop-again c = (omega arith, omega arith, count-turn _ _ _ _ (c .before .before .loop .inv .2) (c .bit .ensures .0))
+
+cast-result : tie.Need-cast-result Inv-loop μ-loop
+cast-result c = search needs
 
 returns : tie.Need-returns Inv-loop μ-loop
-unfolding differingIn
 returns c =
     let e : c .before .loop .place ≡ 64 = omega arith in
     rw e at (c .before .loop .inv .2)
 
-pub differing-spec : {M : Type 1} → statement M
-differing-spec =
+pub blanks-spec : {M : Type 1} → statement M
+blanks-spec =
     tie.close
     (tie.spec
     Inv-loop
     μ-loop
     loop-holds
-    agreeing-requires
+    array-read-bit
     bit-requires
     add-n
     add-place
     loop-less
     loop-again
+    cast-result
     returns)

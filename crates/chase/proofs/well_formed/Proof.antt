@@ -5,8 +5,8 @@ use borrow.Author.Tests.{not-true, not-false}
 use Rattle.code.specs.Encoding.{knownRate}
 use Rattle.chase.proofs.Asking.{rate-refused, size-refused, doubt-refused, places-asked}
 use borrow.Author.Needs.{needs}
-use Rattle.chase.proofs.asked.Statement.{statement}
-use Rattle.chase.proofs.asked.Tie as tie
+use Rattle.chase.proofs.well_formed.Statement.{statement}
+use Rattle.chase.proofs.well_formed.Tie as tie
 
 known-rate-requires : tie.Need-known-rate-requires
 known-rate-requires c κs = search needs
@@ -30,7 +30,7 @@ are-places-requires c κs = search needs
 returns-4 : tie.Need-returns-4
 returns-4 c = c .are-places .ensures ∙ sym (places-asked _ _ _ _ (known (c .before .before .before)) (c .before .before .if2 .left) (c .before .if3 .left))
 
-pub asked-spec : {M : Type 1} → statement M
-asked-spec =
+pub well-formed-spec : {M : Type 1} → statement M
+well-formed-spec =
     tie.close
     (tie.spec known-rate-requires returns returns-2 returns-3 are-places-requires returns-4)

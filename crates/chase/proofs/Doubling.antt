@@ -1,0 +1,67 @@
+-- The list of the places that count, one place after the other.
+--
+--   doubled-start, doubled-turn            the places so far in an array of w
+--   count-start, count-turn, count-fits    and how many they are
+--   doubled-end                            all of them
+use mathlib.Core.Bool.{Bool, true, false, cond}
+use mathlib.Core.Path.{_≡_, refl, sym, ap, ap₂, _∙_, subst}
+use mathlib.Core.List.{List, [], _∷_, _++_}
+use Prim.Native.Nat.{ℕ, _+_, _<_, _≤_}
+use native.Mathlib.Numerals.{add-one}
+use native.Mathlib.Omega.{arith}
+use lib.ListN.{length, getD, set, take, replicate, length-append, length-take}
+use lib.Seq.{take-suc}
+use Rattle.lists.specs.Count.{bit}
+use Rattle.lists.specs.Padded.{padded, padded-nil, padded-if}
+use Rattle.soft.specs.Blank.{unblanked}
+use Rattle.soft.specs.BlankLaws.{unblanked-nil, unblanked-snoc, unblanked-length}
+use Rattle.soft.specs.Doubt.{mostDoubt}
+use Rattle.doubt.specs.declared.Picked.{Picked}
+use Rattle.doubt.specs.Picked.{PickedOf}
+
+module _ (counts : ℕ → Bool) (doubtful : List ℕ) where
+  pub doubled-start : (w : ℕ) → replicate w 0 ≡ padded w (unblanked counts (take 0 doubtful))
+  doubled-start w = sym (ap (padded w) (unblanked-nil counts) ∙ padded-nil w)
+
+  pub count-start : 0 ≡ length (unblanked counts (take 0 doubtful))
+  count-start = sym (ap length (unblanked-nil counts))
+
+  pub count-fits : (i found : ℕ) → found ≡ length (unblanked counts (take i doubtful)) → found ≤ i
+  count-fits i found e = omega (arith, unblanked-length counts (take i doubtful), length-take i doubtful)
+
+  pub doubled-end : {i doubt : ℕ} (r : Picked) → i ≡ doubt → r .places ≡ padded mostDoubt (unblanked counts (take i doubtful))
+      → r .count ≡ length (unblanked counts (take i doubtful)) → PickedOf (unblanked counts (take doubt doubtful)) r
+  doubled-end r e places-is count-is =
+      subst (λ n. PickedOf (unblanked counts (take n doubtful)) r) e (record { places = places-is; count = count-is })
+
+  module _ (i : ℕ) (h : i < length doubtful) where
+    abbrev x : ℕ
+    x = getD doubtful i 0
+
+    longer : unblanked counts (take (i + 1) doubtful) ≡ unblanked counts (take i doubtful) ++ cond (counts x) (x ∷ []) []
+    longer =
+        ap (unblanked counts) (ap (λ j. take j doubtful) (add-one i) ∙ take-suc doubtful i 0 h) ∙ unblanked-snoc counts (take i doubtful) x
+
+    pub doubled-turn : (w : ℕ) (out r : List ℕ) (found : ℕ) (b : Bool) → out ≡ padded w (unblanked counts (take i doubtful))
+        → found ≡ length (unblanked counts (take i doubtful)) → b ≡ counts x → r ≡ cond b (set out found x) out
+        → r ≡ padded w (unblanked counts (take (i + 1) doubtful))
+    doubled-turn w out r found b out-is found-is b-is r-is =
+        r-is ∙ ap₂ (λ t (o : List ℕ). cond t (set o found x) o) b-is out-is
+        ∙ padded-if w (unblanked counts (take i doubtful)) x found (counts x) found-is ∙ ap (padded w) (sym longer)
+
+    pub count-turn : (found n : ℕ) (b : Bool) → found ≡ length (unblanked counts (take i doubtful)) → b ≡ counts x → n ≡ bit b
+        → found + n ≡ length (unblanked counts (take (i + 1) doubtful))
+    count-turn found n b found-is b-is n-is =
+        omega (
+          arith,
+          found-is,
+          n-is,
+          ap bit b-is,
+          one (counts x),
+          ap length longer,
+          length-append (unblanked counts (take i doubtful)) (cond (counts x) (x ∷ []) []),
+        )
+      where
+        one : (t : Bool) → length (cond t (x ∷ []) []) ≡ bit t
+        one true = refl
+        one false = refl

@@ -1,0 +1,88 @@
+-- The loop's invariant: the list holds those of the places passed that count, and `count` is their number.
+use mathlib.Core.Path.{_≡_}
+use Prim.Native.Nat.{_<_, _≤_, _-_}
+use native.Mathlib.Omega.{arith}
+use lib.ListN.{length, take}
+use Rattle.lists.specs.Padded.{padded}
+use Rattle.soft.specs.Blank.{flagAt, unblanked}
+use Rattle.chase.proofs.Doubling.{doubled-start, doubled-turn, doubled-end, count-start, count-turn, count-fits}
+use borrow.Author.Needs.{needs}
+use Rattle.chase.proofs.doubled_places.Statement.{statement}
+use Rattle.chase.proofs.doubled_places.Tie as tie
+
+abbrev Inv-loop : tie.InvT-loop
+Inv-loop doubt counts doubtful places₀ count₀ i₀ places count i =
+    (i ≤ doubt) × (length doubtful ≡ 8) × (count ≤ i) × (count ≡ length (unblanked (flagAt counts) (take i doubtful)))
+    × (places ≡ padded 8 (unblanked (flagAt counts) (take i doubtful)))
+
+abbrev μ-loop : tie.MeasureT-loop
+μ-loop doubt counts doubtful places₀ count₀ i₀ places count i = doubt - i
+
+loop-holds : tie.Need-loop-holds Inv-loop μ-loop
+loop-holds c = (search needs, search needs, search needs, count-start (flagAt (c .args .counts)) (c .args .t1), doubled-start (flagAt (c .args .counts)) (c .args .t1) 8)
+
+array-read-place : tie.Need-array-read-place Inv-loop μ-loop
+array-read-place c = search needs
+
+cast-has-flag : tie.Need-cast-has-flag Inv-loop μ-loop
+cast-has-flag c = search needs
+
+has-flag-requires : tie.Need-has-flag-requires Inv-loop μ-loop
+has-flag-requires c κs = search needs
+
+with-place-requires : tie.Need-with-place-requires Inv-loop μ-loop
+with-place-requires c κs = search needs
+
+bit-requires : tie.Need-bit-requires Inv-loop μ-loop
+bit-requires c κs = search needs
+
+cast-count : tie.Need-cast-count Inv-loop μ-loop
+cast-count c = search needs
+
+add-count : tie.Need-add-count Inv-loop μ-loop
+add-count c = search needs
+
+add-i : tie.Need-add-i Inv-loop μ-loop
+add-i c = search needs
+
+loop-less : tie.Need-loop-less Inv-loop μ-loop
+loop-less c = search needs
+
+loop-again : tie.Need-loop-again Inv-loop μ-loop
+loop-again c =
+    let s = c .before .before .before .before in
+    let i = s .loop .inv in
+    let n : s .loop .i < length (s .before .args .t1) = omega (arith, i .1) in
+    let b = c .before .before .has-flag .ensures in
+    let counted = count-turn (flagAt (s .before .args .counts)) (s .before .args .t1) (s .loop .i) n _ _ _ (i .3) b (c .bit .ensures .0) in (
+      search needs,
+      i .1,
+      count-fits (flagAt (s .before .args .counts)) (s .before .args .t1) _ _ counted,
+      counted,
+      doubled-turn (flagAt (s .before .args .counts)) (s .before .args .t1) (s .loop .i) n 8 _ _ _ _ (i .4) (i .3) b (c .before .with-place .ensures),
+    )
+
+returns : tie.Need-returns Inv-loop μ-loop
+returns c =
+    let i = c .before .loop .inv in
+    let e : c .before .loop .i ≡ c .before .before .args .doubt = omega arith in
+    doubled-end (flagAt (c .before .before .args .counts)) (c .before .before .args .t1) _ e (i .4) (i .3)
+
+pub doubled-places-spec : {M : Type 1} → statement M
+doubled-places-spec =
+    tie.close
+    (tie.spec
+    Inv-loop
+    μ-loop
+    loop-holds
+    array-read-place
+    cast-has-flag
+    has-flag-requires
+    with-place-requires
+    bit-requires
+    cast-count
+    add-count
+    add-i
+    loop-less
+    loop-again
+    returns)

@@ -1,0 +1,52 @@
+// Blank places (erasures): those whose column has all its costs equal. Nothing is known there.
+use crate::bit::bit;
+use crate::column::is_blank;
+use crate::costs::PLACES;
+use crate::costs::SYMBOLS;
+use crate::costs::column_of;
+ghost use mathlib.Core.Path.{_≡_};
+ghost use mathlib.Core.Bool.{not};
+ghost use Rattle.lists.specs.Count.{count};
+ghost use Rattle.soft.specs.Column.{places, symbols, columnOf};
+ghost use Rattle.soft.specs.Blank.{openAt, flagAt, flagsOf};
+
+// Whether a place is not blank. Its costs are compared where they stand, up to the first that differs: every frame asks this of every place.
+// Only a place that lacks costs has its column copied.
+pub fn is_open(costs: &[u16], place: usize) -> bool
+    ensures { λ r. ⌜ r ≡ openAt (columnOf symbols (now (costs .entry))) place ⌝ }
+{
+    if costs.len() / SYMBOLS <= place {
+        return !is_blank(column_of(costs, place));
+    }
+    let from = place * SYMBOLS;
+    let mut s = 1;
+    while s < SYMBOLS {
+        if costs[from + s] != costs[from] {
+            return true;
+        }
+        s += 1;
+    }
+    false
+}
+
+// A flag for each place: 1 where it is not blank.
+pub fn open_places(costs: &[u16]) -> [u8; PLACES]
+    ensures { λ r. ⌜ r ≡ flagsOf places (columnOf symbols (now (costs .entry))) ⌝ }
+{
+    let mut out = [0u8; PLACES];
+    for place in 0..PLACES {
+        out[place] = bit(is_open(costs, place)) as u8;
+    }
+    out
+}
+
+// How many places are blank, by their flags.
+pub fn blanks(flags: [u8; PLACES]) -> usize
+    ensures { λ r. ⌜ r ≡ count places (λ p. not (flagAt flags p)) ⌝ }
+{
+    let mut n = 0u16;
+    for place in 0..PLACES {
+        n += bit(flags[place] != 1);
+    }
+    n as usize
+}

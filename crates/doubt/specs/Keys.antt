@@ -1,0 +1,67 @@
+-- Keys that put the places of a table in the order of doubt: a place with a smaller key is ahead. Those of blank places are from a bound on, which
+-- no other key reaches, so a blank place is ahead of none that is not.
+--
+--   far                    the bound for 64 places with gaps of two bytes
+--   KeyOf n far columns p key   the key of place p, of n places
+--   Keyed n far columns keys    the keys of all of them
+--   chosenWith far d key rank   a place with this key and so many ahead of it is not blank, and fewer than d are ahead
+--   chosenBy n far d keys q     the same of place q, by the keys
+--   rank-ahead             of a place that is not blank, the keys below its own are counted by the places ahead
+--   chosen-few             so the places chosen are the doubtful ones
+use mathlib.Core.Bool.{Bool, true, false, _&&_}
+use mathlib.Core.Path.{_≡_, refl, sym, ap, ap₂, _∙_}
+use mathlib.Core.List.{List}
+use Prim.Native.Nat.{ℕ, _+_, _*_, _<_, _≤_}
+use native.Mathlib.Omega.{arith}
+use lib.Dec.{ltb}
+use borrow.Author.Tests.{lt-ltb, le-ltb}
+use Rattle.lists.specs.Count.{count-ext}
+use Rattle.lists.specs.Rank.{rankOf}
+use Rattle.soft.specs.Blank.{openAt}
+use Rattle.soft.specs.Doubt.{ahead, aheadOf, fewAhead, entryOf, gapAt}
+use Rattle.soft.specs.DoubtLaws.{ahead-key}
+
+abbrev pub far : ℕ
+far = 4194304
+
+pub record KeyOf (n far : ℕ) (columns : ℕ → List ℕ) (p key : ℕ) : Type 0 where
+  pub ordered : openAt columns p ≡ true → (key ≡ gapAt columns p * n + p) × (key < far)
+  pub behind : openAt columns p ≡ false → far ≤ key
+
+pub record Keyed (n far : ℕ) (columns : ℕ → List ℕ) (keys : List ℕ) : Type 0 where
+  pub at : (p : ℕ) → p < n → KeyOf n far columns p (entryOf keys p)
+
+abbrev pub chosenWith : ℕ → ℕ → ℕ → ℕ → Bool
+chosenWith far d key rank = ltb key far && ltb rank d
+
+abbrev pub chosenBy : ℕ → ℕ → ℕ → List ℕ → ℕ → Bool
+chosenBy n far d keys q = chosenWith far d (entryOf keys q) (rankOf (entryOf keys) n q)
+
+module _ {n far : ℕ} {columns : ℕ → List ℕ} {keys : List ℕ} (K : Keyed n far columns keys) where
+  pub rank-ahead : (q : ℕ) → q < n → openAt columns q ≡ true → rankOf (entryOf keys) n q ≡ aheadOf n (openAt columns) (gapAt columns) q
+  unfolding rankOf aheadOf
+  rank-ahead q l o =
+      count-ext n (λ p. ltb (entryOf keys p) (entryOf keys q)) (λ p. openAt columns p && ahead (gapAt columns) p q)
+      (λ p k. place p k (openAt columns p) refl)
+    where
+      own : (entryOf keys q ≡ gapAt columns q * n + q) × (entryOf keys q < far)
+      own = K .at q l .ordered o
+
+      place : (p : ℕ) → p < n → (b : Bool) → openAt columns p ≡ b
+          → ltb (entryOf keys p) (entryOf keys q) ≡ (openAt columns p && ahead (gapAt columns) p q)
+      place p k true e =
+          ap₂ ltb (K .at p k .ordered e .0) (own .0) ∙ sym (ahead-key n (gapAt columns) p q k l)
+          ∙ sym (ap (λ b. b && ahead (gapAt columns) p q) e)
+      place p k false e =
+          le-ltb (entryOf keys p) (entryOf keys q) (omega (arith, own .1, K .at p k .behind e))
+          ∙ sym (ap (λ b. b && ahead (gapAt columns) p q) e)
+
+  pub chosen-few : (d q : ℕ) → q < n → chosenBy n far d keys q ≡ fewAhead n d (openAt columns) (gapAt columns) q
+  chosen-few d q l = go (openAt columns q) refl
+    where
+      go : (b : Bool) → openAt columns q ≡ b → chosenBy n far d keys q ≡ fewAhead n d (openAt columns) (gapAt columns) q
+      go true e =
+          ap₂ (λ (a b : Bool). a && b) (lt-ltb (entryOf keys q) far (K .at q l .ordered e .1) ∙ sym e) (ap (λ r. ltb r d) (rank-ahead q l e))
+      go false e =
+          ap (λ b. b && ltb (rankOf (entryOf keys) n q) d) (le-ltb (entryOf keys q) far (K .at q l .behind e))
+          ∙ sym (ap (λ b. b && ltb (aheadOf n (openAt columns) (gapAt columns) q) d) e)

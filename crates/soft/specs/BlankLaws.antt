@@ -1,0 +1,207 @@
+-- Laws of blank places.
+--
+--   blank-same             a column is blank exactly if any two of its costs are equal
+--   open-count             the places that are not blank and the blank ones are all
+--   blanks-le, blanks-ext  at most n of n places are blank; only the columns of the places matter
+--   flags-length, flags-at  a flag for each place says whether it is not blank,
+--   flags-blanks           so many of them are not 1 as places are blank
+--   flags-open             and they say it at every place, where those behind the n are blank
+--   column-none            a column read off behind a list of costs is blank
+--   unblanked-nil, unblanked-in, unblanked-out, unblanked-snoc   the definition step by step
+--   unblanked-member       a place of those that count is in the list, and counts; member-unblanked: and the other way round
+--   unblanked-length       they are no more than the list has; unblanked-split: with those that do not count they are as many
+--   unblanked-all          where all count, they are the list
+--   unblanked-ext          only what is said of the list's places matters
+--   unblanked-different    different places stay different
+use mathlib.Core.Bool.{Bool, true, false, not, cond}
+use mathlib.Core.Path.{_≡_, refl, sym, ap, ap₂, _∙_, subst, fun-ext}
+use mathlib.Core.List.{List, [], _∷_, _++_, List·Memᴰ, List·Memᴰ·head, List·Memᴰ·tail, List·Memᴰ·cases-cons, List·Memᴰ·not-nil}
+use mathlib.Core.Logic.{_↔_, ⊎-elim}
+use Prim.Native.Nat.{ℕ, zero, suc, _+_, _*_, _<_, _≤_}
+use native.Mathlib.Decide.{decLt}
+use native.Mathlib.Omega.{arith}
+use lib.Dec.{T, eqb, eqb→eq}
+use lib.ListN.{length, List·getD-eq-default}
+use borrow.Author.Tests.{eq-eqb, not-true}
+use Rattle.lists.specs.Count.{bit, count, count-nil, count-suc, count-ext, count-le}
+use Rattle.lists.specs.Every.{every, every-at, every-true, true-T}
+use Rattle.lists.specs.Listed.{listed-length, listed-at}
+use Rattle.lists.specs.Different.{Different, different-nil, different-cons}
+use Rattle.soft.specs.Column.{costOf, columnOf, isBlank}
+use Rattle.soft.specs.ColumnLaws.{column-length, cost-column}
+use Rattle.soft.specs.Blank.{blankAt, openAt, blanksOf, unblanked, flagsOf, flagAt}
+
+abbrev alike : List ℕ → ℕ → Bool
+alike column s = eqb (costOf column s) (costOf column 0)
+
+pub blank-same : (column : List ℕ)
+    → (isBlank column ≡ true) ↔ ((s t : ℕ) → s < length column → t < length column → costOf column s ≡ costOf column t)
+unfolding isBlank
+blank-same column = (same, blank)
+  where
+    same : every (length column) (alike column) ≡ true → (s t : ℕ) → s < length column → t < length column → costOf column s ≡ costOf column t
+    same e s t ls lt =
+        let a = every-at (length column) (alike column) (true-T (every (length column) (alike column)) e) in
+        eqb→eq (costOf column s) (costOf column 0) (a s ls) ∙ sym (eqb→eq (costOf column t) (costOf column 0) (a t lt))
+
+    blank : ((s t : ℕ) → s < length column → t < length column → costOf column s ≡ costOf column t) → every (length column) (alike column) ≡ true
+    blank h = every-true (length column) (alike column) (λ s l. eq-eqb (costOf column s) (costOf column 0) (h s 0 l (omega arith)))
+
+opposite : (b : Bool) → bit (not b) + bit b ≡ 1
+opposite true = refl
+opposite false = refl
+
+pub open-count : (n : ℕ) (columns : ℕ → List ℕ) → count n (openAt columns) + blanksOf n columns ≡ n
+unfolding blanksOf
+open-count zero columns = omega (arith, count-nil (openAt columns), count-nil (blankAt columns))
+open-count (suc n) columns =
+    omega (
+      arith,
+      open-count n columns,
+      count-suc n (openAt columns),
+      count-suc n (blankAt columns),
+      opposite (blankAt columns n),
+    )
+
+pub blanks-le : (n : ℕ) (columns : ℕ → List ℕ) → blanksOf n columns ≤ n
+unfolding blanksOf
+blanks-le n columns = count-le n (blankAt columns)
+
+pub blanks-ext : (n : ℕ) (c e : ℕ → List ℕ) → ((p : ℕ) → p < n → c p ≡ e p) → blanksOf n c ≡ blanksOf n e
+unfolding blanksOf
+blanks-ext n c e h = count-ext n (blankAt c) (blankAt e) (λ p l. ap isBlank (h p l))
+
+flag-bit : (b : Bool) → eqb (bit b) 1 ≡ b
+flag-bit true = refl
+flag-bit false = refl
+
+pub flags-length : (n : ℕ) (columns : ℕ → List ℕ) → length (flagsOf n columns) ≡ n
+unfolding flagsOf
+flags-length n columns = listed-length n (λ p. bit (openAt columns p))
+
+pub flags-at : (n : ℕ) (columns : ℕ → List ℕ) (p : ℕ) → p < n → flagAt (flagsOf n columns) p ≡ openAt columns p
+unfolding flagsOf
+flags-at n columns p l = ap (λ x. eqb x 1) (listed-at n p (λ q. bit (openAt columns q)) 0 l) ∙ flag-bit (openAt columns p)
+
+pub flags-open : (n : ℕ) (columns : ℕ → List ℕ) → ((p : ℕ) → n ≤ p → isBlank (columns p) ≡ true) → flagAt (flagsOf n columns) ≡ openAt columns
+flags-open n columns behind = fun-ext (λ p. at p (decLt p n))
+  where
+    at : (p : ℕ) → Dec (p < n) → flagAt (flagsOf n columns) p ≡ openAt columns p
+    at p (yes l) = flags-at n columns p l
+    at p (no l) =
+        let b : length (flagsOf n columns) ≤ p = omega (arith, flags-length n columns) in
+        ap (λ x. eqb x 1) (List·getD-eq-default (flagsOf n columns) 0 b) ∙ sym (ap not (behind p (omega arith)))
+
+-- so the flags that are not 1 are those of the blank places
+pub flags-blanks : (n : ℕ) (columns : ℕ → List ℕ) → count n (λ p. not (flagAt (flagsOf n columns) p)) ≡ blanksOf n columns
+unfolding blanksOf
+flags-blanks n columns =
+    count-ext n (λ p. not (flagAt (flagsOf n columns) p)) (blankAt columns)
+    (λ p l. ap not (flags-at n columns p l) ∙ not-not (isBlank (columns p)))
+  where
+    not-not : (b : Bool) → not (not b) ≡ b
+    not-not true = refl
+    not-not false = refl
+
+-- a column read off behind the costs is blank
+pub column-none : (q : ℕ) (costs : List ℕ) (p : ℕ) → length costs ≤ p * q → isBlank (columnOf q costs p) ≡ true
+column-none q costs p h =
+    blank-same (columnOf q costs p) .1 (λ s t ls lt. zero-at s ls ∙ sym (zero-at t lt))
+  where
+    zero-at : (s : ℕ) → s < length (columnOf q costs p) → costOf (columnOf q costs p) s ≡ 0
+    zero-at s l =
+        let b : length costs ≤ p * q + s = omega arith in
+        cost-column q costs p s (omega (arith, column-length q costs p)) ∙ List·getD-eq-default costs 0 b
+
+module _ (counts : ℕ → Bool) where
+  pub unblanked-nil : unblanked counts [] ≡ []
+  unfolding unblanked
+  unblanked-nil = refl
+
+  pub unblanked-in : (p : ℕ) (ps : List ℕ) → counts p ≡ true → unblanked counts (p ∷ ps) ≡ p ∷ unblanked counts ps
+  unfolding unblanked
+  unblanked-in p ps e = ap (λ b. cond b (p ∷ unblanked counts ps) (unblanked counts ps)) e
+
+  pub unblanked-out : (p : ℕ) (ps : List ℕ) → counts p ≡ false → unblanked counts (p ∷ ps) ≡ unblanked counts ps
+  unfolding unblanked
+  unblanked-out p ps e = ap (λ b. cond b (p ∷ unblanked counts ps) (unblanked counts ps)) e
+
+  pub unblanked-snoc : (ps : List ℕ) (q : ℕ) → unblanked counts (ps ++ (q ∷ [])) ≡ unblanked counts ps ++ cond (counts q) (q ∷ []) []
+  unblanked-snoc [] q = go (counts q) refl
+    where
+      go : (b : Bool) → counts q ≡ b → unblanked counts (q ∷ []) ≡ unblanked counts [] ++ cond b (q ∷ []) []
+      go true e = unblanked-in q [] e ∙ ap (λ l. q ∷ l) unblanked-nil ∙ sym (ap (λ (l : List ℕ). l ++ (q ∷ [])) unblanked-nil)
+      go false e = unblanked-out q [] e ∙ unblanked-nil ∙ sym (ap (λ (l : List ℕ). l ++ []) unblanked-nil)
+  unblanked-snoc (p ∷ ps) q = go (counts p) refl (unblanked-snoc ps q)
+    where
+      go : (b : Bool) → counts p ≡ b → unblanked counts (ps ++ (q ∷ [])) ≡ unblanked counts ps ++ cond (counts q) (q ∷ []) []
+          → unblanked counts (p ∷ (ps ++ (q ∷ []))) ≡ unblanked counts (p ∷ ps) ++ cond (counts q) (q ∷ []) []
+      go true e ih =
+          unblanked-in p (ps ++ (q ∷ [])) e ∙ ap (λ l. p ∷ l) ih
+          ∙ sym (ap (λ (l : List ℕ). l ++ cond (counts q) (q ∷ []) []) (unblanked-in p ps e))
+      go false e ih =
+          unblanked-out p (ps ++ (q ∷ [])) e ∙ ih ∙ sym (ap (λ (l : List ℕ). l ++ cond (counts q) (q ∷ []) []) (unblanked-out p ps e))
+
+  pub unblanked-member : (ps : List ℕ) (p : ℕ) → List·Memᴰ p (unblanked counts ps) → List·Memᴰ p ps × (counts p ≡ true)
+  unblanked-member [] p m = absurd (List·Memᴰ·not-nil (subst (List·Memᴰ p) unblanked-nil m))
+  unblanked-member (q ∷ ps) p m = go (counts q) refl (unblanked-member ps p)
+    where
+      go : (b : Bool) → counts q ≡ b → (List·Memᴰ p (unblanked counts ps) → List·Memᴰ p ps × (counts p ≡ true))
+          → List·Memᴰ p (q ∷ ps) × (counts p ≡ true)
+      go true e ih =
+          ⊎-elim (λ (i : p ≡ q). (List·Memᴰ·head i, ap counts i ∙ e)) (λ n. (List·Memᴰ·tail (ih n .0), ih n .1))
+          (List·Memᴰ·cases-cons (subst (List·Memᴰ p) (unblanked-in q ps e) m))
+      go false e ih = let n = ih (subst (List·Memᴰ p) (unblanked-out q ps e) m) in (List·Memᴰ·tail (n .0), n .1)
+
+  pub member-unblanked : (ps : List ℕ) (p : ℕ) → List·Memᴰ p ps → counts p ≡ true → List·Memᴰ p (unblanked counts ps)
+  member-unblanked [] p m c = absurd (List·Memᴰ·not-nil m)
+  member-unblanked (q ∷ ps) p m c = go (counts q) refl (member-unblanked ps p)
+    where
+      go : (b : Bool) → counts q ≡ b → (List·Memᴰ p ps → counts p ≡ true → List·Memᴰ p (unblanked counts ps)) → List·Memᴰ p (unblanked counts (q ∷ ps))
+      go true e ih =
+          subst (List·Memᴰ p) (sym (unblanked-in q ps e))
+          (⊎-elim (λ i. List·Memᴰ·head i) (λ n. List·Memᴰ·tail (ih n c)) (List·Memᴰ·cases-cons m))
+      go false e ih =
+          subst (List·Memᴰ p) (sym (unblanked-out q ps e))
+          (⊎-elim (λ (i : p ≡ q). absurd (clash (sym e ∙ ap counts (sym i) ∙ c))) (λ n. ih n c) (List·Memᴰ·cases-cons m))
+        where
+          clash : false ≡ true → ⊥
+          clash f = subst (λ b. T (not b)) f tt
+
+  pub unblanked-length : (ps : List ℕ) → length (unblanked counts ps) ≤ length ps
+  unblanked-length [] = omega (arith, ap length unblanked-nil)
+  unblanked-length (p ∷ ps) = go (counts p) refl (unblanked-length ps)
+    where
+      go : (b : Bool) → counts p ≡ b → length (unblanked counts ps) ≤ length ps → length (unblanked counts (p ∷ ps)) ≤ length (p ∷ ps)
+      go true e ih = omega (arith, ap length (unblanked-in p ps e))
+      go false e ih = omega (arith, ap length (unblanked-out p ps e))
+
+  pub unblanked-split : (ps : List ℕ) → length (unblanked counts ps) + length (unblanked (λ p. not (counts p)) ps) ≡ length ps
+  unfolding unblanked
+  unblanked-split [] = refl
+  unblanked-split (p ∷ ps) = go (counts p) (unblanked-split ps)
+    where
+      go : (b : Bool) → length (unblanked counts ps) + length (unblanked (λ q. not (counts q)) ps) ≡ length ps
+          → length (cond b (p ∷ unblanked counts ps) (unblanked counts ps))
+          + length (cond (not b) (p ∷ unblanked (λ q. not (counts q)) ps) (unblanked (λ q. not (counts q)) ps)) ≡ length (p ∷ ps)
+      go true ih = omega (arith, ih)
+      go false ih = omega (arith, ih)
+
+  pub unblanked-all : (ps : List ℕ) → ((p : ℕ) → List·Memᴰ p ps → counts p ≡ true) → unblanked counts ps ≡ ps
+  unblanked-all [] h = unblanked-nil
+  unblanked-all (p ∷ ps) h =
+      unblanked-in p ps (h p (List·Memᴰ·head refl)) ∙ ap (λ l. p ∷ l) (unblanked-all ps (λ q m. h q (List·Memᴰ·tail m)))
+
+  pub unblanked-different : {ps : List ℕ} → Different ps → Different (unblanked counts ps)
+  unblanked-different different-nil = subst Different (sym unblanked-nil) different-nil
+  unblanked-different (different-cons {a = p} {l = ps} fresh d) = go (counts p) refl (unblanked-different d)
+    where
+      go : (b : Bool) → counts p ≡ b → Different (unblanked counts ps) → Different (unblanked counts (p ∷ ps))
+      go true e ih = subst Different (sym (unblanked-in p ps e)) (different-cons (λ m. fresh (unblanked-member ps p m .0)) ih)
+      go false e ih = subst Different (sym (unblanked-out p ps e)) ih
+
+pub unblanked-ext : (c e : ℕ → Bool) (ps : List ℕ) → ((p : ℕ) → List·Memᴰ p ps → c p ≡ e p) → unblanked c ps ≡ unblanked e ps
+unfolding unblanked
+unblanked-ext c e [] h = refl
+unblanked-ext c e (p ∷ ps) h =
+    ap₂ (λ (b : Bool) (l : List ℕ). cond b (p ∷ l) l) (h p (List·Memᴰ·head refl)) (unblanked-ext c e ps (λ q m. h q (List·Memᴰ·tail m)))

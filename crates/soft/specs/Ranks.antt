@@ -1,0 +1,86 @@
+-- Ranks among the numbers below n that count: how many of them have a smaller key.
+--
+--   rankIn counts k n q    how many of those that count have k below k q
+--   late counts k n p      the key, but behind all others where p does not count: so ranks among those that count are ranks among all
+--   rank-in                for a number that counts
+--   rank-late              one that does not has all that count before it
+--   rank-in-exact          of c numbers that count, with distinct keys, exactly d have a rank below d, for any d up to c
+--   rank-in-before         a smaller rank comes from a smaller key
+use mathlib.Core.Bool.{Bool, true, false, cond, _&&_}
+use mathlib.Core.Path.{_≡_, refl, sym, ap, ap₂, _∙_}
+use mathlib.Core.Logic.{⊎-elim}
+use Prim.Native.Nat.{ℕ, zero, suc, _+_, _<_, _≤_}
+use native.Mathlib.Nat.{eq-or-lt-of-le, le-of-suc-le-suc}
+use native.Mathlib.Omega.{arith}
+use lib.Dec.{T, ltb, lt→ltb}
+use borrow.Author.Tests.{le-ltb}
+use Rattle.lists.specs.Count.{sumOf, sumOf-suc, count, count-ext, count-le, count-mono}
+use Rattle.lists.specs.Every.{T-true}
+use Rattle.lists.specs.Rank.{rankOf, rank-exact, rank-before}
+
+unfoldable pub rankIn : (ℕ → Bool) → (ℕ → ℕ) → ℕ → ℕ → ℕ
+rankIn counts k n q = count n (λ p. counts p && ltb (k p) (k q))
+
+sum-above : (n : ℕ) (f : ℕ → ℕ) (i : ℕ) → i < n → f i ≤ sumOf n f
+sum-above zero f i h = absurd (omega arith)
+sum-above (suc n) f i h =
+    ⊎-elim (λ (e : i ≡ n). omega (arith, sumOf-suc n f, ap f e)) (λ l. omega (arith, sumOf-suc n f, sum-above n f i l))
+    (eq-or-lt-of-le (le-of-suc-le-suc h))
+
+module _ (counts : ℕ → Bool) (k : ℕ → ℕ) (n : ℕ) where
+  abbrev behind : ℕ
+  behind = suc (sumOf n k)
+
+  abbrev late : ℕ → ℕ
+  late p = cond (counts p) (k p) (behind + p)
+
+  in-time : (p : ℕ) → counts p ≡ true → late p ≡ k p
+  in-time p e = ap (λ b. cond b (k p) (behind + p)) e
+
+  too-late : (p : ℕ) → counts p ≡ false → late p ≡ behind + p
+  too-late p e = ap (λ b. cond b (k p) (behind + p)) e
+
+  rank-in : (q : ℕ) → q < n → counts q ≡ true → rankIn counts k n q ≡ rankOf late n q
+  unfolding rankIn rankOf
+  rank-in q l e = count-ext n (λ p. counts p && ltb (k p) (k q)) (λ p. ltb (late p) (late q)) (λ p h. at p h (counts p) refl)
+    where
+      at : (p : ℕ) → p < n → (b : Bool) → counts p ≡ b → (counts p && ltb (k p) (k q)) ≡ ltb (late p) (late q)
+      at p h true f = ap (λ b. b && ltb (k p) (k q)) f ∙ sym (ap₂ ltb (in-time p f) (in-time q e))
+      at p h false f =
+          ap (λ b. b && ltb (k p) (k q)) f
+          ∙ sym (le-ltb (late p) (late q) (omega (arith, too-late p f, in-time q e, sum-above n k q l)))
+
+  rank-late : (q : ℕ) → q < n → counts q ≡ false → count n counts ≤ rankOf late n q
+  unfolding rankOf
+  rank-late q l e =
+      count-mono n counts (λ p. ltb (late p) (late q))
+      (λ p h t. lt→ltb (late p) (late q) (omega (arith, in-time p (T-true (counts p) t), too-late q e, sum-above n k p h)))
+
+  module _ (distinct : (p q : ℕ) → p < n → q < n → k p ≡ k q → p ≡ q) where
+    late-distinct : (p q : ℕ) → p < n → q < n → late p ≡ late q → p ≡ q
+    late-distinct p q lp lq e = go (counts p) refl (counts q) refl
+      where
+        go : (a : Bool) → counts p ≡ a → (b : Bool) → counts q ≡ b → p ≡ q
+        go true f true g = distinct p q lp lq (sym (in-time p f) ∙ e ∙ in-time q g)
+        go true f false g = absurd (omega (arith, e, in-time p f, too-late q g, sum-above n k p lp))
+        go false f true g = absurd (omega (arith, e, too-late p f, in-time q g, sum-above n k q lq))
+        go false f false g = omega (arith, e, too-late p f, too-late q g)
+
+    pub rank-in-exact : (d : ℕ) → d ≤ count n counts → count n (λ q. counts q && ltb (rankIn counts k n q) d) ≡ d
+    rank-in-exact d few =
+        count-ext n (λ q. counts q && ltb (rankIn counts k n q) d) (λ q. ltb (rankOf late n q) d) (λ q l. at q l (counts q) refl)
+        ∙ rank-exact late n d late-distinct (omega (arith, count-le n counts))
+      where
+        at : (q : ℕ) → q < n → (b : Bool) → counts q ≡ b → (counts q && ltb (rankIn counts k n q) d) ≡ ltb (rankOf late n q) d
+        at q l true e = ap (λ b. b && ltb (rankIn counts k n q) d) e ∙ ap (λ r. ltb r d) (rank-in q l e)
+        at q l false e =
+            ap (λ b. b && ltb (rankIn counts k n q) d) e ∙ sym (le-ltb (rankOf late n q) d (omega (arith, rank-late q l e)))
+
+  pub rank-in-before : (p q : ℕ) → p < n → q < n → counts p ≡ true → counts q ≡ true → rankIn counts k n p < rankIn counts k n q → k p < k q
+  rank-in-before p q lp lq cp cq h =
+      omega (
+        arith,
+        rank-before late n p q (omega (arith, h, rank-in p lp cp, rank-in q lq cq)),
+        in-time p cp,
+        in-time q cq,
+      )
