@@ -160,9 +160,24 @@ static void faded(size_t m, size_t blanks, unsigned cost)
         }
 }
 
-/* With b blank places T is the largest number with 2T + b < 14 at rate 39 and 2T + b < 4 at rate 49. */
+/* With b blank places T is the largest number with 2T + b below a bound: T wrong places are repaired,
+ * and one more is refused. */
+static void every_reach(size_t rate, size_t bound)
+{
+    for (size_t b = 0; b < bound; b++) {
+        size_t t = (bound - 1 - b) / 2;
+        faded(t, b, 7);
+        answers(rate, 0, (unsigned)(7 * b + 30 * t), 1, 0, (unsigned)t, ABSENT, "T wrong places beside the blank ones");
+        faded(t + 1, b, 7);
+        refused(rate, HERMITIAN_TABLE_BYTES, 0, rate, HERMITIAN_REPORT_BYTES, HERMITIAN_NONE_NEAR, "T + 1 wrong places beside the blank ones");
+    }
+}
+
+/* The bound is 14 at rate 39 and 4 at rate 49. */
 static void blank_places(void)
 {
+    every_reach(39, 14);
+    every_reach(49, 4);
     faded(0, 13, 7);
     answers(39, 0, 13u * 7u, 1, 0, 0, ABSENT, "13 blank places at rate 39");
     faded(0, 13, 65535);
@@ -170,7 +185,7 @@ static void blank_places(void)
     faded(1, 13, 7);
     refused(39, HERMITIAN_TABLE_BYTES, 0, 39, HERMITIAN_REPORT_BYTES, HERMITIAN_NONE_NEAR, "13 blank places leave T = 0");
     answers(39, 1, 13u * 7u + 30u, 1, 0, 1, ABSENT, "no blank place is picked as doubtful: place 0 is");
-    faded(2, 12, 7);
+    faded(1, 12, 7);
     refused(39, HERMITIAN_TABLE_BYTES, 0, 39, HERMITIAN_REPORT_BYTES, HERMITIAN_NONE_NEAR, "12 blank places leave T = 0");
     faded(1, 11, 7);
     answers(39, 0, 11u * 7u + 30u, 1, 0, 1, ABSENT, "11 blank places leave T = 1");
@@ -194,8 +209,9 @@ static void blank_places(void)
         refused(49, HERMITIAN_TABLE_BYTES, 9, 49, HERMITIAN_REPORT_BYTES, HERMITIAN_WRONG_DOUBT, "the doubt comes first");
     }
     frame_s(0);
-    put_cost(5, 1, 0);
-    answers(39, 0, 0, 1, 0, 0, ABSENT, "a gap of zero is not blank");
+    for (size_t place = 1; place <= 14; place++)
+        put_cost(place, 1, 0);
+    answers(39, 0, 0, 1, 0, 0, ABSENT, "14 places with a gap of zero: none of them is blank");
 }
 
 /* Each wrong argument set beside those that a later check would refuse. */

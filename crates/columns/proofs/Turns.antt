@@ -4,8 +4,8 @@
 --   best-of, second-of, gap-fits, gap-of   best, second and gap of a column of n costs
 --   pair-missing           two bytes past the end
 --   column-missing, cost-missing   a place past the last costs
---   blank-start, blank-differs, blank-all   a column's costs compared with the first: before the second one, where one differs, where none does
---   open-start, open-differs, open-none     the same of a place, read off a list of costs
+--   open-missing           a place that lacks all its costs is blank
+--   open-start, open-differs, open-none   its costs compared with the first: before the second one, where one differs, where none does
 use mathlib.Core.Bool.{Bool, true, false, not}
 use mathlib.Core.Path.{_≡_, refl, sym, ap, ap₂, _∙_, subst, subst₂}
 use mathlib.Core.List.{List}
@@ -18,7 +18,7 @@ use Rattle.lists.specs.Listed.{listed-by}
 use Rattle.soft.specs.Column.{costOf, pairAt, costAt, columnOf, bestBut, betterIn, bestOf, secondOf, gapOf, isBlank}
 use Rattle.soft.specs.ColumnLaws.{bestBut-suc, bestBut-below, best-least, second-below, column-length, cost-column}
 use Rattle.soft.specs.Blank.{openAt}
-use Rattle.soft.specs.BlankLaws.{blank-same}
+use Rattle.soft.specs.BlankLaws.{blank-same, column-none}
 
 pub bestBut-turn : (column : List ℕ) (b n held r : ℕ) → held ≡ bestBut column b n → r ≡ betterIn column b held n → r ≡ bestBut column b (n + 1)
 bestBut-turn column b n held r e f =
@@ -63,38 +63,31 @@ module _ (q : ℕ) (costs : List ℕ) (p : ℕ) (h : length costs < p * q) where
   pub cost-missing : (s : ℕ) → s < q → 0 ≡ costOf (columnOf q costs p) s
   cost-missing s l = sym (cost-column q costs p s l ∙ List·getD-eq-default costs 0 (omega arith))
 
--- in a column of n costs, where a loop compares those from the second on with the first
-pub blank-start : (column : List ℕ) (s : ℕ) → s < 1 → costOf column s ≡ costOf column 0
-blank-start column s l = let e : s ≡ 0 = omega arith in ap (costOf column) e
+-- at a place of a list of costs: it lacks them all, or a loop compares those from the second on with the first
+module _ (q : ℕ) (costs : List ℕ) (p : ℕ) where
+  pub open-missing : length costs < p * q → false ≡ openAt (columnOf q costs) p
+  open-missing h = sym (ap not (column-none q costs p (omega arith)))
 
-module _ {n : ℕ} (column : List ℕ) (l : length column ≡ n) where
-  pub blank-differs : (s : ℕ) → s < n → costOf column s ≢ costOf column 0 → false ≡ isBlank column
-  blank-differs s k d = go (isBlank column) refl
+  pub open-none : (first : ℕ) → ((s : ℕ) → s < q → costAt q costs p s ≡ first) → false ≡ openAt (columnOf q costs) p
+  open-none first h = sym (ap not (blank-same (columnOf q costs p) .1 (λ s t ls lt. at s ls ∙ sym (at t lt))))
     where
-      go : (b : Bool) → isBlank column ≡ b → false ≡ isBlank column
-      go true e = absurd (d (blank-same column .0 e s 0 (omega arith) (omega arith)))
-      go false e = sym e
+      at : (s : ℕ) → s < length (columnOf q costs p) → costOf (columnOf q costs p) s ≡ first
+      at s l =
+          let k : s < q = omega (arith, column-length q costs p) in
+          cost-column q costs p s k ∙ h s k
 
-  pub blank-all : ((s : ℕ) → s < n → costOf column s ≡ costOf column 0) → true ≡ isBlank column
-  blank-all h = sym (blank-same column .1 (λ s t ls lt. h s (omega arith) ∙ sym (h t (omega arith))))
+  module _ (first : ℕ) (f : first ≡ getD costs (p * q) 0) where
+    pub open-start : (s : ℕ) → s < 1 → costAt q costs p s ≡ first
+    open-start s l = let e : p * q + s ≡ p * q = omega arith in ap (λ i. getD costs i 0) e ∙ sym f
 
--- at a place of a list of costs, whose first cost stands at `from`
-pub open-start : (costs : List ℕ) (from s : ℕ) → s < 1 → getD costs (from + s) 0 ≡ getD costs from 0
-open-start costs from s l = let e : from + s ≡ from = omega arith in ap (λ i. getD costs i 0) e
+    pub open-differs : (s : ℕ) → s < q → costAt q costs p s ≢ first → true ≡ openAt (columnOf q costs) p
+    open-differs s l d = go (isBlank (columnOf q costs p)) refl
+      where
+        same : isBlank (columnOf q costs p) ≡ true → costOf (columnOf q costs p) s ≡ costOf (columnOf q costs p) 0
+        same b = blank-same (columnOf q costs p) .0 b s 0 (omega (arith, column-length q costs p)) (omega (arith, column-length q costs p))
 
-module _ (q : ℕ) (costs : List ℕ) (p from : ℕ) (f : from ≡ p * q) where
-  cost-from : (s : ℕ) → s < q → costOf (columnOf q costs p) s ≡ getD costs (from + s) 0
-  cost-from s l = cost-column q costs p s l ∙ ap (λ i. getD costs (i + s) 0) (sym f)
-
-  first : 0 < q → costOf (columnOf q costs p) 0 ≡ getD costs from 0
-  first l = cost-from 0 l ∙ open-start costs from 0 (omega arith)
-
-  pub open-differs : (s : ℕ) → s < q → getD costs (from + s) 0 ≢ getD costs from 0 → true ≡ openAt (columnOf q costs) p
-  open-differs s l d =
-      ap not
-      (blank-differs (columnOf q costs p) (column-length q costs p) s l (λ e. d (sym (cost-from s l) ∙ e ∙ first (omega arith))))
-
-  pub open-none : ((s : ℕ) → s < q → getD costs (from + s) 0 ≡ getD costs from 0) → false ≡ openAt (columnOf q costs) p
-  open-none h =
-      ap not
-      (blank-all (columnOf q costs p) (column-length q costs p) (λ s l. cost-from s l ∙ h s l ∙ sym (first (omega arith))))
+        go : (b : Bool) → isBlank (columnOf q costs p) ≡ b → true ≡ openAt (columnOf q costs) p
+        go true b =
+            absurd
+            (d (sym (cost-column q costs p s l) ∙ same b ∙ cost-column q costs p 0 (omega arith) ∙ open-start 0 (omega arith)))
+        go false b = sym (ap not b)

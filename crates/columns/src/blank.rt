@@ -1,27 +1,26 @@
 // Blank places (erasures): those whose column has all its costs equal. Nothing is known there.
 use crate::bit::bit;
-use crate::column::is_blank;
 use crate::costs::PLACES;
 use crate::costs::SYMBOLS;
-use crate::costs::column_of;
+use crate::costs::number_at;
 ghost use mathlib.Core.Path.{_≡_};
 ghost use mathlib.Core.Bool.{not};
 ghost use Rattle.lists.specs.Count.{count};
 ghost use Rattle.soft.specs.Column.{places, symbols, columnOf};
 ghost use Rattle.soft.specs.Blank.{openAt, flagAt, flagsOf};
 
-// Whether a place is not blank. Its costs are compared where they stand, up to the first that differs: every frame asks this of every place.
-// Only a place that lacks costs has its column copied.
+// Whether a place is not blank: not all its costs are equal, whatever its gap. They are compared where they stand, up to the first that differs:
+// every frame asks this of every place. Past the last costs all read as 0, and `place * SYMBOLS` is not asked for.
 pub fn is_open(costs: &[u16], place: usize) -> bool
     ensures { λ r. ⌜ r ≡ openAt (columnOf symbols (now (costs .entry))) place ⌝ }
 {
-    if costs.len() / SYMBOLS <= place {
-        return !is_blank(column_of(costs, place));
+    if costs.len() / SYMBOLS < place {
+        return false;
     }
-    let from = place * SYMBOLS;
+    let first = number_at(costs, place * SYMBOLS);
     let mut s = 1;
     while s < SYMBOLS {
-        if costs[from + s] != costs[from] {
+        if number_at(costs, place * SYMBOLS + s) != first {
             return true;
         }
         s += 1;

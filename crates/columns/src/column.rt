@@ -1,7 +1,7 @@
-// A column's best symbol, second symbol and gap, and whether it is blank.
+// A column's best symbol, second symbol and gap.
 use crate::costs::SYMBOLS;
 ghost use mathlib.Core.Path.{_≡_};
-ghost use Rattle.soft.specs.Column.{firstBut, betterOf, bestBut, symbols, bestOf, secondOf, gapOf, isBlank};
+ghost use Rattle.soft.specs.Column.{firstBut, betterOf, bestBut, symbols, bestOf, secondOf, gapOf};
 
 fn first_but(but: usize) -> usize
     ensures { λ r. ⌜ r ≡ firstBut but ⌝ }
@@ -54,18 +54,4 @@ pub fn gap(column: [u16; SYMBOLS]) -> u16
     let first = best_but(column, SYMBOLS);
     let second = best_but(column, first);
     column[second] - column[first]
-}
-
-// All costs are equal, not only the two least: a gap of zero is no blank.
-pub fn is_blank(column: [u16; SYMBOLS]) -> bool
-    ensures { λ r. ⌜ r ≡ isBlank column ⌝ }
-{
-    let mut s = 1;
-    while s < SYMBOLS {
-        if column[s] != column[0] {
-            return false;
-        }
-        s += 1;
-    }
-    true
 }

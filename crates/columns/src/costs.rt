@@ -19,7 +19,7 @@ pub fn byte_at(bytes: &[u8], at: usize) -> u8
     0
 }
 
-fn number_at(costs: &[u16], at: usize) -> u16
+pub fn number_at(costs: &[u16], at: usize) -> u16
     ensures { λ r. ⌜ r ≡ getD (now (costs .entry)) at 0 ⌝ }
 {
     if at < costs.len() {

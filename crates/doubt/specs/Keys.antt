@@ -1,7 +1,8 @@
 -- Keys that put the places of a table in the order of doubt: a place with a smaller key is ahead. Those of blank places are from a bound on, which
 -- no other key reaches, so a blank place is ahead of none that is not.
 --
---   far                    the bound for 64 places with gaps of two bytes
+--   far                    the bound for 64 places with gaps up to the ceiling
+--   entryOf keys p         the key of place p in a list
 --   KeyOf n far columns p key   the key of place p, of n places
 --   Keyed n far columns keys    the keys of all of them
 --   chosenWith far d key rank   a place with this key and so many ahead of it is not blank, and fewer than d are ahead
@@ -14,15 +15,20 @@ use mathlib.Core.List.{List}
 use Prim.Native.Nat.{ℕ, _+_, _*_, _<_, _≤_}
 use native.Mathlib.Omega.{arith}
 use lib.Dec.{ltb}
+use lib.ListN.{getD}
 use borrow.Author.Tests.{lt-ltb, le-ltb}
-use Rattle.lists.specs.Count.{count-ext}
 use Rattle.lists.specs.Rank.{rankOf}
 use Rattle.soft.specs.Blank.{openAt}
-use Rattle.soft.specs.Doubt.{ahead, aheadOf, fewAhead, entryOf, gapAt}
-use Rattle.soft.specs.DoubtLaws.{ahead-key}
+use Rattle.soft.specs.Column.{places, ceiling}
+use Rattle.soft.specs.Doubt.{aheadOf, fewAhead, gapAt}
+use Rattle.soft.specs.DoubtLaws.{ahead-rank}
+use Rattle.soft.specs.Ranks.{rank-in}
 
 abbrev pub far : ℕ
-far = 4194304
+far = (ceiling + 1) * places
+
+abbrev pub entryOf : List ℕ → ℕ → ℕ
+entryOf keys p = getD keys p 0
 
 pub record KeyOf (n far : ℕ) (columns : ℕ → List ℕ) (p key : ℕ) : Type 0 where
   pub ordered : openAt columns p ≡ true → (key ≡ gapAt columns p * n + p) × (key < far)
@@ -39,22 +45,11 @@ chosenBy n far d keys q = chosenWith far d (entryOf keys q) (rankOf (entryOf key
 
 module _ {n far : ℕ} {columns : ℕ → List ℕ} {keys : List ℕ} (K : Keyed n far columns keys) where
   pub rank-ahead : (q : ℕ) → q < n → openAt columns q ≡ true → rankOf (entryOf keys) n q ≡ aheadOf n (openAt columns) (gapAt columns) q
-  unfolding rankOf aheadOf
   rank-ahead q l o =
-      count-ext n (λ p. ltb (entryOf keys p) (entryOf keys q)) (λ p. openAt columns p && ahead (gapAt columns) p q)
-      (λ p k. place p k (openAt columns p) refl)
-    where
-      own : (entryOf keys q ≡ gapAt columns q * n + q) × (entryOf keys q < far)
-      own = K .at q l .ordered o
-
-      place : (p : ℕ) → p < n → (b : Bool) → openAt columns p ≡ b
-          → ltb (entryOf keys p) (entryOf keys q) ≡ (openAt columns p && ahead (gapAt columns) p q)
-      place p k true e =
-          ap₂ ltb (K .at p k .ordered e .0) (own .0) ∙ sym (ahead-key n (gapAt columns) p q k l)
-          ∙ sym (ap (λ b. b && ahead (gapAt columns) p q) e)
-      place p k false e =
-          le-ltb (entryOf keys p) (entryOf keys q) (omega (arith, own .1, K .at p k .behind e))
-          ∙ sym (ap (λ b. b && ahead (gapAt columns) p q) e)
+      sym
+      (ahead-rank n (gapAt columns) (openAt columns) q l
+      ∙ rank-in (openAt columns) (λ p. gapAt columns p * n + p) (entryOf keys) n (λ p k e. K .at p k .ordered e .0)
+      (λ p r k h b e. omega (arith, K .at r h .ordered e .0, K .at r h .ordered e .1, K .at p k .behind b)) q l o)
 
   pub chosen-few : (d q : ℕ) → q < n → chosenBy n far d keys q ≡ fewAhead n d (openAt columns) (gapAt columns) q
   chosen-few d q l = go (openAt columns q) refl

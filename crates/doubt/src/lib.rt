@@ -10,14 +10,14 @@ ghost use Prim.Native.Nat.{_<_};
 ghost use lib.ListN.{set};
 ghost use Rattle.lists.specs.Rank.{rankOf};
 ghost use Rattle.soft.specs.Column.{places, symbols, columnOf};
-ghost use Rattle.soft.specs.Doubt.{doubtfulOf, entryOf};
-ghost use Rattle.doubt.specs.Keys.{far, KeyOf, Keyed, chosenWith};
+ghost use Rattle.soft.specs.Doubt.{doubtfulOf};
+ghost use Rattle.doubt.specs.Keys.{far, entryOf, KeyOf, Keyed, chosenWith};
 ghost use Rattle.doubt.specs.Picked.{PickedOf};
 
 pub const MOST_DOUBT: usize = 8;
 
-// Above the key of every place that is not blank: 65,536 gaps times 64 places.
-const FAR: u32 = 4194304;
+// Above the key of every place that is not blank: 65,536 gaps times the places.
+const FAR: u32 = 65536 * PLACES as u32;
 
 // Places from the front of an array, and how many they are.
 pub struct Picked {

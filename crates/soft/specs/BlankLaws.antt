@@ -2,7 +2,6 @@
 --
 --   blank-same             a column is blank exactly if any two of its costs are equal
 --   open-count             the places that are not blank and the blank ones are all
---   blanks-le, blanks-ext  at most n of n places are blank; only the columns of the places matter
 --   flags-length, flags-at  a flag for each place says whether it is not blank,
 --   flags-blanks           so many of them are not 1 as places are blank
 --   flags-open             and they say it at every place, where those behind the n are blank
@@ -10,7 +9,6 @@
 --   unblanked-nil, unblanked-in, unblanked-out, unblanked-snoc   the definition step by step
 --   unblanked-member       a place of those that count is in the list, and counts; member-unblanked: and the other way round
 --   unblanked-length       they are no more than the list has; unblanked-split: with those that do not count they are as many
---   unblanked-all          where all count, they are the list
 --   unblanked-ext          only what is said of the list's places matters
 --   unblanked-different    different places stay different
 use mathlib.Core.Bool.{Bool, true, false, not, cond}
@@ -22,8 +20,8 @@ use native.Mathlib.Decide.{decLt}
 use native.Mathlib.Omega.{arith}
 use lib.Dec.{T, eqb, eqb→eq}
 use lib.ListN.{length, List·getD-eq-default}
-use borrow.Author.Tests.{eq-eqb, not-true}
-use Rattle.lists.specs.Count.{bit, count, count-nil, count-suc, count-ext, count-le}
+use borrow.Author.Tests.{eq-eqb}
+use Rattle.lists.specs.Count.{bit, count, count-nil, count-suc, count-ext}
 use Rattle.lists.specs.Every.{every, every-at, every-true, true-T}
 use Rattle.lists.specs.Listed.{listed-length, listed-at}
 use Rattle.lists.specs.Different.{Different, different-nil, different-cons}
@@ -62,14 +60,6 @@ open-count (suc n) columns =
       count-suc n (blankAt columns),
       opposite (blankAt columns n),
     )
-
-pub blanks-le : (n : ℕ) (columns : ℕ → List ℕ) → blanksOf n columns ≤ n
-unfolding blanksOf
-blanks-le n columns = count-le n (blankAt columns)
-
-pub blanks-ext : (n : ℕ) (c e : ℕ → List ℕ) → ((p : ℕ) → p < n → c p ≡ e p) → blanksOf n c ≡ blanksOf n e
-unfolding blanksOf
-blanks-ext n c e h = count-ext n (blankAt c) (blankAt e) (λ p l. ap isBlank (h p l))
 
 flag-bit : (b : Bool) → eqb (bit b) 1 ≡ b
 flag-bit true = refl
@@ -186,11 +176,6 @@ module _ (counts : ℕ → Bool) where
           + length (cond (not b) (p ∷ unblanked (λ q. not (counts q)) ps) (unblanked (λ q. not (counts q)) ps)) ≡ length (p ∷ ps)
       go true ih = omega (arith, ih)
       go false ih = omega (arith, ih)
-
-  pub unblanked-all : (ps : List ℕ) → ((p : ℕ) → List·Memᴰ p ps → counts p ≡ true) → unblanked counts ps ≡ ps
-  unblanked-all [] h = unblanked-nil
-  unblanked-all (p ∷ ps) h =
-      unblanked-in p ps (h p (List·Memᴰ·head refl)) ∙ ap (λ l. p ∷ l) (unblanked-all ps (λ q m. h q (List·Memᴰ·tail m)))
 
   pub unblanked-different : {ps : List ℕ} → Different ps → Different (unblanked counts ps)
   unblanked-different different-nil = subst Different (sym unblanked-nil) different-nil

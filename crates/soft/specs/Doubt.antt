@@ -13,7 +13,6 @@ use mathlib.Core.Bool.{Bool, _&&_, _||_}
 use mathlib.Core.List.{List}
 use Prim.Native.Nat.{ℕ}
 use lib.Dec.{ltb, eqb}
-use lib.ListN.{getD}
 use Rattle.lists.specs.Count.{count, kept}
 use Rattle.soft.specs.Column.{gapOf}
 use Rattle.soft.specs.Blank.{openAt}
@@ -36,10 +35,6 @@ fewAhead n d counts gap q = counts q && ltb (aheadOf n counts gap q) d
 
 unfoldable pub smallest : ℕ → ℕ → (ℕ → Bool) → (ℕ → ℕ) → List ℕ
 smallest n d counts gap = kept n (fewAhead n d counts gap)
-
--- the gaps as a list
-abbrev pub entryOf : List ℕ → ℕ → ℕ
-entryOf l p = getD l p 0
 
 abbrev pub gapAt : (ℕ → List ℕ) → ℕ → ℕ
 gapAt columns p = gapOf (columns p)

@@ -1,13 +1,13 @@
 -- Laws of the doubtful places.
 --
 --   ahead-key              of two of n places one is ahead exactly if its key, the gap times n plus the place, is smaller
+--   ahead-rank             so the places ahead are counted by a rank
 --   smallest-length        exactly d places are chosen, where so many count; smallest-most: never more
 --   smallest-all           all that count, where they are no more than d; doubtful-all: all places that are not blank
 --   smallest-rising, smallest-below, smallest-counts, smallest-few, smallest-member   they rise, are places that count, and are those with fewer
 --                          than d such places ahead of them
 --   smallest-ahead         each chosen place is ahead of each place that counts and is not chosen
 --   doubtful-length, doubtful-most, doubtful-rising, doubtful-below, doubtful-open, doubtful-ahead   the same of a table's doubtful places
---   doubtful-unblanked     none of them is blank, so all of them are doubled
 --   doubtful-none          no doubt, no doubtful places
 --   aheadOf-ext, smallest-ext, doubtful-ext   only the n places matter
 use mathlib.Core.Bool.{Bool, true, false, not, _&&_}
@@ -24,8 +24,8 @@ use Rattle.lists.specs.Count.{count, count-ext, count-mono, count-strict, kept,
 use Rattle.lists.specs.Distinct.{and-both}
 use Rattle.lists.specs.Every.{both-left, both-right, both-intro, T-true, true-T}
 use Rattle.soft.specs.Column.{gapOf, isBlank}
-use Rattle.soft.specs.Blank.{openAt, blanksOf, unblanked}
-use Rattle.soft.specs.BlankLaws.{open-count, unblanked-all}
+use Rattle.soft.specs.Blank.{openAt, blanksOf}
+use Rattle.soft.specs.BlankLaws.{open-count}
 use Rattle.soft.specs.Ranks.{rankIn, rank-in-exact, rank-in-before}
 use Rattle.soft.specs.Doubt.{ahead, aheadBy, aheadOf, fewAhead, smallest, gapAt, doubtfulOf}
 
@@ -102,7 +102,7 @@ module _ (n : ℕ) (gap : ℕ → ℕ) where
 
   module _ (counts : ℕ → Bool) where
     -- so the places ahead are counted by a rank
-    ahead-rank : (q : ℕ) → q < n → aheadOf n counts gap q ≡ rankIn counts key n q
+    pub ahead-rank : (q : ℕ) → q < n → aheadOf n counts gap q ≡ rankIn counts key n q
     unfolding aheadOf rankIn
     ahead-rank q l =
         count-ext n (λ p. counts p && ahead gap p q) (λ p. counts p && ltb (key p) (key q))
@@ -216,9 +216,6 @@ module _ (n d : ℕ) (columns : ℕ → List ℕ) where
   pub doubtful-open : (p : ℕ) → List·Memᴰ p (doubtfulOf n d columns) → openAt columns p ≡ true
   unfolding doubtfulOf
   doubtful-open = smallest-counts n (gapAt columns) (openAt columns) d
-
-  pub doubtful-unblanked : unblanked (openAt columns) (doubtfulOf n d columns) ≡ doubtfulOf n d columns
-  doubtful-unblanked = unblanked-all (openAt columns) (doubtfulOf n d columns) doubtful-open
 
   pub doubtful-ahead : (p q : ℕ) → List·Memᴰ p (doubtfulOf n d columns) → q < n → openAt columns q ≡ true
       → (List·Memᴰ q (doubtfulOf n d columns) → ⊥) → T (ahead (gapAt columns) p q)

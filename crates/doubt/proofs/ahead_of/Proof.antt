@@ -6,7 +6,7 @@ use lib.Dec.{ltb}
 use borrow.Author.Needs.{needs}
 use Rattle.lists.specs.Count.{count, count-nil, count-turn}
 use Rattle.lists.specs.Rank.{rankOf}
-use Rattle.soft.specs.Doubt.{entryOf}
+use Rattle.doubt.specs.Keys.{entryOf}
 use Rattle.doubt.proofs.ahead_of.Statement.{statement}
 use Rattle.doubt.proofs.ahead_of.Tie as tie
 

@@ -5,8 +5,7 @@ use native.Mathlib.Omega.{arith}
 use borrow.Author.Needs.{needs}
 use Rattle.lists.specs.Count.{bit, count, count-nil, count-turn, kept}
 use Rattle.lists.specs.Padded.{padded}
-use Rattle.soft.specs.Doubt.{entryOf}
-use Rattle.doubt.specs.Keys.{far, chosenWith, chosenBy}
+use Rattle.doubt.specs.Keys.{far, entryOf, chosenWith, chosenBy}
 use Rattle.doubt.proofs.Turns.{places-start, places-turn, chosen-places, chosen-count, skipped-places, skipped-count}
 use Rattle.doubt.proofs.doubtful.Statement.{statement}
 use Rattle.doubt.proofs.doubtful.Tie as tie

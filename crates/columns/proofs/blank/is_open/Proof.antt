@@ -1,54 +1,45 @@
 -- `columns::blank::is_open` meets its contract. The loop's invariant: the costs passed are equal to the first.
-use mathlib.Core.Bool.{not}
-use mathlib.Core.Path.{_≡_, refl, ap, _∙_}
-use Prim.Native.Nat.{ℕ, _+_, _≤_, _<_, _-_}
+use mathlib.Core.Path.{_≡_, sym, _∙_}
+use Prim.Native.Nat.{ℕ, _≤_, _<_, _-_}
 use native.Mathlib.Omega.{arith}
-use lib.ListN.{getD}
 use borrow.Author.Count.{below-more}
 use borrow.Author.Needs.{needs}
-use Rattle.soft.specs.Column.{isBlank}
-use Rattle.columns.proofs.Turns.{open-start, open-differs, open-none}
+use Rattle.soft.specs.Column.{costAt}
+use Rattle.columns.proofs.Turns.{open-missing, open-start, open-differs, open-none}
 use Rattle.columns.proofs.blank.is_open.Statement.{statement}
 use Rattle.columns.proofs.blank.is_open.Tie as tie
 
 abbrev Inv-loop : tie.InvT-loop
-Inv-loop costs place from s₀ s = (s ≤ 16) × ((t : ℕ) → t < s → getD costs (from + t) 0 ≡ getD costs from 0)
+Inv-loop costs place first s₀ s = (s ≤ 16) × ((t : ℕ) → t < s → costAt 16 costs place t ≡ first)
 
 abbrev μ-loop : tie.MeasureT-loop
-μ-loop costs place from s₀ s = 16 - s
-
-column-of-requires : tie.Need-column-of-requires Inv-loop μ-loop
-column-of-requires c κs = search needs
-
-is-blank-requires : tie.Need-is-blank-requires Inv-loop μ-loop
-is-blank-requires c κs = search needs
+μ-loop costs place first s₀ s = 16 - s
 
 returns : tie.Need-returns Inv-loop μ-loop
-returns c = ap not (c .is-blank .ensures ∙ ap isBlank (c .before .column-of .ensures))
+returns c = open-missing 16 _ _ (omega arith)
 
-mul-from : tie.Need-mul-from Inv-loop μ-loop
-mul-from c = search needs
+mul-number-at : tie.Need-mul-number-at Inv-loop μ-loop
+mul-number-at c = search needs
+
+number-at-requires : tie.Need-number-at-requires Inv-loop μ-loop
+number-at-requires c κs = search needs
 
 loop-holds : tie.Need-loop-holds Inv-loop μ-loop
-loop-holds c = (omega arith, open-start (c .before .before .args .costs .now) _)
+loop-holds c = (omega arith, open-start 16 (c .before .before .before .args .costs .now) _ _ (c .number-at .ensures))
 
-add-if2 : tie.Need-add-if2 Inv-loop μ-loop
-add-if2 c = search needs
+mul-number-at-2 : tie.Need-mul-number-at-2 Inv-loop μ-loop
+mul-number-at-2 c = search needs
 
-mul-if2 : tie.Need-mul-if2 Inv-loop μ-loop
-mul-if2 c = search needs
+add-number-at : tie.Need-add-number-at Inv-loop μ-loop
+add-number-at c = search needs
 
-shared-slice-read-if2 : tie.Need-shared-slice-read-if2 Inv-loop μ-loop
-shared-slice-read-if2 c = search needs
-
-mul-if2-2 : tie.Need-mul-if2-2 Inv-loop μ-loop
-mul-if2-2 c = search needs
-
-shared-slice-read-if2-2 : tie.Need-shared-slice-read-if2-2 Inv-loop μ-loop
-shared-slice-read-if2-2 c = search needs
+number-at-requires-2 : tie.Need-number-at-requires-2 Inv-loop μ-loop
+number-at-requires-2 c κs = search needs
 
 returns-2 : tie.Need-returns-2 Inv-loop μ-loop
-returns-2 c = open-differs 16 _ _ _ refl _ (c .before .before .before .loop-test .taken) (c .if2 .taken)
+returns-2 c =
+    open-differs 16 _ _ _ (c .before .before .before .before .number-at .ensures) _ (omega (arith, c .before .before .loop-test .taken))
+    (λ e. c .if2 .taken (c .before .number-at2 .ensures ∙ e))
 
 add-s : tie.Need-add-s Inv-loop μ-loop
 add-s c = search needs
@@ -57,10 +48,11 @@ loop-less : tie.Need-loop-less Inv-loop μ-loop
 loop-less c = search needs
 
 loop-again : tie.Need-loop-again Inv-loop μ-loop
-loop-again c = (omega arith, below-more _ _ (c .before .before .before .before .loop .inv .1) (c .if2 .left))
+loop-again c =
+    (omega arith, below-more _ _ (c .before .before .before .loop .inv .1) (sym (c .before .number-at2 .ensures) ∙ c .if2 .left))
 
 returns-3 : tie.Need-returns-3 Inv-loop μ-loop
-returns-3 c = open-none 16 _ _ _ refl (λ s k. c .before .loop .inv .1 s (omega (arith, c .loop-test .left)))
+returns-3 c = open-none 16 _ _ _ (λ s k. c .before .loop .inv .1 s (omega (arith, c .loop-test .left)))
 
 pub is-open-spec : {M : Type 1} → statement M
 is-open-spec =
@@ -68,16 +60,13 @@ is-open-spec =
     (tie.spec
     Inv-loop
     μ-loop
-    column-of-requires
-    is-blank-requires
     returns
-    mul-from
+    mul-number-at
+    number-at-requires
     loop-holds
-    add-if2
-    mul-if2
-    shared-slice-read-if2
-    mul-if2-2
-    shared-slice-read-if2-2
+    mul-number-at-2
+    add-number-at
+    number-at-requires-2
     returns-2
     add-s
     loop-less
