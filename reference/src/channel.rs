@@ -4,6 +4,7 @@
 //! - [`Channel`], [`Channel::at`]: the noise of a rate at an Eb/N0.
 //! - [`Channel::column`]: what is received of one symbol.
 //! - [`column_of_bits`]: a column from four signed bytes.
+//! - [`LOST`], [`LOST_AS_ZERO`]: what a fade leaves of a symbol, and how document 01 takes it.
 //! - [`Channel::beyond`]: how likely more than T symbols are wrong, computed.
 
 use crate::curve::PLACES;
@@ -16,6 +17,17 @@ const STEPS: f64 = 32.0;
 
 /// Bits of a symbol.
 const BITS: usize = 4;
+
+/// What a fade leaves of a symbol: four bit values of zero make a blank column.
+pub const LOST: Column = [0; SYMBOLS];
+
+/// A column that is not blank and has the best symbol, 0, the second, 1, and the gap, 0, that document
+/// 01 gives to a blank one: symbol 15 alone costs 1.
+pub const LOST_AS_ZERO: Column = {
+    let mut column = LOST;
+    column[SYMBOLS - 1] = 1;
+    column
+};
 
 /// White Gaussian noise on a signal of ±1.
 #[derive(Clone, Copy, Debug)]
@@ -108,7 +120,7 @@ fn upper_tail(from: f64) -> f64 {
 #[cfg(test)]
 mod tests {
     use super::*;
-    use crate::soft::{best, gap, second};
+    use crate::soft::{best, gap, is_blank, second};
 
     #[test]
     fn columns_sum_contradicted_magnitudes() {
@@ -118,8 +130,16 @@ mod tests {
         assert_eq!(column[0b1010], 3);
         assert_eq!(column[0b0111], 128 + 100 + 3);
         assert_eq!((best(&column), second(&column), gap(&column)), (8, 9, 0));
-        assert_eq!(column_of_bits([0; 4]), [0; 16]);
+        assert_eq!(column_of_bits([0; 4]), LOST);
         assert_eq!(column_of_bits([-128; 4])[0], 512);
+    }
+
+    #[test]
+    fn lost_symbols_are_blank_or_zero() {
+        assert!(is_blank(&LOST) && !is_blank(&LOST_AS_ZERO));
+        for column in [&LOST, &LOST_AS_ZERO] {
+            assert_eq!((best(column), second(column), gap(column)), (0, 1, 0));
+        }
     }
 
     #[test]

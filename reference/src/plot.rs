@@ -8,30 +8,78 @@ use std::fmt::Write;
 /// One curve.
 pub struct Curve {
     name: String,
+    colour: &'static str,
     points: Vec<(f64, f64)>,
-    measured: bool,
+    style: Style,
+}
+
+/// How a curve is drawn.
+#[derive(Clone, Copy, PartialEq, Eq)]
+enum Style {
+    /// A full line with full marks.
+    Measured,
+    /// A dashed line with hollow marks.
+    Compared,
+    /// A dashed line without marks.
+    Computed,
 }
 
 impl Curve {
-    /// A curve whose points are marked.
-    pub fn measured(name: String) -> Curve {
+    /// A curve whose points are marked, in the colour of this number.
+    pub fn measured(name: String, colour: usize) -> Curve {
         Curve {
             name,
+            colour: COLOURS[colour % COLOURS.len()],
             points: Vec::new(),
-            measured: true,
+            style: Style::Measured,
+        }
+    }
+
+    /// A dashed curve with hollow marks, to stand beside a measured one of its colour.
+    pub fn compared(name: String, colour: usize) -> Curve {
+        Curve {
+            style: Style::Compared,
+            ..Curve::measured(name, colour)
         }
     }
 
     /// A dashed curve without marks.
-    pub fn computed(name: String) -> Curve {
+    pub fn computed(name: String, colour: usize) -> Curve {
         Curve {
-            measured: false,
-            ..Curve::measured(name)
+            style: Style::Computed,
+            ..Curve::measured(name, colour)
         }
+    }
+
+    pub fn name(&self) -> &str {
+        &self.name
     }
 
     pub fn add(&mut self, decibels: f64, rate: f64) {
         self.points.push((decibels, rate));
+    }
+
+    /// The attributes of its line.
+    fn stroke(&self) -> String {
+        let dashes = match self.style {
+            Style::Measured => "",
+            Style::Compared | Style::Computed => " stroke-dasharray=\"5 4\"",
+        };
+        format!("stroke=\"{}\" stroke-width=\"2\"{dashes}", self.colour)
+    }
+
+    /// Its mark at a point of the drawing.
+    fn mark(&self, out: &mut String, x: &str, y: &str) {
+        let colour = self.colour;
+        let fill = match self.style {
+            Style::Measured => format!("fill=\"{colour}\""),
+            Style::Compared => format!("fill=\"#ffffff\" stroke=\"{colour}\" stroke-width=\"1.5\""),
+            Style::Computed => return,
+        };
+        put(
+            out,
+            format_args!("<circle cx=\"{x}\" cy=\"{y}\" r=\"3.5\" {fill}/>"),
+        );
     }
 }
 
@@ -48,7 +96,7 @@ const DECADES: i32 = 4;
 /// A line so many decibels apart.
 const GRID: f64 = 0.5;
 
-/// Colours that the colour-blind tell apart, by curve.
+/// Colours that the colour-blind tell apart, by number.
 const COLOURS: [&str; 5] = ["#000000", "#0072b2", "#009e73", "#d55e00", "#999999"];
 
 /// Where decibels and rates stand.
@@ -86,8 +134,8 @@ pub fn draw(title: &str, curves: &[Curve]) -> String {
          <text x=\"{LEFT}\" y=\"30\" font-size=\"17\">{title}</text>\n"
     );
     grid(&mut out, &axes);
-    for (number, curve) in curves.iter().enumerate() {
-        line(&mut out, &axes, curve, COLOURS[number % COLOURS.len()]);
+    for curve in curves {
+        line(&mut out, &axes, curve);
     }
     legend(&mut out, curves);
     out.push_str("</svg>\n");
@@ -156,7 +204,7 @@ fn grid(out: &mut String, axes: &Axes) {
     put(out, format_args!("<rect x=\"{LEFT}\" y=\"{TOP}\" width=\"{}\" height=\"{}\" fill=\"none\" stroke=\"#444444\"/>", RIGHT - LEFT, BOTTOM - TOP));
 }
 
-fn line(out: &mut String, axes: &Axes, curve: &Curve, colour: &str) {
+fn line(out: &mut String, axes: &Axes, curve: &Curve) {
     let least = 10f64.powi(-DECADES);
     let shown = curve.points.iter().filter(|(_, rate)| *rate >= least);
     let points: Vec<(f64, f64)> = shown
@@ -166,49 +214,33 @@ fn line(out: &mut String, axes: &Axes, curve: &Curve, colour: &str) {
         .iter()
         .map(|(x, y)| format!("{x:.1},{y:.1}"))
         .collect();
-    let dashes = if curve.measured {
-        ""
-    } else {
-        " stroke-dasharray=\"5 4\""
-    };
-    put(out, format_args!("<polyline points=\"{}\" fill=\"none\" stroke=\"{colour}\" stroke-width=\"2\"{dashes}/>", path.join(" ")));
-    for (x, y) in points.iter().filter(|_| curve.measured) {
-        put(
-            out,
-            format_args!("<circle cx=\"{x:.1}\" cy=\"{y:.1}\" r=\"3.5\" fill=\"{colour}\"/>"),
-        );
+    put(
+        out,
+        format_args!(
+            "<polyline points=\"{}\" fill=\"none\" {}/>",
+            path.join(" "),
+            curve.stroke()
+        ),
+    );
+    for (x, y) in points {
+        curve.mark(out, &format!("{x:.1}"), &format!("{y:.1}"));
     }
 }
 
-/// In the lower left corner, which the curves leave free.
+/// In the lower left corner, which the curves leave free; as wide as its longest name.
 fn legend(out: &mut String, curves: &[Curve]) {
+    let letters = curves.iter().map(|curve| curve.name.chars().count()).max();
+    let width = 70.0 + 8.0 * letters.unwrap_or(0) as f64;
     let height = 22.0 * curves.len() as f64 + 12.0;
     let (left, top) = (LEFT + 12.0, BOTTOM - 12.0 - height);
-    put(out, format_args!("<rect x=\"{left}\" y=\"{top}\" width=\"350\" height=\"{height}\" fill=\"#ffffff\" stroke=\"#bbbbbb\"/>"));
+    put(out, format_args!("<rect x=\"{left}\" y=\"{top}\" width=\"{width}\" height=\"{height}\" fill=\"#ffffff\" stroke=\"#bbbbbb\"/>"));
     for (number, curve) in curves.iter().enumerate() {
         let y = top + 17.0 + 22.0 * number as f64;
-        let colour = COLOURS[number % COLOURS.len()];
-        let dashes = if curve.measured {
-            ""
-        } else {
-            " stroke-dasharray=\"5 4\""
-        };
         put(
             out,
-            format_args!(
-                "<path d=\"M{} {y}h34\" stroke=\"{colour}\" stroke-width=\"2\"{dashes}/>",
-                left + 10.0
-            ),
+            format_args!("<path d=\"M{} {y}h34\" {}/>", left + 10.0, curve.stroke()),
         );
-        if curve.measured {
-            put(
-                out,
-                format_args!(
-                    "<circle cx=\"{}\" cy=\"{y}\" r=\"3.5\" fill=\"{colour}\"/>",
-                    left + 27.0
-                ),
-            );
-        }
+        curve.mark(out, &format!("{}", left + 27.0), &format!("{y}"));
         put(
             out,
             format_args!(
@@ -218,5 +250,31 @@ fn legend(out: &mut String, curves: &[Curve]) {
                 curve.name
             ),
         );
+    }
+}
+
+#[cfg(test)]
+mod tests {
+    use super::*;
+
+    /// Two points above the axis and one of rate zero: marks at the two and in the legend.
+    #[test]
+    fn points_are_marked_by_style() {
+        let makers = [Curve::measured, Curve::compared, Curve::computed];
+        let drawn = makers.map(|maker| {
+            let mut curve = maker("any".to_string(), 1);
+            for (decibels, rate) in [(3.0, 0.5), (3.5, 0.01), (4.0, 0.0)] {
+                curve.add(decibels, rate);
+            }
+            draw("title", &[curve])
+        });
+        let seen = |part: &str| {
+            drawn
+                .each_ref()
+                .map(|drawing| drawing.matches(part).count())
+        };
+        assert_eq!(seen("<circle"), [3, 3, 0]);
+        assert_eq!(seen("r=\"3.5\" fill=\"#ffffff\""), [0, 3, 0]);
+        assert_eq!(seen("stroke-dasharray"), [0, 2, 2]);
     }
 }

@@ -1,10 +1,14 @@
 //! Frame error rates of the proved library's table decoding: random codewords through BPSK and white
-//! Gaussian noise. `error_rates FOLDER [FRAMES]` writes error-rates-39.svg and error-rates-49.svg
-//! there, and prints the numbers behind them.
+//! Gaussian noise. `error_rates FOLDER [FRAMES]` prints the numbers and draws them there:
 //!
-//! A frame is in error if it is refused or its message is not the one sent. All doubts decode the same
-//! frames. A doubt is done with a point after FRAMES frames, or earlier, after a whole batch, when it
-//! has enough errors.
+//! - error-rates-39.svg and error-rates-49.svg: every place is received; a curve for each doubt;
+//! - faded-39-doubt-0.svg, faded-39-doubt-8.svg and faded-49-doubt-8.svg: some places of each frame,
+//!   drawn at random, are lost to fades; a curve for each number of them, where they are blank and
+//!   where they are symbol 0, as in document 01.
+//!
+//! A frame is in error if it is refused or its message is not the one sent. All curves of a rate have
+//! the same frames, and the places lost are among those lost where more are. A curve is done with a
+//! point after FRAMES frames, or earlier, after a whole batch, when it has enough errors.
 
 use std::fs;
 use std::path::Path;
@@ -12,14 +16,16 @@ use std::process::ExitCode;
 use std::sync::atomic::{AtomicU64, Ordering};
 use std::thread;
 
-use reference::channel::Channel;
+use reference::channel::{Channel, LOST, LOST_AS_ZERO};
 use reference::code::Code;
+use reference::curve::PLACES;
 use reference::decode::{table_of_columns, REPORT_BYTES};
 use reference::frames::{random_codeword, RATES};
 use reference::measured::DOUBTS;
 use reference::plot::{draw, Curve};
 use reference::proved::PROVED_TABLE;
 use reference::random::Random;
+use reference::soft::Column;
 
 const SEED: u64 = 105;
 
@@ -35,7 +41,31 @@ const ENOUGH: u64 = 150;
 /// The points in quarters of a decibel of Eb/N0.
 const QUARTERS: [(u64, std::ops::RangeInclusive<u64>); 2] = [(39, 12..=26), (49, 16..=32)];
 
-/// What came of the frames at a point with one doubt.
+/// The drawings of frames with lost places: rate, doubt, and how many places are lost. 13 and 3 are
+/// the most that are not refused.
+const FADED: [(u64, usize, [usize; 4]); 3] = [
+    (39, 0, [0, 4, 8, 13]),
+    (39, 8, [0, 4, 8, 13]),
+    (49, 8, [0, 1, 2, 3]),
+];
+
+/// Quarters of a decibel between two points of a curve of such frames.
+const FADED_STEP: usize = 2;
+
+/// Such a curve ends with the first point below this rate.
+const FADED_LEAST: f64 = 1e-3;
+
+/// How the frames of a curve come and are decoded.
+#[derive(Clone, Copy)]
+struct Setting {
+    rate: u64,
+    doubt: usize,
+    /// How many places of a frame are lost, and the column that comes there.
+    lost: usize,
+    column: Column,
+}
+
+/// What came of the frames at a point of a curve.
 #[derive(Clone, Copy, Default)]
 struct Counts {
     frames: u64,
@@ -51,63 +81,87 @@ impl Counts {
     fn rate(&self) -> f64 {
         self.errors() as f64 / self.frames as f64
     }
+
+    fn cell(&self) -> String {
+        let errors = self.errors();
+        match self.wrong {
+            0 => format!("{errors} of {}", self.frames),
+            wrong => format!("{errors} of {}, {wrong} wrong", self.frames),
+        }
+    }
 }
 
 fn main() -> ExitCode {
     let arguments: Vec<String> = std::env::args().skip(1).collect();
     let (folder, frames) = match &arguments[..] {
         [folder] => (folder, Some(FRAMES)),
-        [folder, frames] => (folder, frames.parse().ok()),
+        [folder, frames] => (folder, frames.parse().ok().filter(|frames| *frames > 0)),
         _ => (&String::new(), None),
     };
     let Some(frames) = frames else {
         eprintln!("error_rates FOLDER [FRAMES]");
         return ExitCode::FAILURE;
     };
-    for rate in RATES {
-        let drawn = simulate(rate, frames);
-        let name = Path::new(folder).join(format!("error-rates-{rate}.svg"));
-        if let Err(error) = fs::write(&name, drawn) {
-            eprintln!("{}: {error}", name.display());
-            return ExitCode::FAILURE;
+    match draw_all(Path::new(folder), frames) {
+        Ok(()) => ExitCode::SUCCESS,
+        Err(error) => {
+            eprintln!("{error}");
+            ExitCode::FAILURE
         }
     }
-    ExitCode::SUCCESS
 }
 
-/// All points of a rate; the curves as SVG.
-fn simulate(rate: u64, frames: u64) -> String {
-    let (_, quarters) = QUARTERS
-        .into_iter()
-        .find(|(of, _)| *of == rate)
-        .expect("a known rate");
+/// All drawings, into a folder.
+fn draw_all(folder: &Path, frames: u64) -> Result<(), String> {
+    let write = |name: String, drawn: String| {
+        let name = folder.join(name);
+        fs::write(&name, drawn).map_err(|error| format!("{}: {error}", name.display()))
+    };
+    for rate in RATES {
+        let drawn = by_doubt(rate, frames);
+        write(format!("error-rates-{rate}.svg"), drawn)?;
+    }
+    for (rate, doubt, lost) in FADED {
+        let drawn = by_lost(rate, doubt, lost, frames);
+        write(format!("faded-{rate}-doubt-{doubt}.svg"), drawn)?;
+    }
+    Ok(())
+}
+
+/// The quarters of a decibel at which a rate is measured where no place is lost.
+fn quarters(rate: u64) -> std::ops::RangeInclusive<u64> {
+    let of_rate = QUARTERS.into_iter().find(|(of, _)| *of == rate);
+    of_rate.expect("a known rate").1
+}
+
+/// The first lines of a printed table.
+fn head(title: &str, columns: &[String]) {
+    println!("{title}: errors of frames, and how many of them are wrong messages and not refusals, where there are any.\n");
+    println!("| Eb/N0 in dB | {} |", columns.join(" | "));
+    println!("|---|{}", "---|".repeat(columns.len()));
+}
+
+/// All points of a rate where no place is lost; the curves as SVG.
+fn by_doubt(rate: u64, frames: u64) -> String {
     let code = Code::of_rate(rate).expect("a known rate");
-    let mut curves: Vec<Curve> = DOUBTS
-        .iter()
-        .map(|doubt| Curve::measured(format!("doubt {doubt}")))
-        .collect();
-    let mut computed = Curve::computed(format!("more than {} wrong symbols, computed", code.reach));
-    println!("Rate {rate}: errors of frames, and how many of them are wrong messages and not refusals, where there are any.\n");
-    println!(
-        "| Eb/N0 in dB | {} |",
-        DOUBTS.map(|doubt| format!("doubt {doubt}")).join(" | ")
+    let names = DOUBTS.map(|doubt| format!("doubt {doubt}"));
+    let mut curves: Vec<Curve> = Vec::new();
+    for (colour, name) in names.iter().enumerate() {
+        curves.push(Curve::measured(name.clone(), colour));
+    }
+    let mut computed = Curve::computed(
+        format!("more than {} wrong symbols, computed", code.reach),
+        DOUBTS.len(),
     );
-    println!("|---|{}", "---|".repeat(DOUBTS.len()));
-    for quarter in quarters {
+    head(&format!("Rate {rate}"), &names);
+    for quarter in quarters(rate) {
         let decibels = quarter as f64 / 4.0;
-        let channel = Channel::at(rate, decibels);
-        computed.add(decibels, channel.beyond(code.reach));
-        let counts = DOUBTS.map(|doubt| point(code, rate, doubt, channel, quarter, frames));
+        computed.add(decibels, Channel::at(rate, decibels).beyond(code.reach));
+        let counts = DOUBTS.map(|doubt| Setting::blank(rate, doubt, 0).point(quarter, frames));
         for (curve, counts) in curves.iter_mut().zip(&counts) {
             curve.add(decibels, counts.rate());
         }
-        let cells = counts.map(|counts| {
-            let errors = counts.errors();
-            match counts.wrong {
-                0 => format!("{errors} of {}", counts.frames),
-                wrong => format!("{errors} of {}, {wrong} wrong", counts.frames),
-            }
-        });
+        let cells = counts.map(|counts| counts.cell());
         println!("| {decibels:.2} | {} |", cells.join(" | "));
     }
     println!();
@@ -116,69 +170,157 @@ fn simulate(rate: u64, frames: u64) -> String {
     draw(&format!("Rate {rate}, frame error rate by doubt"), &curves)
 }
 
-/// The frames of one point with one doubt, on all threads.
-fn point(
-    code: &Code,
-    rate: u64,
-    doubt: usize,
-    channel: Channel,
-    quarter: u64,
-    frames: u64,
-) -> Counts {
-    let mut sum = Counts::default();
-    while sum.frames < frames && sum.errors() < ENOUGH {
-        let next = AtomicU64::new(sum.frames);
-        let end = (sum.frames + BATCH).min(frames);
-        let part = || {
-            let mut counts = Counts::default();
-            loop {
-                let number = next.fetch_add(1, Ordering::Relaxed);
-                if number >= end {
-                    return counts;
-                }
-                let random = Random::new(SEED, rate << 48 | quarter << 40 | number);
-                one_frame(code, rate, doubt, channel, random, &mut counts);
-            }
-        };
-        let threads = thread::available_parallelism().map_or(1, usize::from);
-        thread::scope(|scope| {
-            let parts: Vec<_> = (0..threads).map(|_| scope.spawn(part)).collect();
-            for part in parts {
-                let counts = part.join().expect("a thread that ends");
-                sum.frames += counts.frames;
-                sum.refused += counts.refused;
-                sum.wrong += counts.wrong;
-            }
-        });
-        eprint!(
-            "\rrate {rate}, {:.2} dB, doubt {doubt}: {} errors of {} frames   ",
-            quarter as f64 / 4.0,
-            sum.errors(),
-            sum.frames
-        );
-    }
-    sum
+/// A curve of frames with lost places.
+struct FadedCurve {
+    setting: Setting,
+    curve: Curve,
+    ended: bool,
 }
 
-fn one_frame(
-    code: &Code,
-    rate: u64,
-    doubt: usize,
-    channel: Channel,
-    mut random: Random,
-    counts: &mut Counts,
-) {
-    let sent = random_codeword(code, &mut random);
-    let symbols = sent.elements();
-    let columns = symbols.map(|symbol| channel.column(symbol, &mut random));
-    let table = table_of_columns(&columns);
-    let mut message = vec![0; code.symbols];
-    let mut report = [0; REPORT_BYTES];
-    let number = PROVED_TABLE(rate, &table, doubt as u64, &mut message, &mut report);
-    counts.frames += 1;
-    if number != 0 {
-        counts.refused += 1;
-    } else if code.codeword(&message) != sent {
-        counts.wrong += 1;
+impl FadedCurve {
+    /// The lost places are blank.
+    fn blank(setting: Setting, colour: usize) -> FadedCurve {
+        let reach = setting.code().reach_with(setting.lost);
+        let reach = reach.expect("not too many blank places");
+        let name = format!("{} blank: T = {reach}", setting.lost);
+        FadedCurve {
+            setting,
+            curve: Curve::measured(name, colour),
+            ended: false,
+        }
+    }
+
+    /// They are symbol 0, and wrong where another one was sent.
+    fn zero(setting: Setting, colour: usize) -> FadedCurve {
+        let name = format!("{} as symbol 0", setting.lost);
+        FadedCurve {
+            setting: Setting {
+                column: LOST_AS_ZERO,
+                ..setting
+            },
+            curve: Curve::compared(name, colour),
+            ended: false,
+        }
+    }
+
+    /// One more point, if the curve has not ended; its cell of the table.
+    fn add(&mut self, quarter: u64, frames: u64) -> String {
+        if self.ended {
+            return String::new();
+        }
+        let counts = self.setting.point(quarter, frames);
+        self.curve.add(quarter as f64 / 4.0, counts.rate());
+        self.ended = counts.rate() < FADED_LEAST;
+        counts.cell()
+    }
+}
+
+/// All points of a rate and a doubt where places are lost, until the last curve with blank places
+/// ends; the curves as SVG.
+fn by_lost(rate: u64, doubt: usize, lost: [usize; 4], frames: u64) -> String {
+    let settings = lost.map(|lost| Setting::blank(rate, doubt, lost));
+    let mut blank: Vec<FadedCurve> = Vec::new();
+    let mut zero: Vec<FadedCurve> = Vec::new();
+    for (colour, setting) in settings.into_iter().enumerate() {
+        blank.push(FadedCurve::blank(setting, colour));
+        if setting.lost > 0 {
+            zero.push(FadedCurve::zero(setting, colour));
+        }
+    }
+    let all = blank.iter().chain(&zero);
+    let names: Vec<String> = all.map(|faded| faded.curve.name().to_string()).collect();
+    head(&format!("Rate {rate}, doubt {doubt}, places lost"), &names);
+    for quarter in (*quarters(rate).start()..).step_by(FADED_STEP) {
+        if blank.iter().all(|faded| faded.ended) {
+            break;
+        }
+        let all = blank.iter_mut().chain(&mut zero);
+        let cells: Vec<String> = all.map(|faded| faded.add(quarter, frames)).collect();
+        println!("| {:.2} | {} |", quarter as f64 / 4.0, cells.join(" | "));
+    }
+    println!();
+    eprintln!();
+    let all = blank.into_iter().chain(zero);
+    let curves: Vec<Curve> = all.map(|faded| faded.curve).collect();
+    let title = format!("Rate {rate}, doubt {doubt}, frame error rate by places lost to fades");
+    draw(&title, &curves)
+}
+
+impl Setting {
+    /// Lost places are blank.
+    fn blank(rate: u64, doubt: usize, lost: usize) -> Setting {
+        Setting {
+            rate,
+            doubt,
+            lost,
+            column: LOST,
+        }
+    }
+
+    fn code(&self) -> &'static Code {
+        Code::of_rate(self.rate).expect("a known rate")
+    }
+
+    /// The frames of one point, on all threads.
+    fn point(&self, quarter: u64, frames: u64) -> Counts {
+        let channel = Channel::at(self.rate, quarter as f64 / 4.0);
+        let mut sum = Counts::default();
+        while sum.frames < frames && sum.errors() < ENOUGH {
+            let next = AtomicU64::new(sum.frames);
+            let end = (sum.frames + BATCH).min(frames);
+            let part = || {
+                let mut counts = Counts::default();
+                loop {
+                    let number = next.fetch_add(1, Ordering::Relaxed);
+                    if number >= end {
+                        return counts;
+                    }
+                    let random = Random::new(SEED, self.rate << 48 | quarter << 40 | number);
+                    self.one_frame(channel, random, &mut counts);
+                }
+            };
+            let threads = thread::available_parallelism().map_or(1, usize::from);
+            thread::scope(|scope| {
+                let parts: Vec<_> = (0..threads).map(|_| scope.spawn(part)).collect();
+                for part in parts {
+                    let counts = part.join().expect("a thread that ends");
+                    sum.frames += counts.frames;
+                    sum.refused += counts.refused;
+                    sum.wrong += counts.wrong;
+                }
+            });
+            eprint!(
+                "\rrate {}, {:.2} dB, doubt {}, {} lost: {} errors of {} frames   ",
+                self.rate,
+                quarter as f64 / 4.0,
+                self.doubt,
+                self.lost,
+                sum.errors(),
+                sum.frames
+            );
+        }
+        sum
+    }
+
+    /// The lost places are drawn after all else, so that the rest is the same for every number.
+    fn one_frame(&self, channel: Channel, mut random: Random, counts: &mut Counts) {
+        let code = self.code();
+        let sent = random_codeword(code, &mut random);
+        let symbols = sent.elements();
+        let mut columns = symbols.map(|symbol| channel.column(symbol, &mut random));
+        for place in random.shuffled(0..PLACES).into_iter().take(self.lost) {
+            columns[place] = self.column;
+        }
+        let table = table_of_columns(&columns);
+        let mut message = vec![0; code.symbols];
+        let mut report = [0; REPORT_BYTES];
+        let doubt = self.doubt as u64;
+        let number = PROVED_TABLE(self.rate, &table, doubt, &mut message, &mut report);
+        counts.frames += 1;
+        if number != 0 {
+            counts.refused += 1;
+        } else if code.codeword(&message) != sent {
+            counts.wrong += 1;
+        }
     }
 }
