@@ -71,9 +71,10 @@ uint8_t hermitian_read_back(size_t rate,
                             uint8_t *message, size_t message_length);
 
 /* Decodes a table of costs with doubt 0 to 8: writes the message of the near codeword of
- * least total cost, and its report. The doubtful places are those of smallest gap. A blank
- * place is never doubtful, wrong or changed, but each two of them take one from the wrong
- * places that are repaired.
+ * least total cost, and its report. The doubtful places are those of smallest gap, second
+ * cost minus best cost; where the second is 65535 and the best is lower, it counts as 65535.
+ * A blank place is never doubtful, wrong or changed, but each two of them take one from the
+ * wrong places that are repaired.
  * Checks, in this order: rate; table of 2048, message buffer of k and report of 13 bytes;
  * doubt; blank places; nearness. Refusals: 1, 2, 4, 12, 9. */
 uint8_t hermitian_decode_table(size_t rate,

@@ -1,7 +1,7 @@
 -- Single steps of the functions, over plain lists and numbers, for any number of symbols.
 --
 --   bestBut-turn, bestBut-small   the best symbol so far, one symbol more; of n symbols it is one of them
---   best-of, second-of, gap-fits, gap-of   best, second and gap of a column of n costs
+--   best-of, second-of, gap-fits, gap-of, doubt-gap-of   best, second and gap of a column of n costs, and the gap as it counts
 --   pair-missing           two bytes past the end
 --   column-missing, cost-missing   a place past the last costs
 --   open-missing           a place that lacks all its costs is blank
@@ -15,7 +15,7 @@ use native.Mathlib.Numerals.{add-one}
 use native.Mathlib.Omega.{arith}
 use lib.ListN.{length, getD, replicate, getD-replicate, length-replicate, List·getD-eq-default}
 use Rattle.lists.specs.Listed.{listed-by}
-use Rattle.soft.specs.Column.{costOf, pairAt, costAt, columnOf, bestBut, betterIn, bestOf, secondOf, gapOf, isBlank}
+use Rattle.soft.specs.Column.{costOf, pairAt, costAt, columnOf, bestBut, betterIn, bestOf, secondOf, gapOf, countedGap, doubtGapOf, isBlank}
 use Rattle.soft.specs.ColumnLaws.{bestBut-suc, bestBut-below, best-least, second-below, column-length, cost-column}
 use Rattle.soft.specs.Blank.{openAt}
 use Rattle.soft.specs.BlankLaws.{blank-same, column-none}
@@ -47,6 +47,11 @@ module _ {n : ℕ} (column : List ℕ) (r s : ℕ) (l : length column ≡ n) (be
   unfolding gapOf
   gap-of =
       ap₂ (λ x y. costOf column x - costOf column y) (second-of column s l r (best-of column r l best) second) (best-of column r l best)
+
+  pub doubt-gap-of : countedGap (costOf column r) (costOf column s) ≡ doubtGapOf column
+  unfolding doubtGapOf
+  doubt-gap-of =
+      ap₂ (λ x y. countedGap (costOf column x) (costOf column y)) (best-of column r l best) (second-of column s l r (best-of column r l best) second)
 
 -- a pair of bytes: both missing, or the first present
 pub pair-missing : (bytes : List ℕ) (i : ℕ) → length bytes ≤ i → 0 ≡ pairAt bytes i

@@ -1,7 +1,9 @@
-// A column's best symbol, second symbol and gap.
+// A column's best symbol, second symbol and gap, and the gap as it counts for choosing doubtful places.
+use crate::costs::CEILING;
 use crate::costs::SYMBOLS;
 ghost use mathlib.Core.Path.{_≡_};
-ghost use Rattle.soft.specs.Column.{firstBut, betterOf, bestBut, symbols, bestOf, secondOf, gapOf};
+ghost use Prim.Native.Nat.{_≤_};
+ghost use Rattle.soft.specs.Column.{firstBut, betterOf, bestBut, symbols, bestOf, secondOf, gapOf, countedGap, doubtGapOf};
 
 fn first_but(but: usize) -> usize
     ensures { λ r. ⌜ r ≡ firstBut but ⌝ }
@@ -54,4 +56,27 @@ pub fn gap(column: [u16; SYMBOLS]) -> u16
     let first = best_but(column, SYMBOLS);
     let second = best_but(column, first);
     column[second] - column[first]
+}
+
+// A second cost at the ceiling reads 'at least', so that the difference from a lower best only bounds the gap.
+fn counted(best: u16, second: u16) -> u16
+    requires { ⌜ best ≤ second ⌝ }
+    ensures { λ r. ⌜ r ≡ countedGap best second ⌝ }
+{
+    if second != CEILING {
+        return second - best;
+    }
+    if CEILING <= best {
+        return 0;
+    }
+    CEILING
+}
+
+// The gap as it counts for choosing doubtful places.
+pub fn doubt_gap(column: [u16; SYMBOLS]) -> u16
+    ensures { λ r. ⌜ r ≡ doubtGapOf column ⌝ }
+{
+    let first = best_but(column, SYMBOLS);
+    let second = best_but(column, first);
+    counted(column[first], column[second])
 }

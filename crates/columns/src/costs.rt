@@ -10,6 +10,9 @@ pub const SYMBOLS: usize = 16;
 
 pub const COSTS: usize = 1024;
 
+// The largest cost, which reads 'at least'.
+pub const CEILING: u16 = 65535;
+
 pub fn byte_at(bytes: &[u8], at: usize) -> u8
     ensures { λ r. ⌜ r ≡ getD (now (bytes .entry)) at 0 ⌝ }
 {

@@ -1,7 +1,8 @@
-// The doubtful places of a table: of those that are not blank the ones of smallest gap. It knows of no word and no code.
+// The doubtful places of a table: of those that are not blank the ones of smallest gap, as it counts for choosing. It knows of no word and no
+// code.
 use columns::bit::bit;
 use columns::blank::is_open;
-use columns::column::gap;
+use columns::column::doubt_gap;
 use columns::costs::PLACES;
 use columns::costs::column_of;
 ghost use mathlib.Core.Path.{_≡_};
@@ -31,7 +32,7 @@ fn key_of(costs: &[u16], place: usize) -> u32
     ensures { λ r. ⌜ KeyOf places far (columnOf symbols (now (costs .entry))) place r ⌝ }
 {
     if is_open(costs, place) {
-        return (gap(column_of(costs, place)) as usize * PLACES + place) as u32;
+        return (doubt_gap(column_of(costs, place)) as usize * PLACES + place) as u32;
     }
     FAR
 }

@@ -1,6 +1,7 @@
 -- Laws of blank places.
 --
 --   blank-same             a column is blank exactly if any two of its costs are equal
+--   ceiling-blank          a column whose best cost is at the ceiling is blank: no cost is larger
 --   open-count             the places that are not blank and the blank ones are all
 --   flags-length, flags-at  a flag for each place says whether it is not blank,
 --   flags-blanks           so many of them are not 1 as places are blank
@@ -25,8 +26,8 @@ use Rattle.lists.specs.Count.{bit, count, count-nil, count-suc, count-ext}
 use Rattle.lists.specs.Every.{every, every-at, every-true, true-T}
 use Rattle.lists.specs.Listed.{listed-length, listed-at}
 use Rattle.lists.specs.Different.{Different, different-nil, different-cons}
-use Rattle.soft.specs.Column.{costOf, columnOf, isBlank}
-use Rattle.soft.specs.ColumnLaws.{column-length, cost-column}
+use Rattle.soft.specs.Column.{ceiling, costOf, columnOf, bestOf, isBlank}
+use Rattle.soft.specs.ColumnLaws.{best-least, column-length, cost-column}
 use Rattle.soft.specs.Blank.{blankAt, openAt, blanksOf, unblanked, flagsOf, flagAt}
 
 abbrev alike : List ℕ → ℕ → Bool
@@ -44,6 +45,13 @@ blank-same column = (same, blank)
 
     blank : ((s t : ℕ) → s < length column → t < length column → costOf column s ≡ costOf column t) → every (length column) (alike column) ≡ true
     blank h = every-true (length column) (alike column) (λ s l. eq-eqb (costOf column s) (costOf column 0) (h s 0 l (omega arith)))
+
+pub ceiling-blank : (column : List ℕ) → 1 < length column → ((s : ℕ) → s < length column → costOf column s ≤ ceiling)
+    → costOf column (bestOf column) ≡ ceiling → isBlank column ≡ true
+ceiling-blank column two most e = blank-same column .1 (λ s t ls lt. at s ls ∙ sym (at t lt))
+  where
+    at : (s : ℕ) → s < length column → costOf column s ≡ ceiling
+    at s l = omega (arith, most s l, best-least column two s l)
 
 opposite : (b : Bool) → bit (not b) + bit b ≡ 1
 opposite true = refl

@@ -5,12 +5,13 @@
 --   bestOf column          the best symbol (hard decision): least cost, equal costs to the smaller symbol
 --   secondOf column        the second symbol: the best of the others
 --   gapOf column           the gap (reliability): second cost minus best cost
+--   doubtGapOf column      the gap as it counts for choosing doubtful places; countedGap: of a best and a second cost
 --   isBlank column         the column is blank (an erasure): all its costs are equal
 --   bestBut column b n     the best of the first n symbols, b left out; step by step, firstBut and betterOf
 --   pairAt bytes i         the number in two bytes, high first
 --   costsFrom n bytes      n costs from their bytes, two each: a column, or the columns of a table one after the other
 --   columnOf q costs p     the column of place p in a list of costs, q to a place, place 0 first
-use mathlib.Core.Bool.{Bool, cond}
+use mathlib.Core.Bool.{Bool, cond, _&&_}
 use mathlib.Core.List.{List}
 use Prim.Native.Nat.{ℕ, zero, suc, _+_, _-_, _*_}
 use lib.Dec.{ltb, eqb}
@@ -54,6 +55,13 @@ secondOf column = bestBut column (bestOf column) (length column)
 
 unfoldable pub gapOf : List ℕ → ℕ
 gapOf column = costOf column (secondOf column) - costOf column (bestOf column)
+
+-- a second cost at the ceiling reads 'at least', so that over a lower best cost the difference only bounds the gap: it counts as the ceiling
+unfoldable pub countedGap : ℕ → ℕ → ℕ
+countedGap best second = cond (eqb second ceiling && ltb best ceiling) ceiling (second - best)
+
+unfoldable pub doubtGapOf : List ℕ → ℕ
+doubtGapOf column = countedGap (costOf column (bestOf column)) (costOf column (secondOf column))
 
 unfoldable pub isBlank : List ℕ → Bool
 isBlank column = every (length column) (λ s. eqb (costOf column s) (costOf column 0))

@@ -1,4 +1,4 @@
--- Laws of a column's best symbol, second symbol and gap.
+-- Laws of a column's best symbol, second symbol and gap, and of the gap as it counts for choosing doubtful places.
 --
 --   firstBut-zero, firstBut-other, betterOf-left, betterOf-next, betterOf-held, bestBut-nil, bestBut-suc   the definitions step by step
 --   BestBut column b n r   r is the best of the first n symbols other than b: least cost, and among equal costs the smallest
@@ -9,6 +9,12 @@
 --   second-best            the second symbol is the best of the others; second-other: it differs from the best
 --   best-below, second-below   both are symbols of the column
 --   gap-cost               best cost and gap make the second cost
+--   counted-pinned, counted-open, counted-level   the gap of two costs as it counts: with the second at the ceiling and the best lower; with the
+--                          second elsewhere; with the best at the ceiling; counted-most: never more than the ceiling
+--   PinnedSecond column    the second cost is at the ceiling and the best is lower
+--   doubt-gap-pinned       the gap then counts as the ceiling; doubt-gap-open: it counts as it is where the second is not at the ceiling,
+--   doubt-gap-level        and where the best is at the ceiling too: it is 0
+--   doubt-gap-most         it counts as no more than the ceiling; doubt-gap-below: and as less where the second is below the ceiling
 --   column-length, cost-column, cost-none   a column read off a list of costs: how long it is, and what it holds
 --   column-block           it is the row of the table that the list is
 --   costs-length           how many costs are read from bytes
@@ -16,7 +22,7 @@
 use mathlib.Core.Path.{_≡_, refl, sym, ap, ap₂, _∙_, subst}
 use mathlib.Core.List.{List}
 use mathlib.Core.Logic.{_≢_, _⊎_, inl, inr, ⊎-elim}
-use Prim.Native.Nat.{ℕ, zero, suc, _+_, _*_, _<_, _≤_}
+use Prim.Native.Nat.{ℕ, zero, suc, _+_, _-_, _*_, _<_, _≤_}
 use native.Mathlib.Nat.{eq-or-lt-of-le, le-of-suc-le-suc, le-antisymm, mul-le-mul-right, suc-mul, mul-comm}
 use native.Mathlib.Decide.{decLe, ℕ-discrete}
 use native.Mathlib.Omega.{arith}
@@ -25,7 +31,7 @@ use lib.Seq.{getD-take, getD-drop, ext-getD}
 use borrow.Author.Tests.{lt-ltb, le-ltb, eq-eqb, ne-eqb}
 use Rattle.lists.specs.Block.{block, block-length, block-at}
 use Rattle.lists.specs.Listed.{listed, listed-length, listed-at, listed-ext}
-use Rattle.soft.specs.Column.{costOf, costFrom, costsFrom, costAt, columnOf, firstBut, betterOf, betterIn, bestBut, bestOf, secondOf, gapOf}
+use Rattle.soft.specs.Column.{ceiling, costOf, costFrom, costsFrom, costAt, columnOf, firstBut, betterOf, betterIn, bestBut, bestOf, secondOf, gapOf, countedGap, doubtGapOf}
 
 pub firstBut-zero : (b : ℕ) → b ≡ 0 → firstBut b ≡ 1
 unfolding firstBut
@@ -189,6 +195,57 @@ module _ (column : List ℕ) (two : 1 < length column) where
   pub gap-cost : costOf column (bestOf column) + gapOf column ≡ costOf column (secondOf column)
   unfolding gapOf
   gap-cost = let l : costOf column (bestOf column) ≤ costOf column (secondOf column) = best-least (secondOf column) second-below in omega arith
+
+-- the gap of two costs as it counts for choosing doubtful places
+pub counted-pinned : (best second : ℕ) → second ≡ ceiling → best < ceiling → countedGap best second ≡ ceiling
+unfolding countedGap
+counted-pinned best second e l = simp (eq-eqb second ceiling e, lt-ltb best ceiling l)
+
+pub counted-open : (best second : ℕ) → second ≢ ceiling → countedGap best second ≡ second - best
+unfolding countedGap
+counted-open best second e = simp (ne-eqb second ceiling e)
+
+pub counted-level : (best second : ℕ) → ceiling ≤ best → countedGap best second ≡ second - best
+unfolding countedGap
+counted-level best second l = go (ℕ-discrete second ceiling)
+  where
+    go : Dec (second ≡ ceiling) → countedGap best second ≡ second - best
+    go (yes e) = simp (eq-eqb second ceiling e, le-ltb best ceiling l)
+    go (no e) = counted-open best second e
+
+pub counted-most : (best second : ℕ) → second ≤ ceiling → countedGap best second ≤ ceiling
+counted-most best second l = go (ℕ-discrete second ceiling) (decLe ceiling best)
+  where
+    go : Dec (second ≡ ceiling) → Dec (ceiling ≤ best) → countedGap best second ≤ ceiling
+    go (no e) b = omega (arith, counted-open best second e)
+    go (yes e) (no b) = omega (arith, counted-pinned best second e (omega arith))
+    go (yes e) (yes b) = omega (arith, counted-level best second b)
+
+pub record PinnedSecond (column : List ℕ) : Type 0 where
+  pub second : costOf column (secondOf column) ≡ ceiling
+  pub best : costOf column (bestOf column) < ceiling
+
+module _ (column : List ℕ) where
+  pub doubt-gap-pinned : PinnedSecond column → doubtGapOf column ≡ ceiling
+  unfolding doubtGapOf
+  doubt-gap-pinned h = counted-pinned (costOf column (bestOf column)) (costOf column (secondOf column)) (h .second) (h .best)
+
+  pub doubt-gap-open : costOf column (secondOf column) ≢ ceiling → doubtGapOf column ≡ gapOf column
+  unfolding doubtGapOf gapOf
+  doubt-gap-open e = counted-open (costOf column (bestOf column)) (costOf column (secondOf column)) e
+
+  pub doubt-gap-below : costOf column (secondOf column) < ceiling → doubtGapOf column < ceiling
+  unfolding gapOf
+  doubt-gap-below l = omega (arith, doubt-gap-open (omega arith))
+
+  pub doubt-gap-level : costOf column (bestOf column) ≡ ceiling → costOf column (secondOf column) ≤ ceiling
+      → (doubtGapOf column ≡ gapOf column) × (gapOf column ≡ 0)
+  unfolding doubtGapOf gapOf
+  doubt-gap-level e l = (counted-level (costOf column (bestOf column)) (costOf column (secondOf column)) (omega arith), omega arith)
+
+  pub doubt-gap-most : costOf column (secondOf column) ≤ ceiling → doubtGapOf column ≤ ceiling
+  unfolding doubtGapOf
+  doubt-gap-most l = counted-most (costOf column (bestOf column)) (costOf column (secondOf column)) l
 
 -- a column read off a list of costs has q costs, and its cost of a symbol is the one that stands there
 pub column-length : (q : ℕ) (costs : List ℕ) (p : ℕ) → length (columnOf q costs p) ≡ q

@@ -1,5 +1,5 @@
 -- Which places are doubtful (the least reliable positions): of those that are not blank the d places of smallest gap, equal gaps to the lower
--- place.
+-- place. A second cost at the ceiling over a lower best counts as a gap of 65535 here.
 --
 --   mostDoubt              8, the largest doubt
 --   aheadBy g p h q        place p with gap g is ahead of place q with gap h: its gap is smaller, or equal and p is the lower place
@@ -7,14 +7,14 @@
 --   aheadOf n counts gap q   how many of those of the n places that count are ahead of place q
 --   smallest n d counts gap  of those of the n places that count the d with the smallest gaps, rising: those with fewer than d of them ahead;
 --                          all of them, where they are fewer
---   gapAt columns p        the gap of the column at place p
+--   gapAt columns p        the gap of the column at place p, as it counts for choosing
 --   doubtfulOf n d columns the doubtful places of a table with doubt d: blank places are neither chosen nor counted ahead
 use mathlib.Core.Bool.{Bool, _&&_, _||_}
 use mathlib.Core.List.{List}
 use Prim.Native.Nat.{ℕ}
 use lib.Dec.{ltb, eqb}
 use Rattle.lists.specs.Count.{count, kept}
-use Rattle.soft.specs.Column.{gapOf}
+use Rattle.soft.specs.Column.{doubtGapOf}
 use Rattle.soft.specs.Blank.{openAt}
 
 -- the largest doubt of document 01, and the longest doubtful list
@@ -37,7 +37,7 @@ unfoldable pub smallest : ℕ → ℕ → (ℕ → Bool) → (ℕ → ℕ) → L
 smallest n d counts gap = kept n (fewAhead n d counts gap)
 
 abbrev pub gapAt : (ℕ → List ℕ) → ℕ → ℕ
-gapAt columns p = gapOf (columns p)
+gapAt columns p = doubtGapOf (columns p)
 
 unfoldable pub doubtfulOf : ℕ → ℕ → (ℕ → List ℕ) → List ℕ
 doubtfulOf n d columns = smallest n d (openAt columns) (gapAt columns)

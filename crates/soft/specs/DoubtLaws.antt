@@ -6,8 +6,12 @@
 --   smallest-all           all that count, where they are no more than d; doubtful-all: all places that are not blank
 --   smallest-rising, smallest-below, smallest-counts, smallest-few, smallest-member   they rise, are places that count, and are those with fewer
 --                          than d such places ahead of them
---   smallest-ahead         each chosen place is ahead of each place that counts and is not chosen
+--   smallest-ahead         each chosen place is ahead of each place that counts and is not chosen; smallest-before: what is ahead of a chosen place
+--                          is chosen
 --   doubtful-length, doubtful-most, doubtful-rising, doubtful-below, doubtful-open, doubtful-ahead   the same of a table's doubtful places
+--   pinned-behind          a place whose second cost is below the ceiling is ahead of one whose second is at it, over a lower best
+--   pinned-ties            of two places with such seconds the lower is ahead
+--   doubtful-pinned        a place with such a second is chosen only if all places are whose second is below the ceiling
 --   doubtful-none          no doubt, no doubtful places
 --   aheadOf-ext, smallest-ext, doubtful-ext   only the n places matter
 use mathlib.Core.Bool.{Bool, true, false, not, _&&_}
@@ -23,7 +27,8 @@ use borrow.Author.Tests.{lt-ltb, le-ltb, eq-eqb, ne-eqb}
 use Rattle.lists.specs.Count.{count, count-ext, count-mono, count-strict, kept, kept-ext, kept-length, kept-member, kept-passes, kept-rising, kept-none, Rising}
 use Rattle.lists.specs.Distinct.{and-both}
 use Rattle.lists.specs.Every.{both-left, both-right, both-intro, T-true, true-T}
-use Rattle.soft.specs.Column.{gapOf, isBlank}
+use Rattle.soft.specs.Column.{ceiling, costOf, secondOf, doubtGapOf, isBlank}
+use Rattle.soft.specs.ColumnLaws.{PinnedSecond, doubt-gap-pinned, doubt-gap-below}
 use Rattle.soft.specs.Blank.{openAt, blanksOf}
 use Rattle.soft.specs.BlankLaws.{open-count}
 use Rattle.soft.specs.Ranks.{rankIn, rank-in-exact, rank-in-before}
@@ -46,7 +51,7 @@ module _ (n : ℕ) (c e : ℕ → Bool) (g h : ℕ → ℕ) (counts : (p : ℕ) 
 pub doubtful-ext : (n d : ℕ) (c e : ℕ → List ℕ) → ((p : ℕ) → p < n → c p ≡ e p) → doubtfulOf n d c ≡ doubtfulOf n d e
 unfolding doubtfulOf
 doubtful-ext n d c e h =
-    smallest-ext n (openAt c) (openAt e) (gapAt c) (gapAt e) (λ p l. ap (λ x. not (isBlank x)) (h p l)) (λ p l. ap gapOf (h p l)) d
+    smallest-ext n (openAt c) (openAt e) (gapAt c) (gapAt e) (λ p l. ap (λ x. not (isBlank x)) (h p l)) (λ p l. ap doubtGapOf (h p l)) d
 
 -- no doubt, no doubtful places
 pub doubtful-none : (n : ℕ) (columns : ℕ → List ℕ) → doubtfulOf n 0 columns ≡ []
@@ -191,6 +196,38 @@ module _ (n : ℕ) (gap : ℕ → ℕ) where
               (rank-in-before counts key n p q lp l (smallest-counts p m) c
               (omega (arith, smallest-few p m, ahead-rank p lp, ahead-rank q l))))
 
+      pub smallest-before : (p q : ℕ) → List·Memᴰ p (smallest n d counts gap) → q < n → counts q ≡ true → T (ahead gap q p)
+          → List·Memᴰ q (smallest n d counts gap)
+      smallest-before p q m l c t = go (decLe d (aheadOf n counts gap q))
+        where
+          lp : p < n
+          lp = smallest-below p m
+
+          go : Dec (d ≤ aheadOf n counts gap q) → List·Memᴰ q (smallest n d counts gap)
+          go (no a) = smallest-member q l c (omega arith)
+          go (yes a) =
+              let u : T (ahead gap p q) = smallest-ahead p q m l c (λ s. omega (arith, smallest-few q s)) in
+              absurd
+              (omega (
+                arith,
+                ltb→lt (key p) (key q) (subst T (ahead-key p q lp l) u),
+                ltb→lt (key q) (key p) (subst T (ahead-key q p l lp) t),
+              ))
+
+-- the order of places whose second cost is at the ceiling
+module _ (columns : ℕ → List ℕ) where
+  pub pinned-behind : (p q : ℕ) → costOf (columns p) (secondOf (columns p)) < ceiling → PinnedSecond (columns q) → T (ahead (gapAt columns) p q)
+  unfolding aheadBy
+  pinned-behind p q l h =
+      let g : gapAt columns p < gapAt columns q = omega (arith, doubt-gap-below (columns p) l, doubt-gap-pinned (columns q) h) in
+      simp (lt-ltb (gapAt columns p) (gapAt columns q) g) tt
+
+  pub pinned-ties : (p q : ℕ) → PinnedSecond (columns p) → PinnedSecond (columns q) → ahead (gapAt columns) p q ≡ ltb p q
+  unfolding aheadBy
+  pinned-ties p q h k =
+      let e : gapAt columns p ≡ gapAt columns q = doubt-gap-pinned (columns p) h ∙ sym (doubt-gap-pinned (columns q) k) in
+      simp (le-ltb (gapAt columns p) (gapAt columns q) (omega arith), eq-eqb (gapAt columns p) (gapAt columns q) e)
+
 -- the same of a table's doubtful places
 module _ (n d : ℕ) (columns : ℕ → List ℕ) where
   pub doubtful-length : d + blanksOf n columns ≤ n → length (doubtfulOf n d columns) ≡ d
@@ -221,3 +258,8 @@ module _ (n d : ℕ) (columns : ℕ → List ℕ) where
       → (List·Memᴰ q (doubtfulOf n d columns) → ⊥) → T (ahead (gapAt columns) p q)
   unfolding doubtfulOf
   doubtful-ahead = smallest-ahead n (gapAt columns) (openAt columns) d
+
+  pub doubtful-pinned : (p q : ℕ) → List·Memᴰ p (doubtfulOf n d columns) → PinnedSecond (columns p) → q < n → openAt columns q ≡ true
+      → costOf (columns q) (secondOf (columns q)) < ceiling → List·Memᴰ q (doubtfulOf n d columns)
+  unfolding doubtfulOf
+  doubtful-pinned p q m h l o s = smallest-before n (gapAt columns) (openAt columns) d p q m l o (pinned-behind columns q p s h)

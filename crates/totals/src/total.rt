@@ -2,6 +2,7 @@
 use columns::bit::bit;
 use columns::blank::is_open;
 use columns::column::best;
+use columns::costs::CEILING;
 use columns::costs::PLACES;
 use columns::costs::byte_at;
 use columns::costs::column_of;
@@ -11,8 +12,6 @@ ghost use Prim.Native.Nat.{_<_};
 ghost use Rattle.soft.specs.Column.{places, symbols, columnOf};
 ghost use Rattle.soft.specs.Blank.{flagAt};
 ghost use Rattle.soft.specs.Total.{totalOf, pinnedOf, changedAt, changedOf, agree, differingIn};
-
-pub const CEILING: u16 = 65535;
 
 // A cost at the ceiling is summed as it stands.
 pub fn total(costs: &[u16], word: &[u8]) -> u32

@@ -3,7 +3,7 @@ use mathlib.Core.Path.{_≡_, sym, ap, _∙_}
 use Prim.Native.Nat.{_+_, _*_}
 use native.Mathlib.Omega.{arith}
 use borrow.Author.Needs.{needs}
-use Rattle.soft.specs.Column.{gapOf}
+use Rattle.soft.specs.Column.{doubtGapOf}
 use Rattle.doubt.proofs.Turns.{key-open, key-blank}
 use Rattle.doubt.proofs.key_of.Statement.{statement}
 use Rattle.doubt.proofs.key_of.Tie as tie
@@ -14,8 +14,8 @@ is-open-requires c κs = search needs
 column-of-requires : tie.Need-column-of-requires
 column-of-requires c κs = search needs
 
-gap-requires : tie.Need-gap-requires
-gap-requires c κs = search needs
+doubt-gap-requires : tie.Need-doubt-gap-requires
+doubt-gap-requires c κs = search needs
 
 cast-result : tie.Need-cast-result
 cast-result c = search needs
@@ -32,7 +32,7 @@ cast-result-2 c = search needs
 returns : tie.Need-returns
 returns c =
     key-open (sym (c .before .before .if1 .taken) ∙ c .before .before .before .is-open .ensures)
-    (ap (λ g. g * 64 + c .before .before .before .before .before .args .place) (c .gap .ensures ∙ ap gapOf (c .before .column-of .ensures)))
+    (ap (λ g. g * 64 + c .before .before .before .before .before .args .place) (c .doubt-gap .ensures ∙ ap doubtGapOf (c .before .column-of .ensures)))
     (omega arith)
 
 returns-2 : tie.Need-returns-2
@@ -44,7 +44,7 @@ key-of-spec =
     (tie.spec
     is-open-requires
     column-of-requires
-    gap-requires
+    doubt-gap-requires
     cast-result
     mul-result
     add-result
