@@ -3,14 +3,15 @@
 //! - [`Answer`]: the message, and the five numbers of the report; [`margin_of`] reads the last.
 //! - [`test_words`]: all test words of columns and a doubtful list.
 //! - [`near_codewords`]: all near codewords with their totals; [`decode`]: the one of least total.
-//! - [`decode_table`]: document 01's call, with its checks.
+//! - [`decode_table`]: document 01's call, with its checks; [`decode_table_by`]: with doubtful places
+//!   chosen by any rule.
 
 use crate::code::{check_size, Code};
 use crate::curve::PLACES;
 use crate::nearest::{Finder, Near};
 use crate::refusal::Refusal;
 use crate::row::Row;
-use crate::soft::{self, Columns, COLUMN_BYTES, DOUBT_LIMIT};
+use crate::soft::{self, doubtful_places, Columns, COLUMN_BYTES, DOUBT_LIMIT};
 
 /// "Table of 2,048 bytes, place 0 first."
 pub const TABLE_BYTES: usize = PLACES * COLUMN_BYTES;
@@ -134,6 +135,17 @@ pub fn decode_table(
     message: &mut [u8],
     report: &mut [u8],
 ) -> Result<(), Refusal> {
+    decode_table_by(doubtful_places, rate, table, doubt, [message, report])
+}
+
+/// Table decoding with the doubtful places that these columns have by a rule.
+pub fn decode_table_by(
+    choose: fn(&Columns, usize) -> Vec<u8>,
+    rate: u64,
+    table: &[u8],
+    doubt: u64,
+    [message, report]: [&mut [u8]; 2],
+) -> Result<(), Refusal> {
     let code = Code::of_rate(rate)?;
     check_size(table, TABLE_BYTES)?;
     check_size(message, code.symbols)?;
@@ -142,7 +154,7 @@ pub fn decode_table(
         return Err(Refusal::Doubt);
     }
     let columns = columns_of_table(table);
-    let doubtful = soft::doubtful_places(&columns, doubt as usize);
+    let doubtful = choose(&columns, doubt as usize);
     let answer = decode(Finder::of_rate(rate)?, &columns, &doubtful)?;
     message.copy_from_slice(&answer.message);
     report.copy_from_slice(&answer.report());
@@ -163,6 +175,7 @@ pub fn table_of_columns(columns: &Columns) -> Vec<u8> {
 mod tests {
     use super::*;
     use crate::frames::frame_s;
+    use crate::soft::CEILING;
 
     /// Doubtful places that are blank double nothing.
     #[test]
@@ -176,6 +189,20 @@ mod tests {
         columns[0] = [3; 16];
         columns[10] = [0; 16];
         assert_eq!(test_words(&columns, &[0, 5, 10]).len(), 1);
+    }
+
+    /// A list doubles what it names: what a gap counts as is a matter of choosing.
+    #[test]
+    fn test_words_have_pinned_seconds_that_a_list_names() {
+        let mut columns = frame_s(7);
+        columns[5] = [CEILING; 16];
+        columns[5][6] = 30_000;
+        let words = test_words(&columns, &[5]);
+        assert_eq!(
+            words.iter().map(|word| word.get(5)).collect::<Vec<u8>>(),
+            [6, 0]
+        );
+        assert!(!doubtful_places(&columns, 8).contains(&5));
     }
 
     /// "After the doubt or missing-place check, before 'none near'": each fault beside the later

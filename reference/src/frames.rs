@@ -9,6 +9,7 @@
 
 use crate::code::Code;
 use crate::curve::PLACES;
+use crate::field::{inverse, times};
 use crate::pairs::{pair, trio, Gaps, Planted};
 use crate::random::Random;
 use crate::row::Row;
@@ -51,7 +52,8 @@ pub enum Kind {
     /// A pair with a third codeword at least distance from both, which is not near; it may cost less
     /// than they do.
     Trio,
-    /// As `Wrong`, with costs at the ceiling.
+    /// As `Wrong`, with costs at the ceiling; or with pinned seconds where gaps are smallest, so that
+    /// table decoding does not pick the list.
     Ceiling,
     /// As `Valid`, with some columns, or all, that are blank but for one cost; or all are blank.
     Level,
@@ -137,6 +139,7 @@ pub fn faded(kind: Kind, rate: u64, doubt: usize, blanks: usize, random: &mut Ra
     let mut columns = match kind {
         Kind::Wrong => around(random.between(0, reach), random),
         Kind::Beyond => around(reach + random.between(1, 4), random),
+        Kind::Ceiling if random.once_in(2) => clipped(code, [&doubtful, &blank], reach, random),
         Kind::Ceiling => {
             let wrong = random.between(0, reach);
             around(wrong, random).map(|column| lifted(column, random))
@@ -295,6 +298,73 @@ fn lifted(column: Column, random: &mut Random) -> Column {
         _ => 0,
     };
     column.map(|cost| cost.saturating_add(lift))
+}
+
+/// Columns around a codeword with symbol 0 at some doubtful places, where seconds are pinned: such a
+/// second is symbol 0, unless that is best. Gaps are as small there as at the other doubtful places; as
+/// many settled ones have the next larger gap, so that they are chosen instead. At some of both, and at
+/// up to T other places, the sent symbol is not best. Once in four most settled places have pinned
+/// seconds too.
+fn clipped(
+    code: &Code,
+    [doubtful, blank]: [&[u8]; 2],
+    reach: usize,
+    random: &mut Random,
+) -> Columns {
+    let mut pinned = random.shuffled(doubtful.to_vec());
+    pinned.truncate(random.between(1, DOUBT_LIMIT));
+    let sent = codeword_with_zeros(code, &pinned, random);
+    let mut leaning = places_but(pinned.len() + reach, &[doubtful, blank].concat(), random);
+    let wrong = leaning.split_off(pinned.len());
+    let wrong = &wrong[..random.between(0, reach)];
+    let mut columns = around(&sent, doubtful, wrong, random);
+    for (places, gap) in [(&pinned, DOUBTFUL_GAP), (&leaning, DOUBTFUL_GAP + 1)] {
+        let wrong = random.between(0, places.len());
+        for (number, place) in places.iter().map(|place| usize::from(*place)).enumerate() {
+            let mut symbols = [sent.get(place), random.other_symbol(sent.get(place))];
+            if number < wrong {
+                symbols.reverse();
+            }
+            columns[place] = match gap {
+                DOUBTFUL_GAP => clipped_column(symbols[0], gap, random),
+                _ => column(symbols[0], symbols[1], gap, random),
+            };
+        }
+    }
+    if random.once_in(4) {
+        leaning.truncate(random.between(0, leaning.len()));
+        let open = [doubtful, wrong, &leaning].concat();
+        for place in places_but(PLACES - open.len(), &open, random) {
+            let place = usize::from(place);
+            columns[place] = clipped_column(sent.get(place), usize::from(CEILING), random);
+        }
+    }
+    columns
+}
+
+/// A codeword with symbol 0 at these places, fewer than k: one of a few is added to the others so that
+/// they have it at a place, for each in turn.
+fn codeword_with_zeros(code: &Code, places: &[u8], random: &mut Random) -> Row {
+    let count = places.len() + 1;
+    let mut words: Vec<Row> = (0..count).map(|_| random_codeword(code, random)).collect();
+    for place in places.iter().map(|place| usize::from(*place)) {
+        let Some(at) = words.iter().position(|word| word.get(place) != 0) else {
+            continue;
+        };
+        let pivot = words.swap_remove(at);
+        for word in &mut words {
+            let scale = times(word.get(place), inverse(pivot.get(place)));
+            word.add_scaled(scale, &pivot);
+        }
+    }
+    words[0]
+}
+
+/// All costs but the best are at the ceiling, and the best is lower by at most so much.
+fn clipped_column(best: u8, most: usize, random: &mut Random) -> Column {
+    let mut column = [CEILING; 16];
+    column[usize::from(best)] -= random.between(1, most) as u16;
+    column
 }
 
 /// Some columns become blank but for one cost; once in eight all do, with the same costs, and once in

@@ -34,9 +34,10 @@
 //! [`frames`] makes frames of thirteen kinds from a seed, each with every number of blank places,
 //! [`pairs`] those between codewords at least distance, [`damage`] captures with faults, [`arrivals`]
 //! five sorts of order in which places arrive. The binary `compare` runs them in two ways. It counts
-//! the frames with blank places and with a margin, the captures written after each sort of order and
-//! the withdrawals of each sort, and fails where they are too few to try it ([`blanks`], [`margins`],
-//! [`written`], [`withdrawals`]).
+//! the frames with blank places and with a margin, the tables in which a pinned second is not chosen
+//! as doubtful, the captures written after each sort of order and the withdrawals of each sort, and
+//! fails where they are too few to try it ([`blanks`], [`margins`], [`choices`], [`written`],
+//! [`withdrawals`]).
 //!
 //! Calls that cross as numbers and byte slices are linked: with the feature `proved`, and with
 //! `MODEM_LIB_DIR` naming the folder of `libmodem.a`, `compare code` runs the trials of
@@ -65,6 +66,7 @@ pub mod call_lists;
 pub mod calls;
 pub mod capture;
 pub mod channel;
+pub mod choices;
 pub mod code;
 pub mod curve;
 pub mod damage;

@@ -1,9 +1,10 @@
 //! Columns of costs: best and second symbols, gaps, blank and doubtful places, totals.
 //!
 //! - [`Column`], [`Columns`], [`column_of_bytes`], [`column_bytes`]: sixteen costs, and 64 of those.
-//! - [`best`], [`second`], [`gap`]: what a column says by itself.
+//! - [`best`], [`second`], [`gap`]: what a column says by itself; [`counted_gap`]: the gap as it
+//!   counts for choosing.
 //! - [`is_blank`], [`blank_places`]: columns that say nothing.
-//! - [`doubtful_places`]: the places that table decoding doubles.
+//! - [`doubtful_places`]: the places that table decoding doubles; [`smallest`]: by any gap.
 //! - [`total`], [`pinned`], [`changed`]: what a codeword costs, and the counts of the report.
 
 use crate::curve::PLACES;
@@ -58,6 +59,23 @@ pub fn gap(column: &Column) -> u16 {
     column[usize::from(second(column))] - column[usize::from(best(column))]
 }
 
+/// Whether the second cost is at the ceiling and the best is below it: a pinned second.
+pub fn is_second_pinned(column: &Column) -> bool {
+    let mut costs = *column;
+    costs.sort_unstable();
+    costs[0] < CEILING && costs[1..].iter().all(|cost| *cost == CEILING)
+}
+
+/// The gap as it counts for choosing doubtful places. Where the second is pinned the difference says
+/// 'at least': there it counts as the ceiling.
+pub fn counted_gap(column: &Column) -> u16 {
+    if is_second_pinned(column) {
+        CEILING
+    } else {
+        gap(column)
+    }
+}
+
 /// "Columns with all sixteen costs equal": "such a place is blank." (An erasure.)
 pub fn is_blank(column: &Column) -> bool {
     column.iter().all(|cost| *cost == column[0])
@@ -71,8 +89,13 @@ pub fn blank_places(columns: &Columns) -> Vec<u8> {
 
 /// "Table decoding with doubt d (0 to 8) takes the d places of smallest gap. Equal gaps go to the
 /// lower place." A blank place is "not chosen": they are the d of the others, or all of these where
-/// they are fewer. The list rises.
+/// they are fewer. A pinned second counts as the largest gap. The list rises.
 pub fn doubtful_places(columns: &Columns, doubt: usize) -> Vec<u8> {
+    smallest(columns, doubt, counted_gap)
+}
+
+/// The places that are not blank with the smallest gaps, however these are counted.
+pub fn smallest<G: Ord>(columns: &Columns, doubt: usize, gap: fn(&Column) -> G) -> Vec<u8> {
     let unblanked = |place: &u8| !is_blank(&columns[usize::from(*place)]);
     let mut places: Vec<u8> = (0..PLACES as u8).filter(unblanked).collect();
     places.sort_by_key(|place| (gap(&columns[usize::from(*place)]), *place));
@@ -122,6 +145,75 @@ mod tests {
         assert_eq!(doubtful_places(&columns, 3), [1, 3, 40]);
         columns[40][5] = 8;
         assert_eq!(doubtful_places(&columns, 3), [1, 3, 40]);
+    }
+
+    /// The best cost of a column that is pinned otherwise, at place 30; the other places have gap 9
+    /// or, if they are even, 40,000.
+    fn pinned_at_30(best: u16) -> Columns {
+        let mut columns = [[50_009; SYMBOLS]; PLACES];
+        for (place, column) in columns.iter_mut().enumerate() {
+            column[3] = if place % 2 == 0 { 10_009 } else { 50_000 };
+        }
+        columns[30] = [CEILING; SYMBOLS];
+        columns[30][3] = best;
+        columns
+    }
+
+    #[test]
+    fn pinned_seconds_count_as_the_largest_gap() {
+        let column = pinned_at_30(30_000)[30];
+        assert_eq!((gap(&column), counted_gap(&column)), (35_535, CEILING));
+        for best in [0, 1, 30_000, CEILING - 1] {
+            let column = pinned_at_30(best)[30];
+            assert_eq!(
+                (gap(&column), counted_gap(&column)),
+                (CEILING - best, CEILING)
+            );
+            let mut open = column;
+            open[9] = CEILING - 1;
+            assert_eq!(
+                (gap(&open), counted_gap(&open)),
+                (CEILING - 1 - best, CEILING - 1 - best)
+            );
+        }
+        let level = [CEILING; SYMBOLS];
+        assert_eq!((gap(&level), counted_gap(&level)), (0, 0));
+    }
+
+    /// Place 30 would be the first by its gap of 1, and is the last.
+    #[test]
+    fn pinned_seconds_are_chosen_last() {
+        let mut columns = pinned_at_30(CEILING - 1);
+        assert_eq!(smallest(&columns, 3, gap), [1, 3, 30]);
+        assert_eq!(doubtful_places(&columns, 3), [1, 3, 5]);
+        for column in &mut columns[32..] {
+            *column = [CEILING; SYMBOLS];
+        }
+        assert_eq!(doubtful_places(&columns, 31).len(), 31);
+        assert!(!doubtful_places(&columns, 31).contains(&30));
+        assert!(doubtful_places(&columns, 32).contains(&30));
+    }
+
+    /// Whatever their plain gaps, also where this is the ceiling itself.
+    #[test]
+    fn pinned_seconds_tie() {
+        let mut columns = [[CEILING; SYMBOLS]; PLACES];
+        for (place, best) in [
+            (5, 0),
+            (9, 7),
+            (12, CEILING - 1),
+            (40, CEILING - 9),
+            (50, 3),
+        ] {
+            columns[place][2] = best;
+        }
+        assert_eq!(smallest(&columns, 2, gap), [12, 40]);
+        for (doubt, places) in [(1, vec![5]), (2, vec![5, 9]), (4, vec![5, 9, 12, 40])] {
+            assert_eq!(doubtful_places(&columns, doubt), places);
+        }
+        columns[60] = [CEILING - 1; SYMBOLS];
+        columns[60][0] = 0;
+        assert_eq!(doubtful_places(&columns, 2), [5, 60]);
     }
 
     #[test]

@@ -4,12 +4,13 @@
 //!   or 0. [`REFERENCE`] and [`REFERENCE_TABLE`] are this package's.
 //! - [`encode_trial`], [`read_back_trial`], [`table_trial`]: one numbered call, right or damaged,
 //!   on a library; the [`Outcome`] is its number and every byte of its buffers.
-//! - [`compare`]: many trials on two libraries; the [`Tally`] of numbers, margins and blank places, or
-//!   a [`Difference`].
+//! - [`compare`]: many trials on two libraries; the [`Tally`] of numbers, margins, blank places and
+//!   doubtful ones, or a [`Difference`].
 
 use std::thread;
 
 use crate::blanks::{Blanks, Faded};
+use crate::choices::{Choice, Choices};
 use crate::code::{encode, read_back, Code};
 use crate::decode::{decode_table, margin_of, table_of_columns, REPORT_BYTES};
 use crate::frames::{random_codeword, Frame, Kind, RATES};
@@ -48,6 +49,8 @@ pub struct Outcome {
     pub report: Option<Vec<u8>>,
     /// The blank places of the table, where the call has one.
     pub faded: Option<Faded>,
+    /// What its pinned seconds make of the doubtful places, where the table was decoded.
+    pub choice: Option<Choice>,
 }
 
 /// The numbers that these calls return are below this.
@@ -63,12 +66,14 @@ pub struct Difference {
 /// One call of a library, the same for the same random stream.
 pub type Trial<L> = fn(&L, Random) -> Outcome;
 
-/// How often each number was returned, the margins of the reports and the blank places of the tables.
+/// How often each number was returned, the margins of the reports, and the blank and the doubtful
+/// places of the tables.
 #[derive(Clone, Debug, Default)]
 pub struct Tally {
     pub numbers: [u64; NUMBERS],
     pub margins: Margins,
     pub blanks: Blanks,
+    pub choices: Choices,
 }
 
 impl Tally {
@@ -82,6 +87,9 @@ impl Tally {
             let margin = report.and_then(|report| margin_of(report));
             self.blanks.count(faded, outcome.number, margin);
         }
+        if let Some(choice) = &outcome.choice {
+            self.choices.count(choice);
+        }
     }
 
     fn add(&mut self, other: Tally) {
@@ -90,6 +98,7 @@ impl Tally {
         }
         self.margins.add(other.margins);
         self.blanks.add(other.blanks);
+        self.choices.add(other.choices);
     }
 }
 
@@ -117,6 +126,7 @@ pub fn encode_trial(library: &Coding, mut random: Random) -> Outcome {
         buffer: frame,
         report: None,
         faded: None,
+        choice: None,
     }
 }
 
@@ -139,6 +149,7 @@ pub fn read_back_trial(library: &Coding, mut random: Random) -> Outcome {
         buffer: message,
         report: None,
         faded: None,
+        choice: None,
     }
 }
 
@@ -158,11 +169,13 @@ pub fn table_trial(decode_table: &DecodeTable, mut random: Random) -> Outcome {
     let mut message = bytes(perhaps_other(frame.rate as usize, &mut random), &mut random);
     let mut report = bytes(perhaps_other(REPORT_BYTES, &mut random), &mut random);
     let number = decode_table(rate, &table, doubt, &mut message, &mut report);
+    let decoded = [0, 9].contains(&number);
     Outcome {
         number,
         buffer: message,
         report: Some(report),
         faded: Some(faded),
+        choice: decoded.then(|| Choice::of(rate, &frame.columns, doubt as usize)),
     }
 }
 
@@ -245,8 +258,10 @@ pub fn compare<L: Sync>(
 mod tests {
     use super::*;
     use crate::blanks::OF_TABLES;
+    use crate::decode::decode_table_by;
     use crate::soft::{
-        best, column_bytes, column_of_bytes, gap, is_blank, Column, CEILING, COLUMN_BYTES,
+        best, column_bytes, column_of_bytes, counted_gap, doubtful_places, gap, is_blank,
+        is_second_pinned, smallest, Column, Columns, CEILING, COLUMN_BYTES,
     };
 
     /// The numbers that come often when a library is compared with itself.
@@ -315,6 +330,72 @@ mod tests {
         let both = [&REFERENCE, &REFERENCE];
         let tally = compare(encode_trial, both, 64, 40).unwrap();
         assert_eq!(tally.blanks, Blanks::default());
+    }
+
+    #[test]
+    fn trials_have_pinned_seconds() {
+        let both = [&REFERENCE_TABLE, &REFERENCE_TABLE];
+        let tally = compare(table_trial, both, 66, 2400).unwrap();
+        assert_eq!(tally.choices.check(2400), Ok(()));
+        let both = [&REFERENCE, &REFERENCE];
+        let tally = compare(encode_trial, both, 66, 40).unwrap();
+        assert_eq!(tally.choices, Choices::default());
+    }
+
+    /// Table decoding with one fault each in the choice of doubtful places.
+    #[test]
+    fn wrong_choices_are_found() {
+        let plain: DecodeTable = |rate, table, doubt, message, report| {
+            let choose = |columns: &Columns, doubt| smallest(columns, doubt, gap);
+            let lent = [message, report];
+            number(&decode_table_by(choose, rate, table, doubt, lent))
+        };
+        let best_at_the_ceiling: DecodeTable = |rate, table, doubt, message, report| {
+            let choose = |columns: &Columns, doubt| {
+                smallest(columns, doubt, |c| match c[usize::from(best(c))] {
+                    CEILING => CEILING,
+                    _ => gap(c),
+                })
+            };
+            let lent = [message, report];
+            number(&decode_table_by(choose, rate, table, doubt, lent))
+        };
+        let ties_by_gap: DecodeTable = |rate, table, doubt, message, report| {
+            let choose =
+                |columns: &Columns, doubt| smallest(columns, doubt, |c| (counted_gap(c), gap(c)));
+            let lent = [message, report];
+            number(&decode_table_by(choose, rate, table, doubt, lent))
+        };
+        let never_chosen: DecodeTable = |rate, table, doubt, message, report| {
+            let choose = |columns: &Columns, doubt| {
+                let mut places = doubtful_places(columns, doubt);
+                places.retain(|place| !is_second_pinned(&columns[usize::from(*place)]));
+                places
+            };
+            let lent = [message, report];
+            number(&decode_table_by(choose, rate, table, doubt, lent))
+        };
+        let any_cost_pinned: DecodeTable = |rate, table, doubt, message, report| {
+            let choose = |columns: &Columns, doubt| {
+                smallest(columns, doubt, |c| match c.contains(&CEILING) {
+                    true => CEILING,
+                    false => gap(c),
+                })
+            };
+            let lent = [message, report];
+            number(&decode_table_by(choose, rate, table, doubt, lent))
+        };
+        let libraries = [
+            plain,
+            best_at_the_ceiling,
+            ties_by_gap,
+            never_chosen,
+            any_cost_pinned,
+        ];
+        for (at, library) in libraries.iter().enumerate() {
+            let compared = compare(table_trial, [&REFERENCE_TABLE, library], 67, 2400);
+            assert!(compared.is_err(), "{at}");
+        }
     }
 
     /// A table with its columns changed.

@@ -31,6 +31,8 @@ The count of frames with a margin is printed; fewer than one in six are a failur
 The counts of frames with blank places are printed, by kind, by rate and number of these places, and
 by what came of them, and in lists of calls those of readings, captures and look-ups with blank
 places; too few of one of them are a failure.
+The counts of tables are printed in which a pinned second keeps a place from being chosen as
+doubtful, by what the plain gap would have led to; too few of one of them are a failure.
 The counts of captures written after places that arrived in each sort of order are printed; fewer
 than one in five frames after deliveries, or one a frame after captures, are a failure, and so is a
 capture that comes back unchanged and is not in place order, or the other way round.
@@ -183,10 +185,14 @@ mod proved {
         let both = [&REFERENCE_TABLE, &PROVED_TABLE];
         let tally = report("decode table", table_trial, both, seed, count)?;
         let Tally {
-            margins, blanks, ..
+            margins,
+            blanks,
+            choices,
+            ..
         } = tally;
-        super::output(format!("decode table: {blanks}; {margins}\n").as_bytes())?;
+        super::output(format!("decode table: {blanks}; {choices}; {margins}\n").as_bytes())?;
         blanks.check(count, &OF_TABLES)?;
+        choices.check(count)?;
         margins.check(count)
     }
 
