@@ -8,30 +8,33 @@ use std::fmt;
 
 use crate::decode::decode;
 use crate::nearest::Finder;
-use crate::soft::{doubtful_places, gap, is_second_pinned, smallest, Columns};
+use crate::soft::{counted_gap, doubtful_places, gap, is_second_pinned, smallest, Columns};
 
 /// What is counted. A table may be several of them.
 #[derive(Clone, Copy, Debug, PartialEq, Eq)]
 pub enum Event {
     /// A place is not chosen that its plain gap would have had chosen: its second is pinned.
     Spared,
-    /// The plain gap leads to another answer.
-    Differing,
-    /// It leads to none, and there is one.
+    /// The plain gap leads to another message.
+    OtherMessage,
+    /// It leads to the same message with another report.
+    OtherReport,
+    /// It leads to no answer, and there is one.
     Found,
     /// It leads to one, and there is none.
     Lost,
     /// Of the places with pinned seconds some are chosen and some are not.
     Tied,
-    /// The plain gap chooses others of them.
+    /// Others of them are chosen where the plain gap settles their tie.
     TiedOtherwise,
 }
 
 /// Each event with the words that follow its count, and of how many tables one is it at least; in
 /// the order of their numbers.
-const EVENTS: [(Event, &str, u64); 6] = [
+const EVENTS: [(Event, &str, u64); 7] = [
     (Event::Spared, "that spare a place", 60),
-    (Event::Differing, "with another answer", 600),
+    (Event::OtherMessage, "with another message", 600),
+    (Event::OtherReport, "with another report alone", 600),
     (Event::Found, "with an answer instead of none", 600),
     (Event::Lost, "with none instead of an answer", 600),
     (Event::Tied, "with a tie of these", 600),
@@ -57,7 +60,8 @@ impl Choice {
             let finder = Finder::of_rate(rate).expect("a known rate");
             let answer = |list: &[u8]| decode(finder, columns, list).ok();
             match (answer(&plain), answer(&chosen)) {
-                (Some(a), Some(b)) if a != b => events.push(Event::Differing),
+                (Some(a), Some(b)) if a.message != b.message => events.push(Event::OtherMessage),
+                (Some(a), Some(b)) if a != b => events.push(Event::OtherReport),
                 (None, Some(_)) => events.push(Event::Found),
                 (Some(_), None) => events.push(Event::Lost),
                 _ => (),
@@ -67,7 +71,8 @@ impl Choice {
         let tied = pinned(&chosen);
         if !tied.is_empty() && tied.len() < pinned(&all).len() {
             events.push(Event::Tied);
-            if tied != pinned(&plain) {
+            let by_gap = smallest(columns, doubt, |column| (counted_gap(column), gap(column)));
+            if chosen != by_gap {
                 events.push(Event::TiedOtherwise);
             }
         }
@@ -97,7 +102,7 @@ impl Choices {
     /// A line that says what is missing where one of the events came too seldom.
     pub fn check(&self, tables: u64) -> Result<(), String> {
         let few = EVENTS.iter().filter(|(event, _, one_in)| {
-            let wanted = tables / one_in;
+            let wanted = (tables / one_in).max(1);
             self.events[*event as usize] < wanted
         });
         let few: Vec<&str> = few.map(|(_, words, _)| *words).collect();
@@ -125,6 +130,8 @@ impl fmt::Display for Choices {
 mod tests {
     use super::*;
     use crate::frames::frame_s;
+    use crate::pairs::clipped_pair;
+    use crate::random::Random;
     use crate::soft::CEILING;
 
     /// The bench sheet's S(7), where wrong places have second symbol 0; at this place the second is
@@ -153,8 +160,11 @@ mod tests {
         assert_eq!(events(&pinned(5, 0, 3), 1), [Event::Spared, Event::Found]);
         assert_eq!(
             events(&pinned(5, 0, 3), 2),
-            [Event::Spared, Event::Differing]
+            [Event::Spared, Event::OtherReport]
         );
+        let pair = clipped_pair(39, &mut Random::new(40, 0)).frame;
+        let other = [Event::Spared, Event::OtherMessage];
+        assert_eq!(events(&pair.columns, pair.doubtful.len()), other);
         assert_eq!(events(&pinned(0, 1, 50), 7), []);
         // Only place 0 can be repaired.
         let mut columns = frame_s(7).map(|column| column.map(|cost| cost.min(30)));
@@ -175,6 +185,10 @@ mod tests {
         assert_eq!(events(&columns, 2), all);
         columns.reverse();
         assert_eq!(events(&columns, 2), [Event::Tied]);
+        // Place 63 is chosen instead of place 1, and place 0 whoever settles the tie.
+        columns[63] = [CEILING - 1; 16];
+        columns[63][0] = 0;
+        assert_eq!(events(&columns, 2), [Event::Spared, Event::Tied]);
     }
 
     /// Each count that is missing is named.
@@ -185,6 +199,7 @@ mod tests {
         };
         assert_eq!(sum.check(6000), Ok(()));
         assert!(sum.check(60_000).is_err());
+        assert!(Choices::default().check(1).is_err());
         for (event, words, one_in) in EVENTS {
             let mut few = sum;
             few.events[event as usize] = 6000 / one_in - 1;

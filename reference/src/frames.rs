@@ -10,13 +10,14 @@
 use crate::code::Code;
 use crate::curve::PLACES;
 use crate::field::{inverse, times};
-use crate::pairs::{pair, trio, Gaps, Planted};
+use crate::pairs::{clipped_pair, pair, trio, Gaps, Planted};
 use crate::random::Random;
 use crate::row::Row;
 use crate::soft::{best, second, Column, Columns, CEILING, DOUBT_LIMIT};
 
 /// The gaps of doubtful places are at most this, those of settled ones larger, so that table
-/// decoding picks the frame's own list.
+/// decoding picks the frame's own list, except where seconds are pinned ([`lifted`], [`clipped`],
+/// [`clipped_pair`]).
 pub(crate) const DOUBTFUL_GAP: usize = 9;
 pub(crate) const SETTLED_GAP: usize = 250;
 
@@ -53,7 +54,8 @@ pub enum Kind {
     /// than they do.
     Trio,
     /// As `Wrong`, with costs at the ceiling; or with pinned seconds where gaps are smallest, so that
-    /// table decoding does not pick the list.
+    /// table decoding does not pick the list; or a pair of which, where no place is blank, it finds the
+    /// one that the list does not.
     Ceiling,
     /// As `Valid`, with some columns, or all, that are blank but for one cost; or all are blank.
     Level,
@@ -121,7 +123,8 @@ pub fn frame(kind: Kind, rate: u64, doubt: usize, random: &mut Random) -> Frame 
 }
 
 /// A frame of a kind with so many blank places, some of them doubtful; there are more where all are
-/// blank by the kind. Pairs and trios have eight doubtful places whatever the doubt asked for.
+/// blank by the kind. Pairs and trios have eight doubtful places whatever the doubt asked for, and
+/// pairs with pinned seconds four.
 pub fn faded(kind: Kind, rate: u64, doubt: usize, blanks: usize, random: &mut Random) -> Frame {
     let code = Code::of_rate(rate).expect("a known rate");
     if let Some(planted) = planted(kind, code, blanks, random) {
@@ -172,6 +175,7 @@ fn planted(kind: Kind, code: &Code, blanks: usize, random: &mut Random) -> Optio
         Kind::WidePair => pair(rate, reach, Gaps::Wide, random),
         Kind::UnevenPair => pair(rate, reach + 1, Gaps::Mixed, random),
         Kind::Trio => trio(rate, DOUBT_LIMIT, Gaps::Mixed, random),
+        Kind::Ceiling if random.once_in(8) => clipped_pair(rate, random),
         _ => return None,
     };
     let doubtful = kind != Kind::EqualPair && random.once_in(2);
@@ -344,7 +348,7 @@ fn clipped(
 
 /// A codeword with symbol 0 at these places, fewer than k: one of a few is added to the others so that
 /// they have it at a place, for each in turn.
-fn codeword_with_zeros(code: &Code, places: &[u8], random: &mut Random) -> Row {
+pub(crate) fn codeword_with_zeros(code: &Code, places: &[u8], random: &mut Random) -> Row {
     let count = places.len() + 1;
     let mut words: Vec<Row> = (0..count).map(|_| random_codeword(code, random)).collect();
     for place in places.iter().map(|place| usize::from(*place)) {
@@ -361,7 +365,7 @@ fn codeword_with_zeros(code: &Code, places: &[u8], random: &mut Random) -> Row {
 }
 
 /// All costs but the best are at the ceiling, and the best is lower by at most so much.
-fn clipped_column(best: u8, most: usize, random: &mut Random) -> Column {
+pub(crate) fn clipped_column(best: u8, most: usize, random: &mut Random) -> Column {
     let mut column = [CEILING; 16];
     column[usize::from(best)] -= random.between(1, most) as u16;
     column

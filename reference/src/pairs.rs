@@ -4,6 +4,8 @@
 //! - [`Gaps`]: how far their totals are apart; [`Planted::apart`]: by a number given.
 //! - [`Planted::faded`]: the frame with blank places.
 //! - [`trio`]: a frame with a third codeword, at least distance from both.
+//! - [`clipped_pair`]: a frame that has one of two near by its own list, and the other by the places
+//!   that table decoding picks.
 //!
 //! Two codewords differ in 64 − M places or more, 20 at rate 39 and 10 at rate 49. If both are near,
 //! every settled place where they differ is wrong for one of them, and at most T are for each: 12
@@ -18,7 +20,10 @@
 
 use crate::code::Code;
 use crate::curve::PLACES;
-use crate::frames::{blank_column, column, random_codeword, Frame, DOUBTFUL_GAP, SETTLED_GAP};
+use crate::frames::{
+    blank_column, clipped_column, codeword_with_zeros, column, random_codeword, Frame,
+    DOUBTFUL_GAP, SETTLED_GAP,
+};
 use crate::light::{light_pair, lightest};
 use crate::random::Random;
 use crate::row::Row;
@@ -31,6 +36,9 @@ const WIDE_SETTLED_GAP: usize = 90_000;
 
 /// Of the places where one of a trio differs from the two others, so many are doubtful.
 const TRIO_DOUBT: usize = 4;
+
+/// Half of the least distance is T and so many more, at both rates.
+const PAIR_DOUBT: usize = 4;
 
 /// How the gaps are drawn where codewords differ.
 #[derive(Clone, Copy, Debug, PartialEq, Eq)]
@@ -210,6 +218,36 @@ pub fn trio(rate: u64, doubt: usize, gaps: Gaps, random: &mut Random) -> Planted
     draft.planted(codewords.to_vec())
 }
 
+/// Two codewords at least distance, each wrong at T places and [`PAIR_DOUBT`] more. So many of the
+/// first one's have pinned seconds, which are its symbols, and the smallest gaps; so many of the second
+/// one's have the next larger gap. So the plain gap leads to the first, and table decoding, which
+/// spares the pinned ones, to the second.
+pub fn clipped_pair(rate: u64, random: &mut Random) -> Planted {
+    let code = Code::of_rate(rate).expect("a known rate");
+    let difference = lightest(code, random);
+    let differing = (0..PLACES as u8).filter(|place| difference.get(usize::from(*place)) != 0);
+    let mut first_wrong = random.shuffled(differing);
+    let second_wrong = first_wrong.split_off(PAIR_DOUBT + code.reach);
+    let first = codeword_with_zeros(code, &first_wrong[..PAIR_DOUBT], random);
+    let mut second = first;
+    second.add(&difference);
+    let mut draft = Draft::around(&first, rate, Gaps::Mixed, random);
+    for (number, place) in first_wrong.into_iter().enumerate() {
+        let at = usize::from(place);
+        if number < PAIR_DOUBT {
+            draft.frame.doubtful.push(place);
+            draft.frame.columns[at] = clipped_column(second.get(at), DOUBTFUL_GAP - 1, random);
+        } else {
+            draft.settle(at, second.get(at), first.get(at), random);
+        }
+    }
+    for at in second_wrong.into_iter().take(PAIR_DOUBT).map(usize::from) {
+        let leaning = column(first.get(at), second.get(at), DOUBTFUL_GAP, random);
+        draft.frame.columns[at] = leaning;
+    }
+    draft.planted(vec![first, second])
+}
+
 /// A frame in the making.
 struct Draft {
     frame: Frame,
@@ -271,7 +309,7 @@ mod tests {
     use crate::decode::{decode, near_codewords, Answer};
     use crate::frames::RATES;
     use crate::nearest::Finder;
-    use crate::soft::blank_places;
+    use crate::soft::{blank_places, doubtful_places, gap, smallest};
 
     /// The planted codewords that are near, cheapest first, with their totals. Every codeword found
     /// is one of them.
@@ -313,6 +351,26 @@ mod tests {
 
     fn reach(rate: u64) -> usize {
         Code::of_rate(rate).unwrap().reach
+    }
+
+    #[test]
+    fn clipped_pairs_are_told_apart_by_the_places_chosen() {
+        for rate in RATES {
+            let code = Code::of_rate(rate).unwrap();
+            let finder = Finder::of_rate(rate).unwrap();
+            for number in 0..20 {
+                let planted = clipped_pair(rate, &mut Random::new(39, number));
+                let columns = &planted.frame.columns;
+                let plain = smallest(columns, PAIR_DOUBT, gap);
+                assert_eq!(plain, planted.frame.doubtful);
+                let chosen = doubtful_places(columns, PAIR_DOUBT);
+                for (list, codeword) in [plain, chosen].iter().zip(&planted.codewords) {
+                    let answer = decode(finder, columns, list).unwrap();
+                    assert_eq!(Some(answer.message), code.message(codeword));
+                    assert_eq!((answer.tests, answer.margin), (1, None));
+                }
+            }
+        }
     }
 
     #[test]

@@ -350,11 +350,11 @@ mod tests {
             let lent = [message, report];
             number(&decode_table_by(choose, rate, table, doubt, lent))
         };
-        let best_at_the_ceiling: DecodeTable = |rate, table, doubt, message, report| {
+        let counted_as_none: DecodeTable = |rate, table, doubt, message, report| {
             let choose = |columns: &Columns, doubt| {
-                smallest(columns, doubt, |c| match c[usize::from(best(c))] {
-                    CEILING => CEILING,
-                    _ => gap(c),
+                smallest(columns, doubt, |c| match is_second_pinned(c) {
+                    true => 0,
+                    false => gap(c),
                 })
             };
             let lent = [message, report];
@@ -387,7 +387,7 @@ mod tests {
         };
         let libraries = [
             plain,
-            best_at_the_ceiling,
+            counted_as_none,
             ties_by_gap,
             never_chosen,
             any_cost_pinned,

@@ -3,7 +3,7 @@
 --   tableLength            a column for each place, place 0 first, of a cost for each symbol, two bytes each: 2,048 bytes where there are 64 places
 --   closed n message report   a number returned and the two lent buffers afterwards
 --   tableColumns table     the columns by place
---   pickedOf table doubt   the doubtful places: of those that are not blank those of smallest gap, equal gaps to the lower place
+--   pickedOf table doubt   the doubtful places: of those that are not blank those of smallest gap as it counts for choosing, equal gaps to the lower place
 --   tableOf rate table doubt message report   1 if the rate is unknown, 2 if a buffer has the wrong size, 4 if the doubt is too large;
 --                          else what decoding by the table's columns and the doubtful places picked answers
 --   table-rate, table-size, table-doubt, table-decoded   the four cases

@@ -11,7 +11,7 @@
 --   doubtful-length, doubtful-most, doubtful-rising, doubtful-below, doubtful-open, doubtful-ahead   the same of a table's doubtful places
 --   pinned-behind          a place whose second cost is below the ceiling is ahead of one whose second is at it, over a lower best
 --   pinned-ties            of two places with such seconds the lower is ahead
---   doubtful-pinned        a place with such a second is chosen only if all places are whose second is below the ceiling
+--   doubtful-pinned        a place with such a second is chosen only if all places are that are not blank and whose second is below the ceiling
 --   doubtful-none          no doubt, no doubtful places
 --   aheadOf-ext, smallest-ext, doubtful-ext   only the n places matter
 use mathlib.Core.Bool.{Bool, true, false, not, _&&_}
