@@ -3,7 +3,6 @@
 --   recordLength     33: a place and its 32 cost bytes
 --   bodyLength d     2,114 + d: the bytes that follow the two bytes of length, where d places are doubtful
 --   captureLength d  2,117 + d: all of them
---   costBytes        two bytes a cost, high byte first
 --   rowBytes         a record for each entry, its place and its 32 cost bytes
 --   captureOf        version 1, length, rate, d, the d doubtful places, the 64 records in rising place order
 --   recordsOf n      n records from their bytes
@@ -11,6 +10,7 @@ use mathlib.Core.List.{List, [], _∷_, _++_}
 use Prim.Native.Nat.{ℕ, zero, suc, _+_, _/_, _%_}
 use lib.ListN.{length, getD, take, drop}
 use Rattle.soft.specs.Column.{costsFrom}
+use Rattle.soft.specs.CostBytes.{costBytes}
 use Rattle.book.specs.Book.{Entry, Book}
 use Rattle.book.specs.Here.{width, inPlaceOrder}
 
@@ -22,10 +22,6 @@ bodyLength d = 2114 + d
 
 abbrev pub captureLength : ℕ → ℕ
 captureLength d = 2117 + d
-
-unfoldable pub costBytes : List ℕ → List ℕ
-costBytes [] = []
-costBytes (cost ∷ column) = cost / 256 ∷ cost % 256 ∷ costBytes column
 
 unfoldable pub rowBytes : List Entry → List ℕ
 rowBytes [] = []

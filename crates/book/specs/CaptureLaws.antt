@@ -1,84 +1,33 @@
 -- What follows of the bytes of a capture's costs and records. (The two round trips stand in RoundTrip.)
 --
---   cost-bytes-append, row-bytes-append           the bytes of one list after another
---   cost-bytes-length, row-bytes-length           how many there are
---   costs-bytes, bytes-costs     costs written and read are the costs; bytes read and written are the bytes
---   records-row, row-records     the same of records
+--   costs-bytes, bytes-costs     a column written and read is the column; its bytes read and written are the bytes
+--   row-bytes-append, row-bytes-length   the bytes of the records of one row after another, and how many there are
+--   records-row, row-records     records written and read, read and written
 use mathlib.Core.Bool.{true}
 use mathlib.Core.Path.{_≡_, refl, sym, ap, ap₂, _∙_}
 use mathlib.Core.List.{List, [], _∷_, _++_, append-assoc}
-use Prim.Native.Nat.{ℕ, zero, suc, _+_, _*_, _/_, _%_, _<_}
+use Prim.Native.Nat.{ℕ, zero, suc, _+_, _*_}
 use native.Mathlib.Omega.{arith}
 use lib.Dec.{eqb}
 use lib.ListN.{length, take, drop, length-append, length-drop, take-append-drop}
 use lib.Seq.{take-at, drop-at, length-take-le}
 use borrow.Author.Tests.{eq-eqb}
-use Rattle.lists.specs.Listed.{listed-nil, listed-cons, listed-ext}
 use Rattle.lists.specs.Distinct.{below, below-cons, below-take, below-drop, and-both}
-use Rattle.soft.specs.Column.{costFrom, costsFrom}
+use Rattle.soft.specs.Column.{costsFrom}
 use Rattle.soft.specs.ColumnLaws.{costs-length}
+use Rattle.soft.specs.CostBytes.{costBytes, cost-bytes-length, costs-written, bytes-read}
 use Rattle.book.specs.Model.{modem64}
 use Rattle.book.specs.Book.{Entry}
-use Rattle.book.specs.Capture.{recordLength, costBytes, rowBytes, recordsOf}
+use Rattle.book.specs.Capture.{recordLength, rowBytes, recordsOf}
 use Rattle.book.specs.RowLaws.{wide-cons}
 use Rattle.book.specs.Here.{width, wide}
 use Rattle.book.specs.RowLaws as BookRows
 
 -- ---- cost bytes
 
-pub cost-bytes-append : (a b : List ℕ) → costBytes (a ++ b) ≡ costBytes a ++ costBytes b
-unfolding costBytes
-cost-bytes-append [] b = refl
-cost-bytes-append (c ∷ a) b = ap (λ (l : List ℕ). c / 256 ∷ c % 256 ∷ l) (cost-bytes-append a b)
-
-pub cost-bytes-length : (column : List ℕ) → length (costBytes column) ≡ 2 * length column
-unfolding costBytes
-cost-bytes-length [] = refl
-cost-bytes-length (c ∷ column) = omega (arith, cost-bytes-length column)
-
-costs-cons : (n h l : ℕ) (bytes : List ℕ) → costsFrom (suc n) (h ∷ l ∷ bytes) ≡ (h * 256 + l) ∷ costsFrom n bytes
-unfolding costsFrom
-costs-cons n h l bytes =
-    listed-cons n (costFrom (h ∷ l ∷ bytes))
-    ∙ ap (λ (r : List ℕ). (h * 256 + l) ∷ r) (listed-ext n (λ k. costFrom (h ∷ l ∷ bytes) (suc k)) (costFrom bytes) later)
-  where
-    later : (k : ℕ) → k < n → costFrom (h ∷ l ∷ bytes) (suc k) ≡ costFrom bytes k
-    later k b =
-        let e : suc k * 2 ≡ suc (suc (k * 2)) = omega arith in
-        let f : suc k * 2 + 1 ≡ suc (suc (k * 2 + 1)) = omega arith in
-        rw (f, e)
-
-no-costs : (bytes : List ℕ) → costsFrom 0 bytes ≡ []
-unfolding costsFrom
-no-costs bytes = listed-nil (costFrom bytes)
-
-costs-written : (column : List ℕ) → costsFrom (length column) (costBytes column) ≡ column
-unfolding costBytes
-costs-written [] = no-costs []
-costs-written (c ∷ column) =
-    costs-cons (length column) (c / 256) (c % 256) (costBytes column)
-    ∙ ap₂ (λ x (l : List ℕ). x ∷ l) (omega arith) (costs-written column)
-
--- costs written and read are the costs,
 pub costs-bytes : (column : List ℕ) → length column ≡ width → costsFrom width (costBytes column) ≡ column
 costs-bytes column e = ap (λ n. costsFrom n (costBytes column)) (sym e) ∙ costs-written column
 
-bytes-read : (n : ℕ) (bytes : List ℕ) → length bytes ≡ 2 * n → below 256 bytes ≡ true → costBytes (costsFrom n bytes) ≡ bytes
-unfolding costBytes
-bytes-read zero [] e b = rw no-costs
-bytes-read zero (h ∷ bytes) e b = absurd (omega arith)
-bytes-read (suc n) [] e b = absurd (omega arith)
-bytes-read (suc n) (h ∷ []) e b = absurd (omega arith)
-bytes-read (suc n) (h ∷ l ∷ bytes) e b =
-    let f : (h < 256) × (below 256 (l ∷ bytes) ≡ true) = below-cons 256 h (l ∷ bytes) b in
-    let g : (l < 256) × (below 256 bytes ≡ true) = below-cons 256 l bytes (f .1) in
-    let i : l < 256 = g .0 in
-    let high : (h * 256 + l) / 256 ≡ h = omega arith in
-    let low : (h * 256 + l) % 256 ≡ l = omega arith in
-    ap costBytes (costs-cons n h l bytes)
-    ∙ ap₂ (λ x (r : List ℕ). x ∷ r) high (ap₂ (λ x (r : List ℕ). x ∷ r) low (bytes-read n bytes (omega arith) (g .1)))
-
--- and bytes read and written are the bytes
 pub bytes-costs : (bytes : List ℕ) → length bytes ≡ 32 → below 256 bytes ≡ true → costBytes (costsFrom width bytes) ≡ bytes
 bytes-costs bytes e b = bytes-read width bytes e b
 

@@ -18,8 +18,9 @@ use borrow.Author.Tests.{eq-eqb, ne-eqb, lt-ltb, le-ltb}
 use Rattle.refusals.specs.Refusal.{accepted}
 use Rattle.lists.specs.Distinct.{among, below, below-take, below-drop, distinct-all}
 use Rattle.soft.specs.Column.{costsFrom}
+use Rattle.soft.specs.CostBytes.{costBytes}
 use Rattle.book.specs.Book.{columnIn, Outcome}
-use Rattle.book.specs.Capture.{recordLength, captureLength, costBytes, recordsOf}
+use Rattle.book.specs.Capture.{recordLength, captureLength, recordsOf}
 use Rattle.book.specs.CaptureOpening.{doubtIn, recordsIn, openCaptureOf}
 use Rattle.book.specs.LookUp.{recordWith, costsBegin, lookUpOf}
 use Rattle.book.specs.RowLaws.{placesOf, places-length}

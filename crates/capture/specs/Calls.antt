@@ -12,8 +12,9 @@ use Prim.Native.Nat.{ℕ, _+_, _/_, _%_}
 use lib.ListN.{length}
 use Rattle.refusals.specs.Refusal.{accepted}
 use Rattle.lists.specs.Listed.{listed}
+use Rattle.soft.specs.CostBytes.{costBytes}
 use Rattle.book.specs.Book.{Entry}
-use Rattle.book.specs.Capture.{bodyLength, costBytes}
+use Rattle.book.specs.Capture.{bodyLength}
 use Rattle.book.specs.Writing.{writeOf}
 use Rattle.session.specs.declared.Session.{Session}
 use Rattle.session.specs.View.{entryAt, bookOf, Good}

@@ -1,4 +1,6 @@
 pub mod Column
+pub mod CostBytes
+pub mod Bits
 pub mod Blank
 pub mod Ranks
 pub mod Doubt
@@ -6,6 +8,7 @@ pub mod TestWord
 pub mod Total
 pub mod ColumnLaws
 pub mod BlankLaws
+pub mod BitsLaws
 pub mod DoubtLaws
 pub mod TestWordLaws
 pub mod TotalLaws

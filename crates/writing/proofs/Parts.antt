@@ -10,9 +10,10 @@ use borrow.Rule.Slice.PartMut.{putMid}
 use Rattle.lists.specs.Listed.{listed, listed-nil, listed-suc, listed-length}
 use Rattle.lists.specs.Block.{block}
 use Rattle.lists.specs.Stored.{stored-one, stored-part}
+use Rattle.soft.specs.CostBytes.{costBytes, cost-bytes-append, cost-bytes-length}
 use Rattle.book.specs.Book.{Entry}
-use Rattle.book.specs.Capture.{recordLength, costBytes, rowBytes}
-use Rattle.book.specs.CaptureLaws.{cost-bytes-append, cost-bytes-length, row-bytes-append, row-bytes-length}
+use Rattle.book.specs.Capture.{recordLength, rowBytes}
+use Rattle.book.specs.CaptureLaws.{row-bytes-append, row-bytes-length}
 use Rattle.book.specs.Here.{places, width}
 use Rattle.session.specs.View.{entryAt}
 use Rattle.session.specs.Laws.{row-wide}

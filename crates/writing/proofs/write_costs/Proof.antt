@@ -5,7 +5,7 @@ use mathlib.Core.List.{_++_}
 use Prim.Native.Nat.{_-_, _*_, _≤_}
 use native.Mathlib.Omega.{arith}
 use lib.ListN.{length, take, drop, length-set}
-use Rattle.book.specs.Capture.{costBytes}
+use Rattle.soft.specs.CostBytes.{costBytes}
 use Rattle.writing.proofs.Parts.{costs-start, costs-turn, costs-end}
 use Rattle.writing.proofs.write_costs.Statement.{statement}
 use Rattle.writing.proofs.write_costs.Tie as tie

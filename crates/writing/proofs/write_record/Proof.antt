@@ -5,8 +5,7 @@ use mathlib.Core.Path.{_≡_, ap, _∙_}
 use mathlib.Core.List.{List, _∷_}
 use Prim.Native.Nat.{ℕ, _*_, _-_}
 use borrow.Rule.Slice.PartMut.{same-len-mid}
-use Rattle.book.specs.Capture.{costBytes}
-use Rattle.book.specs.CaptureLaws.{cost-bytes-length}
+use Rattle.soft.specs.CostBytes.{costBytes, cost-bytes-length}
 use lib.ListN.{length, set, length-set}
 use Rattle.capture.specs.Calls.{recordBytes}
 use Rattle.capture.specs.Rest.{rest-length}
