@@ -6,19 +6,30 @@
 --   column-missing, cost-missing   a place past the last costs
 --   open-missing           a place that lacks all its costs is blank
 --   open-start, open-differs, open-none   its costs compared with the first: before the second one, where one differs, where none does
-use mathlib.Core.Bool.{Bool, true, false, not}
+--   contradicts-none       no bit contradicts zero
+--   cost-added, cost-not-added   what a value adds, if its bit contradicts it and if not
+--   four-added             what four values add
+--   columns-start, columns-turn, columns-end   the columns of a frame's places stored one after the other: before the first, at each, after the last
+use mathlib.Core.Bool.{Bool, true, false, not, cond}
 use mathlib.Core.Path.{_≡_, refl, sym, ap, ap₂, _∙_, subst, subst₂}
-use mathlib.Core.List.{List}
+use mathlib.Core.List.{List, _++_, append-nil}
 use mathlib.Core.Logic.{_≢_}
-use Prim.Native.Nat.{ℕ, _+_, _-_, _*_, _≤_, _<_}
+use Prim.Native.Nat.{ℕ, _+_, _-_, _*_, _/_, _%_, _^_, _≤_, _<_}
+use native.Mathlib.Nat.{mul-zero, mul-suc, mul-comm}
 use native.Mathlib.Numerals.{add-one}
 use native.Mathlib.Omega.{arith}
-use lib.ListN.{length, getD, replicate, getD-replicate, length-replicate, List·getD-eq-default}
-use Rattle.lists.specs.Listed.{listed-by}
+use lib.ListN.{length, getD, take, drop, length-drop, replicate, getD-replicate, length-replicate, List·getD-eq-default, drop-of-length-le}
+use lib.Seq.{length-take-le}
+use borrow.Rule.Slice.PartMut.{putMid}
+use Rattle.lists.specs.Count.{sumOf}
+use Rattle.lists.specs.Listed.{listed, listed-by}
+use Rattle.lists.specs.Stored.{stored-part}
 use Rattle.soft.specs.Column.{costOf, pairAt, costAt, columnOf, bestBut, betterIn, bestOf, secondOf, gapOf, countedGap, doubtGapOf, isBlank}
 use Rattle.soft.specs.ColumnLaws.{bestBut-suc, bestBut-below, best-least, second-below, column-length, cost-column}
 use Rattle.soft.specs.Blank.{openAt}
 use Rattle.soft.specs.BlankLaws.{blank-same, column-none}
+use Rattle.soft.specs.Bits.{bits, magnitude, contradicts, bitCost, bitOf, symbolCost, bitColumn, valuesAt, bitColumns, bitCosts}
+use Rattle.soft.specs.BitsLaws.{magnitude-most, contradicts-zero, bit-costs-suc, bit-costs-length}
 
 pub bestBut-turn : (column : List ℕ) (b n held r : ℕ) → held ≡ bestBut column b n → r ≡ betterIn column b held n → r ≡ bestBut column b (n + 1)
 bestBut-turn column b n held r e f =
@@ -96,3 +107,50 @@ module _ (q : ℕ) (costs : List ℕ) (p : ℕ) where
             absurd
             (d (sym (cost-column q costs p s l) ∙ same b ∙ cost-column q costs p 0 (omega arith) ∙ open-start 0 (omega arith)))
         go false b = sym (ap not b)
+
+-- what a value adds to a symbol's cost
+pub contradicts-none : (v t : ℕ) → v ≡ 0 → false ≡ contradicts v t
+contradicts-none v t e = sym (ap (λ x. contradicts x t) e ∙ contradicts-zero t)
+
+module _ (v t : ℕ) where
+  pub cost-added : {r : ℕ} → contradicts v t ≡ true → r ≡ magnitude v → (r ≡ bitCost v t) × (r ≤ 128)
+  unfolding bitCost
+  cost-added e m = (m ∙ sym (ap (λ b. cond b (magnitude v) 0) e), omega (arith, magnitude-most v))
+
+  pub cost-not-added : contradicts v t ≡ false → (0 ≡ bitCost v t) × (0 ≤ 128)
+  unfolding bitCost
+  cost-not-added e = (sym (ap (λ b. cond b (magnitude v) 0) e), omega arith)
+
+pub four-added : (values : List ℕ) (s : ℕ) {a b c d : ℕ} → a ≡ bitCost (getD values 0 0) (s / 8 % 2) → b ≡ bitCost (getD values 1 0) (s / 4 % 2)
+    → c ≡ bitCost (getD values 2 0) (s / 2 % 2) → d ≡ bitCost (getD values 3 0) (s % 2) → a + b + c + d ≡ symbolCost bits values s
+unfolding symbolCost sumOf bitOf
+four-added values s {d = d} e f g h =
+    let last : d ≡ bitCost (getD values 3 0) (s / 1 % 2) = h ∙ ap (λ x. bitCost (getD values 3 0) (x % 2)) (omega arith) in
+    omega arith
+
+-- a loop that lends the next 2 ^ b costs of `out`, in which a call leaves the column of place p
+module _ (b : ℕ) (frame old : List ℕ) where
+  pub columns-start : old ≡ bitCosts b 0 frame ++ drop (2 ^ b * 0) old
+  unfolding bitCosts
+  columns-start = ap (λ k. drop k old) (sym (mul-zero (2 ^ b)))
+
+  pub columns-turn : (out part values : List ℕ) (p : ℕ) → values ≡ valuesAt b frame p
+      → part ≡ listed (length (take (2 ^ b * p + 2 ^ b - 2 ^ b * p) (drop (2 ^ b * p) out))) (symbolCost b values)
+      → 2 ^ b * p + 2 ^ b ≤ length out → out ≡ bitCosts b p frame ++ drop (2 ^ b * p) old
+      → putMid (2 ^ b * p) (2 ^ b * p + 2 ^ b - 2 ^ b * p) out part ≡ bitCosts b (p + 1) frame ++ drop (2 ^ b * (p + 1)) old
+  unfolding bitColumns bitColumn
+  columns-turn out part values p v e fits f =
+      let at : ℕ = 2 ^ b * p in
+      let lent : length (take (at + 2 ^ b - at) (drop at out)) ≡ 2 ^ b =
+      length-take-le (at + 2 ^ b - at) (drop at out) (omega (arith, length-drop at out)) ∙ omega arith in
+      let k : at + (at + 2 ^ b - at) ≡ 2 ^ b * (p + 1) = omega (arith, mul-suc (2 ^ b) p, ap (λ n. 2 ^ b * n) (add-one p)) in
+      stored-part out old (bitCosts b p frame) part at (at + 2 ^ b - at) (bit-costs-length b frame p ∙ mul-comm p (2 ^ b)) f
+      ∙ ap₂ (λ (l : List ℕ) n. l ++ drop n old)
+      (ap (λ (l : List ℕ). bitCosts b p frame ++ l) (e ∙ ap₂ (λ n (w : List ℕ). listed n (symbolCost b w)) lent v)
+      ∙ sym (bit-costs-suc b frame p) ∙ ap (λ n. bitCosts b n frame) (sym (add-one p)))
+      k
+
+  pub columns-end : (out : List ℕ) (n p : ℕ) → p ≡ n → length old ≡ n * 2 ^ b → out ≡ bitCosts b p frame ++ drop (2 ^ b * p) old → out ≡ bitCosts b n frame
+  columns-end out n p e l f =
+      let k : length old ≤ 2 ^ b * p = omega (arith, l, mul-comm n (2 ^ b), ap (λ j. 2 ^ b * j) e) in
+      f ∙ ap (λ (r : List ℕ). bitCosts b p frame ++ r) (drop-of-length-le old k) ∙ append-nil (bitCosts b p frame) ∙ ap (λ j. bitCosts b j frame) e

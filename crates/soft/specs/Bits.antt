@@ -10,16 +10,16 @@
 --   bitCost v t            what v adds to the cost of a symbol that has the bit t there: its magnitude if the bit contradicts it, else nothing
 --   symbolCost b values s  the cost of a symbol: the sum of these
 --   bitColumn b values     the column: the cost of every symbol
---   bitColumns b frame p   the column of place p, where a frame holds the b values of each place, place 0 first
+--   valuesAt b frame p     the b values of place p, where a frame holds those of place 0 first; what it lacks reads as 0
+--   bitColumns b frame p   the column that they make
 --   bitCosts b n frame     the columns of n places one after the other
 --   bitTable b n frame     the table that the frame makes: two bytes a cost
 use mathlib.Core.Bool.{Bool, false, not, cond}
 use mathlib.Core.List.{List, [], _++_}
 use mathlib.Core.Option.{Option, none, some}
-use Prim.Native.Nat.{ℕ, zero, suc, _-_, _/_, _%_, _^_}
+use Prim.Native.Nat.{ℕ, zero, suc, _+_, _-_, _*_, _/_, _%_, _^_}
 use lib.Dec.{eqb, leb}
 use lib.ListN.{getD}
-use Rattle.lists.specs.Block.{block}
 use Rattle.lists.specs.Count.{sumOf}
 use Rattle.lists.specs.Listed.{listed}
 use Rattle.soft.specs.CostBytes.{costBytes}
@@ -59,8 +59,11 @@ symbolCost b values s = sumOf b (addedBy b values s)
 unfoldable pub bitColumn : ℕ → List ℕ → List ℕ
 bitColumn b values = listed (2 ^ b) (symbolCost b values)
 
+unfoldable pub valuesAt : ℕ → List ℕ → ℕ → List ℕ
+valuesAt b frame p = listed b (λ i. getD frame (b * p + i) 0)
+
 unfoldable pub bitColumns : ℕ → List ℕ → ℕ → List ℕ
-bitColumns b frame p = bitColumn b (block b p frame)
+bitColumns b frame p = bitColumn b (valuesAt b frame p)
 
 unfoldable pub bitCosts : ℕ → ℕ → List ℕ → List ℕ
 bitCosts b zero frame = []

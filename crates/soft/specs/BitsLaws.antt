@@ -13,10 +13,12 @@
 --   bit-column-length, cost-bits   a column has a cost for each symbol: the sum of what the values add
 --   bit-cost-512           with four bits no cost exceeds 512; bit-column-most: with b bits, 128 b
 --   blank-bits             the column is blank exactly if all values are zero
+--   bit-costs-suc          the costs of one place more
 --   bit-costs-length, bit-table-length   a frame of n places makes n costs for each symbol, and two bytes for each cost;
 --   bit-table-bytes        they are bytes,
 --   costs-bits             and from them the costs are read
---   bit-columns            the table's column of place p is that of the values b p to b p + b − 1; bit-values: which these are
+--   values-at, values-block   the values of place p are those from number b p to b p + b − 1, a block of the frame
+--   bit-columns            the table's column of place p is the one that they make
 --   columns-bits           so the columns of the costs are those of the frame, at every place
 use mathlib.Core.Bool.{Bool, true, false, not, cond}
 use mathlib.Core.Path.{_≡_, refl, sym, ap, ap₂, _∙_, subst, fun-ext}
@@ -31,14 +33,14 @@ use lib.ListN.{length, getD, length-append, List·getD-append, List·getD-eq-def
 use lib.Pow.{pow-pos, pow-lt, pow-add}
 use lib.Seq.{getD-append-add}
 use borrow.Author.Tests.{le-leb, lt-leb, ne-eqb}
-use Rattle.lists.specs.Block.{block, block-at}
+use Rattle.lists.specs.Block.{block, block-length, block-at}
 use Rattle.lists.specs.Count.{sumOf, sumOf-nil, sumOf-suc, sumOf-ext, sumOf-plus, sumOf-bound, sumOf-strict}
 use Rattle.lists.specs.Distinct.{below}
-use Rattle.lists.specs.Listed.{listed, listed-length, listed-at, listed-ext}
+use Rattle.lists.specs.Listed.{listed, listed-length, listed-at, listed-ext, listed-by}
 use Rattle.soft.specs.Column.{symbols, ceiling, costOf, costAt, costsFrom, columnOf, isBlank}
 use Rattle.soft.specs.BlankLaws.{blank-same}
 use Rattle.soft.specs.CostBytes.{costBytes, cost-bytes-length, cost-bytes-below, costs-written}
-use Rattle.soft.specs.Bits.{bits, isNegative, magnitude, favoured, contradicts, bitCost, bitOf, addedBy, symbolCost, bitColumn, bitColumns, bitCosts, bitTable}
+use Rattle.soft.specs.Bits.{bits, isNegative, magnitude, favoured, contradicts, bitCost, bitOf, addedBy, symbolCost, bitColumn, valuesAt, bitColumns, bitCosts, bitTable}
 
 pub symbols-bits : symbols ≡ 2 ^ bits
 symbols-bits = refl
@@ -281,15 +283,26 @@ bit-cost-512 values s = bit-column-most bits values s
 -- ---- a frame
 
 module _ (b : ℕ) (frame : List ℕ) where
-  pub bit-values : (p i : ℕ) → i < b → getD (block b p frame) i 0 ≡ getD frame (b * p + i) 0
-  bit-values p i h = block-at b p frame i 0 h
+  pub values-at : (p i : ℕ) → i < b → getD (valuesAt b frame p) i 0 ≡ getD frame (b * p + i) 0
+  unfolding valuesAt
+  values-at p i h = listed-at b i (λ j. getD frame (b * p + j) 0) 0 h
+
+  -- where the frame has them, they stand there in a row
+  pub values-block : (p : ℕ) → b * p + b ≤ length frame → valuesAt b frame p ≡ block b p frame
+  unfolding valuesAt
+  values-block p h =
+      sym (listed-by 0 b (block b p frame) (λ i. getD frame (b * p + i) 0) (block-length b p frame h) (λ i l. block-at b p frame i 0 l))
+
+  pub bit-costs-suc : (n : ℕ) → bitCosts b (suc n) frame ≡ bitCosts b n frame ++ bitColumns b frame n
+  unfolding bitCosts
+  bit-costs-suc n = refl
 
   pub bit-costs-length : (n : ℕ) → length (bitCosts b n frame) ≡ n * 2 ^ b
   unfolding bitCosts bitColumns
   bit-costs-length zero = omega arith
   bit-costs-length (suc n) =
-      length-append (bitCosts b n frame) (bitColumn b (block b n frame))
-      ∙ ap₂ (λ x y. x + y) (bit-costs-length n) (bit-column-length b (block b n frame)) ∙ sym (suc-mul n (2 ^ b))
+      length-append (bitCosts b n frame) (bitColumn b (valuesAt b frame n))
+      ∙ ap₂ (λ x y. x + y) (bit-costs-length n) (bit-column-length b (valuesAt b frame n)) ∙ sym (suc-mul n (2 ^ b))
 
   bit-costs-most : (n i : ℕ) → getD (bitCosts b n frame) i 0 ≤ b * 128
   unfolding bitCosts bitColumns
@@ -297,15 +310,15 @@ module _ (b : ℕ) (frame : List ℕ) where
   bit-costs-most (suc n) i = go (decLt i (length (bitCosts b n frame))) (bit-costs-most n i)
     where
       go : Dec (i < length (bitCosts b n frame)) → getD (bitCosts b n frame) i 0 ≤ b * 128
-          → getD (bitCosts b n frame ++ bitColumn b (block b n frame)) i 0 ≤ b * 128
-      go (yes l) ih = omega (arith, List·getD-append (bitCosts b n frame) (bitColumn b (block b n frame)) 0 i l)
+          → getD (bitCosts b n frame ++ bitColumn b (valuesAt b frame n)) i 0 ≤ b * 128
+      go (yes l) ih = omega (arith, List·getD-append (bitCosts b n frame) (bitColumn b (valuesAt b frame n)) 0 i l)
       go (no l) ih =
           let s : ℕ = i - length (bitCosts b n frame) in
           let e : length (bitCosts b n frame) + s ≡ i = omega arith in
-          let f : getD (bitCosts b n frame ++ bitColumn b (block b n frame)) i 0 ≡ costOf (bitColumn b (block b n frame)) s =
-          ap (λ k. getD (bitCosts b n frame ++ bitColumn b (block b n frame)) k 0) (sym e)
-          ∙ getD-append-add (bitCosts b n frame) (bitColumn b (block b n frame)) s 0 in
-          omega (arith, bit-column-most b (block b n frame) s)
+          let f : getD (bitCosts b n frame ++ bitColumn b (valuesAt b frame n)) i 0 ≡ costOf (bitColumn b (valuesAt b frame n)) s =
+          ap (λ k. getD (bitCosts b n frame ++ bitColumn b (valuesAt b frame n)) k 0) (sym e)
+          ∙ getD-append-add (bitCosts b n frame) (bitColumn b (valuesAt b frame n)) s 0 in
+          omega (arith, bit-column-most b (valuesAt b frame n) s)
 
   bit-costs-at : (n p s : ℕ) → p < n → s < 2 ^ b → getD (bitCosts b n frame) (p * 2 ^ b + s) 0 ≡ costOf (bitColumns b frame p) s
   unfolding bitCosts
@@ -332,25 +345,25 @@ module _ (b : ℕ) (frame : List ℕ) where
   columns-there : (n p : ℕ) → p < n → columnOf (2 ^ b) (bitCosts b n frame) p ≡ bitColumns b frame p
   unfolding columnOf bitColumns bitColumn
   columns-there n p l =
-      listed-ext (2 ^ b) (costAt (2 ^ b) (bitCosts b n frame) p) (symbolCost b (block b p frame))
-      (λ s h. bit-costs-at n p s l h ∙ listed-at (2 ^ b) s (symbolCost b (block b p frame)) 0 h)
+      listed-ext (2 ^ b) (costAt (2 ^ b) (bitCosts b n frame) p) (symbolCost b (valuesAt b frame p))
+      (λ s h. bit-costs-at n p s l h ∙ listed-at (2 ^ b) s (symbolCost b (valuesAt b frame p)) 0 h)
 
   -- behind the frame and behind the costs there are zeros
   columns-behind : (n p : ℕ) → length frame ≤ b * n → n ≤ p → columnOf (2 ^ b) (bitCosts b n frame) p ≡ bitColumns b frame p
   unfolding columnOf bitColumns bitColumn
   columns-behind n p short l =
-      listed-ext (2 ^ b) (costAt (2 ^ b) (bitCosts b n frame) p) (symbolCost b (block b p frame))
-      (λ s h. no-cost s ∙ sym (symbol-zero b (block b p frame) no-value s))
+      listed-ext (2 ^ b) (costAt (2 ^ b) (bitCosts b n frame) p) (symbolCost b (valuesAt b frame p))
+      (λ s h. no-cost s ∙ sym (symbol-zero b (valuesAt b frame p) no-value s))
     where
       no-cost : (s : ℕ) → getD (bitCosts b n frame) (p * 2 ^ b + s) 0 ≡ 0
       no-cost s =
           let m : n * 2 ^ b ≤ p * 2 ^ b = mul-le-mul-right (2 ^ b) l in
           List·getD-eq-default (bitCosts b n frame) 0 {n = p * 2 ^ b + s} (omega (arith, bit-costs-length n))
 
-      no-value : (i : ℕ) → i < b → getD (block b p frame) i 0 ≡ 0
+      no-value : (i : ℕ) → i < b → getD (valuesAt b frame p) i 0 ≡ 0
       no-value i r =
           let k : b * n ≤ b * p = mul-le-mul-left b l in
-          bit-values p i r ∙ List·getD-eq-default frame 0 {n = b * p + i} (omega arith)
+          values-at p i r ∙ List·getD-eq-default frame 0 {n = b * p + i} (omega arith)
 
   pub columns-bits : (n : ℕ) → length frame ≤ b * n → columnOf (2 ^ b) (bitCosts b n frame) ≡ bitColumns b frame
   columns-bits n short = fun-ext (λ p. go p (decLt p n))
@@ -372,6 +385,6 @@ module _ (b : ℕ) (frame : List ℕ) where
   costs-bits n =
       ap (λ k. costsFrom k (costBytes (bitCosts b n frame))) (sym (bit-costs-length n)) ∙ costs-written (bitCosts b n frame)
 
-  pub bit-columns : (n p : ℕ) → p < n → columnOf (2 ^ b) (costsFrom (n * 2 ^ b) (bitTable b n frame)) p ≡ bitColumn b (block b p frame)
+  pub bit-columns : (n p : ℕ) → p < n → columnOf (2 ^ b) (costsFrom (n * 2 ^ b) (bitTable b n frame)) p ≡ bitColumn b (valuesAt b frame p)
   unfolding bitColumns
   bit-columns n p l = ap (λ (costs : List ℕ). columnOf (2 ^ b) costs p) (costs-bits n) ∙ columns-there n p l
