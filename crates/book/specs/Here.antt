@@ -1,20 +1,23 @@
 -- The book of the modem of 64 places, under the names that the crates above use: every modem's, at modem64.
 --
 --   places, width        its 64 places and the sixteen costs in a column, of `soft` Column
---   reportLength, tableLength   the report's 13 bytes and the table's 2,048
+--   reportLength, tableLength, frameLength   the report's 13 bytes, the table's 2,048, and the 256 of a frame of bit values
+--   power                sixteen symbols are those of four bits
 --   pinnedIn, changedIn, markIn, marginIn   the report's bytes 6, 7 and 8, and the number in its last four: pinned-byte, changed-byte, mark-byte, margin-bytes
 --
--- All others mean what they mean in Book, Opening, Delivery, Withdrawal, Columns, Entries, RowLaws, OpeningLaws, PlaceOrder, Closing, Table, Sentences, Costs,
--- Report and Repairs.
+-- All others mean what they mean in Book, Opening, Delivery, Withdrawal, Columns, Entries, RowLaws, OpeningLaws, PlaceOrder, Closing, Table, Bits, Sentences,
+-- Costs, Report and Repairs.
 use mathlib.Core.Bool.{Bool}
-use mathlib.Core.Path.{_≡_}
+use mathlib.Core.Path.{_≡_, refl}
 use mathlib.Core.List.{List}
 use mathlib.Core.Option.{Option}
-use Prim.Native.Nat.{ℕ, _+_, _*_}
+use Prim.Native.Nat.{ℕ, _+_, _*_, _^_}
 use native.Mathlib.Omega.{arith}
 use lib.ListN.{getD}
 use Rattle.soft.specs.Column as Column
+use Rattle.soft.specs.Bits.{bits}
 use Rattle.book.specs.Model.{modem64}
+use Rattle.book.specs.Model as Models
 use Rattle.book.specs.Book as Books
 use Rattle.book.specs.Book.{Entry, Book, Outcome}
 use Rattle.book.specs.Opening as Opening
@@ -28,6 +31,7 @@ use Rattle.book.specs.PlaceOrder as PlaceOrder
 use Rattle.book.specs.Closing as Closing
 use Rattle.book.specs.Closing.{Closed}
 use Rattle.book.specs.Table as Table
+use Rattle.book.specs.Bits as Bits
 use Rattle.book.specs.Sentences as Sentences
 use Rattle.book.specs.Costs as Costs
 use Rattle.book.specs.Report as Report
@@ -196,3 +200,17 @@ tableOf rate table doubt message report = Table.tableOf modem64 rate table doubt
 
 abbrev pub Delivered : List ℕ → List Entry → Type 0
 Delivered table row = Table.Delivered modem64 table row
+
+-- ---- decoding from bit values
+
+abbrev pub frameLength : ℕ
+frameLength = 256
+
+pub power : Models.width modem64 ≡ 2 ^ bits
+power = refl
+
+abbrev pub tableMade : List ℕ → List ℕ
+tableMade frame = Bits.tableMade modem64 bits frame
+
+abbrev pub bitsOf : ℕ → List ℕ → ℕ → List ℕ → List ℕ → Closed
+bitsOf rate frame doubt message report = Bits.bitsOf modem64 bits rate frame doubt message report

@@ -16,6 +16,7 @@ pub mod ClosingLaws
 pub mod Table
 pub mod Sentences
 pub mod Costs
+pub mod Bits
 pub mod WithdrawalLaws
 pub mod Report
 pub mod Repairs
