@@ -1,5 +1,6 @@
-/* What the modem's firmware calls: encoding, reading back and table decoding for the
- * Hermitian code y^4 + y = x^5 over GF(16), 64 places. Link libmodem.a (rt staticlib modem).
+/* What the modem's firmware calls: encoding, reading back, table decoding and decoding from
+ * bit values for the Hermitian code y^4 + y = x^5 over GF(16), 64 places. Link libmodem.a
+ * (rt staticlib modem).
  *
  * A call returns 0, or the number of its refusal. A refused call leaves every buffer as
  * it was. The library keeps no state, allocates nothing and calls nothing back: any two
@@ -13,12 +14,15 @@
  *   frame     any length; the codeword takes 64 bytes of it from start on
  *   table     exactly 2048 bytes: 64 columns of sixteen costs, place 0 and symbol 0 first,
  *             two bytes each, high byte first; a place whose sixteen costs are equal is blank
+ *   values    exactly 256 signed bytes: the four bit values of each symbol, place 0 and the
+ *             highest bit first, -128 to 127; a positive value favours bit 0, a negative one
+ *             bit 1, zero neither; a place whose four values are zero is blank
  *   report    exactly 13 bytes, high byte first: the total (4), the test words with a
  *             codeword within T (2), the pinned places (1), the changed places (1); 1 if
  *             another codeword is near too, else 0 (1), and the margin: the least total of
  *             such another one minus the answer's, 0 where there is none (4)
  *
- * Stack: table decoding with eight doubtful places touches some 47 kB of it (bench/stack).
+ * Stack: decoding with eight doubtful places touches some 47 kB of it (bench/stack).
  *
  * What C cannot check and the caller must see to:
  *   - a pointer is not null, also where its length is 0, and its bytes may be read, or
@@ -39,6 +43,7 @@ extern "C" {
 
 #define HERMITIAN_PLACES 64
 #define HERMITIAN_TABLE_BYTES 2048
+#define HERMITIAN_BIT_VALUES 256
 #define HERMITIAN_REPORT_BYTES 13
 #define HERMITIAN_MOST_DOUBT 8
 
@@ -82,6 +87,17 @@ uint8_t hermitian_decode_table(size_t rate,
                                size_t doubt,
                                uint8_t *message, size_t message_length,
                                uint8_t *report, size_t report_length);
+
+/* Decodes bit values as hermitian_decode_table does the table that they make: a symbol costs
+ * the sum of the magnitudes of those of its four values whose favoured bit it does not have.
+ * The magnitude of -128 is 128, so no cost is above 512.
+ * Checks, in this order: rate; 256 values, message buffer of k and report of 13 bytes; doubt;
+ * blank places; nearness. Refusals: 1, 2, 4, 12, 9. */
+uint8_t hermitian_decode_bits(size_t rate,
+                              const int8_t *values, size_t values_length,
+                              size_t doubt,
+                              uint8_t *message, size_t message_length,
+                              uint8_t *report, size_t report_length);
 
 #ifdef __cplusplus
 }

@@ -8,28 +8,26 @@
 --   open-start, open-differs, open-none   its costs compared with the first: before the second one, where one differs, where none does
 --   contradicts-none       no bit contradicts zero
 --   cost-added, cost-not-added   what a value adds, if its bit contradicts it and if not
---   four-added             what four values add
 --   columns-start, columns-turn, columns-end   the columns of a frame's places stored one after the other: before the first, at each, after the last
 use mathlib.Core.Bool.{Bool, true, false, not, cond}
 use mathlib.Core.Path.{_≡_, refl, sym, ap, ap₂, _∙_, subst, subst₂}
 use mathlib.Core.List.{List, _++_, append-nil}
 use mathlib.Core.Logic.{_≢_}
-use Prim.Native.Nat.{ℕ, _+_, _-_, _*_, _/_, _%_, _^_, _≤_, _<_}
+use Prim.Native.Nat.{ℕ, _+_, _-_, _*_, _^_, _≤_, _<_}
 use native.Mathlib.Nat.{mul-zero, mul-suc, mul-comm}
 use native.Mathlib.Numerals.{add-one}
 use native.Mathlib.Omega.{arith}
 use lib.ListN.{length, getD, take, drop, length-drop, replicate, getD-replicate, length-replicate, List·getD-eq-default, drop-of-length-le}
 use lib.Seq.{length-take-le}
 use borrow.Rule.Slice.PartMut.{putMid}
-use Rattle.lists.specs.Count.{sumOf}
 use Rattle.lists.specs.Listed.{listed, listed-by}
 use Rattle.lists.specs.Stored.{stored-part}
 use Rattle.soft.specs.Column.{costOf, pairAt, costAt, columnOf, bestBut, betterIn, bestOf, secondOf, gapOf, countedGap, doubtGapOf, isBlank}
 use Rattle.soft.specs.ColumnLaws.{bestBut-suc, bestBut-below, best-least, second-below, column-length, cost-column}
 use Rattle.soft.specs.Blank.{openAt}
 use Rattle.soft.specs.BlankLaws.{blank-same, column-none}
-use Rattle.soft.specs.Bits.{bits, magnitude, contradicts, bitCost, bitOf, symbolCost, bitColumn, valuesAt, bitColumns, bitCosts}
-use Rattle.soft.specs.BitsLaws.{magnitude-most, contradicts-zero, bit-costs-suc, bit-costs-length}
+use Rattle.soft.specs.Bits.{magnitude, contradicts, bitCost, symbolCost, bitColumn, valuesAt, bitColumns, bitCosts}
+use Rattle.soft.specs.BitsLaws.{contradicts-zero, bit-costs-suc, bit-costs-length}
 
 pub bestBut-turn : (column : List ℕ) (b n held r : ℕ) → held ≡ bestBut column b n → r ≡ betterIn column b held n → r ≡ bestBut column b (n + 1)
 bestBut-turn column b n held r e f =
@@ -113,20 +111,13 @@ pub contradicts-none : (v t : ℕ) → v ≡ 0 → false ≡ contradicts v t
 contradicts-none v t e = sym (ap (λ x. contradicts x t) e ∙ contradicts-zero t)
 
 module _ (v t : ℕ) where
-  pub cost-added : {r : ℕ} → contradicts v t ≡ true → r ≡ magnitude v → (r ≡ bitCost v t) × (r ≤ 128)
+  pub cost-added : {r : ℕ} → contradicts v t ≡ true → r ≡ magnitude v → r ≡ bitCost v t
   unfolding bitCost
-  cost-added e m = (m ∙ sym (ap (λ b. cond b (magnitude v) 0) e), omega (arith, magnitude-most v))
+  cost-added e m = m ∙ sym (ap (λ b. cond b (magnitude v) 0) e)
 
-  pub cost-not-added : contradicts v t ≡ false → (0 ≡ bitCost v t) × (0 ≤ 128)
+  pub cost-not-added : contradicts v t ≡ false → 0 ≡ bitCost v t
   unfolding bitCost
-  cost-not-added e = (sym (ap (λ b. cond b (magnitude v) 0) e), omega arith)
-
-pub four-added : (values : List ℕ) (s : ℕ) {a b c d : ℕ} → a ≡ bitCost (getD values 0 0) (s / 8 % 2) → b ≡ bitCost (getD values 1 0) (s / 4 % 2)
-    → c ≡ bitCost (getD values 2 0) (s / 2 % 2) → d ≡ bitCost (getD values 3 0) (s % 2) → a + b + c + d ≡ symbolCost bits values s
-unfolding symbolCost sumOf bitOf
-four-added values s {d = d} e f g h =
-    let last : d ≡ bitCost (getD values 3 0) (s / 1 % 2) = h ∙ ap (λ x. bitCost (getD values 3 0) (x % 2)) (omega arith) in
-    omega arith
+  cost-not-added e = sym (ap (λ b. cond b (magnitude v) 0) e)
 
 -- a loop that lends the next 2 ^ b costs of `out`, in which a call leaves the column of place p
 module _ (b : ℕ) (frame old : List ℕ) where

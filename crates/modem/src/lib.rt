@@ -3,7 +3,7 @@ ghost use mathlib.Core.Path.{_≡_};
 ghost use Rattle.family.specs.Calls.{outcome};
 ghost use Rattle.code.specs.Calls.{encodeCall, readBackCall};
 ghost use Rattle.book.specs.Table.{closed};
-ghost use Rattle.book.specs.Here.{tableOf};
+ghost use Rattle.book.specs.Here.{tableOf, bitsOf};
 
 #[no_mangle]
 pub extern "C" fn hermitian_encode(
@@ -35,4 +35,18 @@ pub extern "C" fn hermitian_decode_table(
     ensures { λ r. ⌜ closed r (now (message .exit)) (now (report .exit)) ≡ tableOf rate (now (table .entry)) doubt (now (message .entry)) (now (report .entry)) ⌝ }
 {
     table_decoding::decode_table(rate, table, doubt, message, report)
+}
+
+// A signed byte of the frame is its byte in two's complement.
+#[no_mangle]
+pub extern "C" fn hermitian_decode_bits(
+    rate: usize,
+    frame: &[u8],
+    doubt: usize,
+    message: &mut [u8],
+    report: &mut [u8],
+) -> u8
+    ensures { λ r. ⌜ closed r (now (message .exit)) (now (report .exit)) ≡ bitsOf rate (now (frame .entry)) doubt (now (message .entry)) (now (report .entry)) ⌝ }
+{
+    bit_decoding::decode_bits(rate, frame, doubt, message, report)
 }

@@ -7,7 +7,7 @@ use Rattle.code.specs.Encoding.{knownRate}
 use Rattle.book.specs.Model.{modem64}
 use Rattle.book.specs.Closing.{refusedClosing}
 use Rattle.book.specs.Table.{table-rate, table-size, table-doubt}
-use Rattle.table_decoding.proofs.Tabled.{table-askable, table-answers}
+use Rattle.table_decoding.specs.Tabled.{table-askable, table-answers}
 use borrow.Author.Needs.{needs}
 use Rattle.table_decoding.proofs.decode_table.Statement.{statement}
 use Rattle.table_decoding.proofs.decode_table.Tie as tie

@@ -1,8 +1,21 @@
 -- `columns::bits::symbol_cost` meets its contract: the sum over four bits, written out.
+use mathlib.Core.Path.{_≡_, ap, _∙_}
+use mathlib.Core.List.{List}
+use Prim.Native.Nat.{ℕ, _+_, _/_, _%_}
+use native.Mathlib.Omega.{arith}
+use lib.ListN.{getD}
 use borrow.Author.Needs.{needs}
-use Rattle.columns.proofs.Turns.{four-added}
+use Rattle.lists.specs.Count.{sumOf}
+use Rattle.soft.specs.Bits.{bits, bitCost, bitOf, symbolCost}
 use Rattle.columns.proofs.bits.symbol_cost.Statement.{statement}
 use Rattle.columns.proofs.bits.symbol_cost.Tie as tie
+
+four-added : (values : List ℕ) (s : ℕ) {a b c d : ℕ} → a ≡ bitCost (getD values 0 0) (s / 8 % 2) → b ≡ bitCost (getD values 1 0) (s / 4 % 2)
+    → c ≡ bitCost (getD values 2 0) (s / 2 % 2) → d ≡ bitCost (getD values 3 0) (s % 2) → a + b + c + d ≡ symbolCost bits values s
+unfolding symbolCost sumOf bitOf
+four-added values s {d = d} e f g h =
+    let last : d ≡ bitCost (getD values 3 0) (s / 1 % 2) = h ∙ ap (λ x. bitCost (getD values 3 0) (x % 2)) (omega arith) in
+    omega arith
 
 array-read-bit-cost : tie.Need-array-read-bit-cost
 array-read-bit-cost c = search needs
