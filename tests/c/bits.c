@@ -92,7 +92,6 @@ static void made_table(uint8_t table[HERMITIAN_TABLE_BYTES])
     for (size_t place = 0; place < HERMITIAN_PLACES; place++)
         for (int symbol = 0; symbol < 16; symbol++) {
             unsigned c = cost(place, symbol);
-            expect(c <= 512, "no cost exceeds 512");
             table[32 * place + 2 * (size_t)symbol] = (uint8_t)(c >> 8);
             table[32 * place + 2 * (size_t)symbol + 1] = (uint8_t)c;
         }

@@ -6,10 +6,8 @@
 --   column-missing, cost-missing   a place past the last costs
 --   open-missing           a place that lacks all its costs is blank
 --   open-start, open-differs, open-none   its costs compared with the first: before the second one, where one differs, where none does
---   contradicts-none       no bit contradicts zero
---   cost-added, cost-not-added   what a value adds, if its bit contradicts it and if not
 --   columns-start, columns-turn, columns-end   the columns of a frame's places stored one after the other: before the first, at each, after the last
-use mathlib.Core.Bool.{Bool, true, false, not, cond}
+use mathlib.Core.Bool.{Bool, true, false, not}
 use mathlib.Core.Path.{_≡_, refl, sym, ap, ap₂, _∙_, subst, subst₂}
 use mathlib.Core.List.{List, _++_, append-nil}
 use mathlib.Core.Logic.{_≢_}
@@ -26,8 +24,8 @@ use Rattle.soft.specs.Column.{costOf, pairAt, costAt, columnOf, bestBut, better
 use Rattle.soft.specs.ColumnLaws.{bestBut-suc, bestBut-below, best-least, second-below, column-length, cost-column}
 use Rattle.soft.specs.Blank.{openAt}
 use Rattle.soft.specs.BlankLaws.{blank-same, column-none}
-use Rattle.soft.specs.Bits.{magnitude, contradicts, bitCost, symbolCost, bitColumn, valuesAt, bitColumns, bitCosts}
-use Rattle.soft.specs.BitsLaws.{contradicts-zero, bit-costs-suc, bit-costs-length}
+use Rattle.soft.specs.Bits.{symbolCost, bitColumn, valuesAt, bitColumns, bitCosts}
+use Rattle.soft.specs.BitsLaws.{bit-costs-suc, bit-costs-length}
 
 pub bestBut-turn : (column : List ℕ) (b n held r : ℕ) → held ≡ bestBut column b n → r ≡ betterIn column b held n → r ≡ bestBut column b (n + 1)
 bestBut-turn column b n held r e f =
@@ -105,19 +103,6 @@ module _ (q : ℕ) (costs : List ℕ) (p : ℕ) where
             absurd
             (d (sym (cost-column q costs p s l) ∙ same b ∙ cost-column q costs p 0 (omega arith) ∙ open-start 0 (omega arith)))
         go false b = sym (ap not b)
-
--- what a value adds to a symbol's cost
-pub contradicts-none : (v t : ℕ) → v ≡ 0 → false ≡ contradicts v t
-contradicts-none v t e = sym (ap (λ x. contradicts x t) e ∙ contradicts-zero t)
-
-module _ (v t : ℕ) where
-  pub cost-added : {r : ℕ} → contradicts v t ≡ true → r ≡ magnitude v → r ≡ bitCost v t
-  unfolding bitCost
-  cost-added e m = m ∙ sym (ap (λ b. cond b (magnitude v) 0) e)
-
-  pub cost-not-added : contradicts v t ≡ false → 0 ≡ bitCost v t
-  unfolding bitCost
-  cost-not-added e = sym (ap (λ b. cond b (magnitude v) 0) e)
 
 -- a loop that lends the next 2 ^ b costs of `out`, in which a call leaves the column of place p
 module _ (b : ℕ) (frame old : List ℕ) where

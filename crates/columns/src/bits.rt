@@ -8,41 +8,20 @@ ghost use Prim.Native.Nat.{_*_, _<_, _≤_};
 ghost use lib.ListN.{length};
 ghost use Rattle.lists.specs.Listed.{listed};
 ghost use Rattle.soft.specs.Column.{places, symbols};
-ghost use Rattle.soft.specs.Bits.{bits, magnitude, contradicts, bitCost, symbolCost, bitColumn, bitCosts, valuesAt};
+ghost use Rattle.soft.specs.Bits.{bits, bitCost, symbolCost, bitColumn, bitCosts, valuesAt};
 
 pub const BITS: usize = 4;
 
-// The magnitude of −128 is 128.
-fn magnitude(value: u8) -> u16
-    ensures { λ r. ⌜ r ≡ magnitude value ⌝ }
-{
-    if value < 128 {
-        return value as u16;
-    }
-    256 - value as u16
-}
-
-// A positive value favours bit 0 and a negative one bit 1; zero favours neither.
-fn contradicts(value: u8, bit: usize) -> bool
-    ensures { λ r. ⌜ r ≡ contradicts value bit ⌝ }
-{
-    if value == 0 {
-        return false;
-    }
-    if value < 128 {
-        return bit != 0;
-    }
-    bit != 1
-}
-
-// What a value adds to the cost of a symbol with that bit.
+// What a value adds to the cost of a symbol with that bit: a value from 1 to 127 its magnitude to the bit 1, one from 128 on, which is negative, to the bit 0.
+// As products, so that a column is filled without a branch.
 fn bit_cost(value: u8, bit: usize) -> u16
+    requires { ⌜ bit < 2 ⌝ }
     ensures { λ r. ⌜ (r ≡ bitCost value bit) × (r ≤ 128) ⌝ }
 {
-    if contradicts(value, bit) {
-        return magnitude(value);
+    if value < 128 {
+        return bit as u16 * value as u16;
     }
-    0
+    (1 - bit as u16) * (256 - value as u16)
 }
 
 fn symbol_cost(values: [u8; BITS], symbol: usize) -> u16

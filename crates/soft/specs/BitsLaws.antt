@@ -8,6 +8,7 @@
 --   bit-cost-zero          zero adds nothing
 --   bit-cost-positive      a positive value adds nothing to the bit 0 and itself to the bit 1,
 --   bit-cost-negative      and a negative one its magnitude to the bit 0 and nothing to the bit 1
+--   bit-cost-low, bit-cost-high   the two as products with the bit
 --   bit-cost-most          no value adds more than 128
 --   symbol-bits            the bits of a symbol, highest first, make up the symbol
 --   bit-column-length, cost-bits   a column has a cost for each symbol: the sum of what the values add
@@ -25,7 +26,7 @@ use mathlib.Core.Path.{_≡_, refl, sym, ap, ap₂, _∙_, subst, fun-ext}
 use mathlib.Core.List.{List, _++_}
 use mathlib.Core.Logic.{_↔_, _≢_, ⊎-elim}
 use Prim.Native.Nat.{ℕ, zero, suc, _+_, _-_, _*_, _/_, _%_, _^_, _<_, _≤_}
-use native.Mathlib.Nat.{pow-suc, pow-succ', div-div-eq-div-mul, zero-div, div-self, div-eq-of-lt, mul-mod-left, mul-div-cancel, suc-mul, mul-le-mul-left, mul-le-mul-right, eq-or-lt-of-le, le-of-suc-le-suc}
+use native.Mathlib.Nat.{mul-zero, pow-suc, pow-succ', div-div-eq-div-mul, zero-div, div-self, div-eq-of-lt, mul-mod-left, mul-div-cancel, suc-mul, mul-le-mul-left, mul-le-mul-right, eq-or-lt-of-le, le-of-suc-le-suc}
 use native.Mathlib.Decide.{decLt, ℕ-discrete}
 use native.Mathlib.Omega.{arith}
 use lib.Dec.{eqb}
@@ -95,6 +96,29 @@ bit-cost-negative {v} h = (
   ap (λ b. cond b (magnitude v) 0) (contradicts-negative h 0) ∙ magnitude-negative h,
   ap (λ b. cond b (magnitude v) 0) (contradicts-negative h 1),
 )
+
+-- the same as products with the bit; zero is among the first
+pub bit-cost-low : {v t : ℕ} → v < 128 → t < 2 → t * v ≡ bitCost v t
+bit-cost-low {v} {t} h two = go (ℕ-discrete v 0) (ℕ-discrete t 0)
+  where
+    go : Dec (v ≡ 0) → Dec (t ≡ 0) → t * v ≡ bitCost v t
+    go (yes z) e = ap (λ x. t * x) z ∙ mul-zero t ∙ sym (ap (λ x. bitCost x t) z ∙ bit-cost-zero t)
+    go (no z) (yes e) =
+        let p : 0 < v = omega arith in
+        subst (λ x. x * v ≡ bitCost v x) (sym e) (omega (arith, bit-cost-positive p h .0))
+    go (no z) (no e) =
+        let p : 0 < v = omega arith in
+        let one : 1 ≡ t = omega arith in
+        subst (λ x. x * v ≡ bitCost v x) one (omega (arith, bit-cost-positive p h .1))
+
+pub bit-cost-high : {v t : ℕ} → 128 ≤ v → t < 2 → (1 - t) * (256 - v) ≡ bitCost v t
+bit-cost-high {v} {t} h two = go (ℕ-discrete t 0)
+  where
+    go : Dec (t ≡ 0) → (1 - t) * (256 - v) ≡ bitCost v t
+    go (yes e) = subst (λ x. (1 - x) * (256 - v) ≡ bitCost v x) (sym e) (omega (arith, bit-cost-negative h .0))
+    go (no e) =
+        let one : 1 ≡ t = omega arith in
+        subst (λ x. (1 - x) * (256 - v) ≡ bitCost v x) one (omega (arith, bit-cost-negative h .1))
 
 pub bit-cost-most : (v t : ℕ) → bitCost v t ≤ 128
 unfolding bitCost
