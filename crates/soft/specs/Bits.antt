@@ -36,6 +36,7 @@ magnitude v = cond (isNegative v) (256 - v) v
 unfoldable pub favoured : ℕ → Option ℕ
 favoured v = cond (eqb v 0) none (some (cond (isNegative v) 1 0))
 
+-- a bit is favoured, and t is the other one
 abbrev pub isOther : Option ℕ → ℕ → Bool
 isOther none t = false
 isOther (some f) t = not (eqb t f)

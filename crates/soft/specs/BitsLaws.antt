@@ -204,7 +204,7 @@ module _ (b : ℕ) (values : List ℕ) where
   unfolding bitColumn symbolCost
   cost-bits s h = listed-at (2 ^ b) s (symbolCost b values) 0 h
 
-  pub symbol-cost-most : (s : ℕ) → symbolCost b values s ≤ b * 128
+  symbol-cost-most : (s : ℕ) → symbolCost b values s ≤ b * 128
   unfolding symbolCost
   symbol-cost-most s = sumOf-bound b 128 (addedBy b values s) (λ i l. bit-cost-most (getD values i 0) (bitOf b s i))
 
