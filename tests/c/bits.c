@@ -1,6 +1,6 @@
-/* Decoding from bit values as the firmware calls it: a sent codeword under noise, values of -128,
- * blank places, every refusal in its order, and each answer beside that of the table which the
- * values make, computed here by the rule of change request 105. */
+/* Decoding from bit values as the firmware calls it: a sent codeword under noise, each value in
+ * each position, blank places, every refusal in its order, and each answer beside that of the table
+ * which the values make, computed here by the rule of change request 105. */
 #include <stdio.h>
 #include <string.h>
 
@@ -63,6 +63,14 @@ static void send(size_t rate, int magnitude)
     for (size_t place = 0; place < HERMITIAN_PLACES; place++)
         for (int bit = 0; bit < 4; bit++)
             values[4 * place + (size_t)bit] = (int8_t)(word[place] >> (3 - bit) & 1 ? -magnitude : magnitude);
+}
+
+/* Zero and the constant 15 are codewords: one positive value throughout sends the first, a negative one the second. */
+static void send_constant(int value)
+{
+    memset(values, value, HERMITIAN_BIT_VALUES);
+    memset(sent, 0, sizeof sent);
+    sent[0] = value < 0 ? 15 : 0;
 }
 
 static void noise(int most)
@@ -134,13 +142,25 @@ static unsigned total(void)
 
 static void refused(size_t rate, size_t length, size_t doubt, size_t message_length, size_t report_length, uint8_t refusal, const char *what)
 {
-    static const struct guarded none;
-    struct guarded untouched = none;
+    static struct guarded untouched;
+    static int8_t given[LONGEST];
+    memcpy(given, values, sizeof given);
     fill(&message);
     fill(&report);
     fill(&untouched);
     expect(hermitian_decode_bits(rate, values, length, doubt, message.bytes, message_length, report.bytes, report_length) == refusal, what);
     expect(memcmp(&message, &untouched, sizeof message) == 0 && memcmp(&report, &untouched, sizeof report) == 0, "a refusal writes nothing");
+    expect(memcmp(given, values, sizeof given) == 0, "a refusal leaves the values");
+}
+
+/* A value in a codeword whose bit it speaks against, if it is not zero: one place is wrong, so the codeword is the answer, and costs what this value adds. */
+static void one_value(size_t rate, size_t bit, int v)
+{
+    int magnitude = 1 + random_below(127);
+    send_constant(v > 0 ? -magnitude : magnitude);
+    values[4 * (size_t)random_below(HERMITIAN_PLACES) + bit] = (int8_t)v;
+    expect(decode(rate, 0) == HERMITIAN_ACCEPTED && message_came_back(rate) && total() == (unsigned)(v < 0 ? -v : v), "each value in each position");
+    decode(rate, (size_t)random_below(9));
 }
 
 static void frames(size_t rate)
@@ -149,11 +169,8 @@ static void frames(size_t rate)
     send(rate, 100);
     expect(decode(rate, 0) == HERMITIAN_ACCEPTED && message_came_back(rate) && total() == 0, "a frame without noise");
     for (size_t bit = 0; bit < 4; bit++)
-        for (int v = -128; v <= 127; v++) {
-            send(rate, 1 + random_below(127));
-            values[4 * (size_t)random_below(HERMITIAN_PLACES) + bit] = (int8_t)v;
-            expect(decode(rate, (size_t)random_below(9)) == HERMITIAN_ACCEPTED && message_came_back(rate), "one value of each kind in each position");
-        }
+        for (int v = -128; v <= 127; v++)
+            one_value(rate, bit, v);
     for (int i = 0; i < 200; i++) {
         send(rate, 40);
         noise(50);
@@ -178,17 +195,14 @@ static void frames(size_t rate)
     expect(decode(rate, 0) == HERMITIAN_TOO_BLANK, "a frame of zeros");
 }
 
-/* The constant 15 is a codeword, and so is zero: -128 favours a bit 1 with 128, 127 a bit 0 with 127. */
+/* -128 favours a bit 1 with 128, 127 a bit 0 with 127. */
 static void extremes(size_t rate)
 {
-    memset(values, -128, HERMITIAN_BIT_VALUES);
-    memset(sent, 0, sizeof sent);
-    sent[0] = 15;
+    send_constant(-128);
     expect(decode(rate, 0) == HERMITIAN_ACCEPTED && message_came_back(rate) && total() == 0, "every value -128");
     memset(values, 127, 4);
     expect(decode(rate, 0) == HERMITIAN_ACCEPTED && message_came_back(rate) && total() == 508, "one place of 127");
-    memset(values, 127, HERMITIAN_BIT_VALUES);
-    memset(sent, 0, sizeof sent);
+    send_constant(127);
     expect(decode(rate, 0) == HERMITIAN_ACCEPTED && message_came_back(rate) && total() == 0, "every value 127");
     memset(values, -128, 4);
     expect(decode(rate, 0) == HERMITIAN_ACCEPTED && message_came_back(rate) && total() == 512, "one place of -128");

@@ -14,17 +14,16 @@
 --   bits-delivered         a row with the frame's columns, in whatever order, has those of that table,
 --   bits-as-session        so it answers as closing a book does that was opened with the places picked and got all columns
 use mathlib.Core.Bool.{Bool, true, false, cond, _&&_}
-use mathlib.Core.Path.{_≡_, refl, sym, ap, ap₂, _∙_, subst}
+use mathlib.Core.Path.{_≡_, sym, ap, ap₂, _∙_, subst}
 use mathlib.Core.List.{List}
-use mathlib.Core.Logic.{_↔_, _≢_, _⊎_, inl, ⊎-elim}
+use mathlib.Core.Logic.{_↔_, _≢_, _⊎_, inl}
 use mathlib.Core.Option.{none, some}
 use Prim.Native.Nat.{ℕ, _+_, _*_, _^_, _<_, _≤_}
 use native.Mathlib.Omega.{arith}
 use lib.Dec.{eqb, leb}
 use lib.ListN.{length, getD}
-use borrow.Author.Tests.{eqb-true, eq-eqb, le-leb, lt-leb}
+use borrow.Author.Tests.{eq-eqb, le-leb, lt-leb}
 use Rattle.refusals.specs.Refusal.{unknownRate, wrongSize, wrongDoubt, tooBlank}
-use Rattle.lists.specs.Distinct.{and-left, and-right, and-both}
 use Rattle.soft.specs.Column as Soft
 use Rattle.soft.specs.Doubt.{doubtfulOf}
 use Rattle.soft.specs.Blank.{blankAt, blanksOf}
@@ -35,7 +34,7 @@ use Rattle.book.specs.Model.{Model, places, width}
 use Rattle.book.specs.Book.{Entry, columnIn}
 use Rattle.book.specs.Closing.{reportLength, Closed, refusedClosing, decodeOf, closeOf}
 use Rattle.book.specs.ClosingLaws.{decode-blank-only}
-use Rattle.book.specs.Table.{tableLength, tableColumns, pickedOf, tableFits, tableOf, Delivered, bookFor, table-as-session}
+use Rattle.book.specs.Table.{sizes-fit, sizes-unfit, tableLength, tableColumns, pickedOf, tableFits, tableOf, Delivered, bookFor, table-as-session}
 use Rattle.book.specs.Costs.{AreColumns}
 
 module _ (𝓓 : Model) (b : ℕ) where
@@ -69,27 +68,10 @@ module _ (𝓓 : Model) (b : ℕ) where
     bits-rate e = rw e
 
     module _ (known : known rate ≡ true) where
-      unfit : bitsFit rate frame message report ≡ false → bitsOf rate frame doubt message report ≡ refusedClosing wrongSize message report
-      unfolding bitsOf
-      unfit f = rw (known, f)
-
       pub bits-size : (length frame ≢ frameLength) ⊎ ((length message ≢ rate) ⊎ (length report ≢ reportLength 𝓓))
           → bitsOf rate frame doubt message report ≡ refusedClosing wrongSize message report
-      unfolding bitsFit
-      bits-size w = unfit (go (bitsFit rate frame message report) refl)
-        where
-          go : (t : Bool) → (eqb (length frame) frameLength && (eqb (length message) rate && eqb (length report) (reportLength 𝓓))) ≡ t
-              → (eqb (length frame) frameLength && (eqb (length message) rate && eqb (length report) (reportLength 𝓓))) ≡ false
-          go true e =
-              let a = eqb (length frame) frameLength in
-              let m = eqb (length message) rate in
-              let r = eqb (length report) (reportLength 𝓓) in
-              absurd
-              (⊎-elim (λ n. n (eqb-true (length frame) frameLength (and-left a (m && r) e)))
-              (⊎-elim (λ n. n (eqb-true (length message) rate (and-left m r (and-right a (m && r) e))))
-              (λ n. n (eqb-true (length report) (reportLength 𝓓) (and-right m r (and-right a (m && r) e)))))
-              w)
-          go false e = e
+      unfolding bitsOf bitsFit
+      bits-size w = rw (known, sizes-unfit w)
 
       pub bits-frame : length frame ≢ frameLength → bitsOf rate frame doubt message report ≡ refusedClosing wrongSize message report
       bits-frame n = bits-size (inl n)
@@ -97,11 +79,7 @@ module _ (𝓓 : Model) (b : ℕ) where
       module _ (whole : length frame ≡ frameLength) (long : length message ≡ rate) (whole-report : length report ≡ reportLength 𝓓) where
         fits : bitsFit rate frame message report ≡ true
         unfolding bitsFit
-        fits =
-            and-both (eqb (length frame) frameLength) (eqb (length message) rate && eqb (length report) (reportLength 𝓓))
-            (eq-eqb (length frame) frameLength whole)
-            (and-both (eqb (length message) rate) (eqb (length report) (reportLength 𝓓)) (eq-eqb (length message) rate long)
-            (eq-eqb (length report) (reportLength 𝓓) whole-report))
+        fits = sizes-fit whole long whole-report
 
         pub bits-doubt : mostDoubt < doubt → bitsOf rate frame doubt message report ≡ refusedClosing wrongDoubt message report
         unfolding bitsOf

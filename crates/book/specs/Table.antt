@@ -1,5 +1,6 @@
 -- Table decoding: rate, then sizes, then doubt, then blank places, then nearness; and why it answers as a session does.
 --
+--   sizes-fit, sizes-unfit   three sizes are those wanted; one of them is not
 --   tableLength            a column for each place, place 0 first, of a cost for each symbol, two bytes each: 2,048 bytes where there are 64 places
 --   closed n message report   a number returned and the two lent buffers afterwards
 --   tableColumns table     the columns by place
@@ -59,6 +60,26 @@ use Rattle.book.specs.ClosingLaws.{refused-number, fits-both, close-size
 -- what a call answered, put together
 abbrev pub closed : ℕ → List ℕ → List ℕ → Closed
 closed number message report = record { number = number; message = message; report = report }
+
+-- ---- three sizes, each beside the one wanted
+
+pub sizes-fit : {a b c x y z : ℕ} → a ≡ x → b ≡ y → c ≡ z → (eqb a x && (eqb b y && eqb c z)) ≡ true
+sizes-fit {a} {b} {c} {x} {y} {z} e f g =
+    and-both (eqb a x) (eqb b y && eqb c z) (eq-eqb a x e) (and-both (eqb b y) (eqb c z) (eq-eqb b y f) (eq-eqb c z g))
+
+pub sizes-unfit : {a b c x y z : ℕ} → (a ≢ x) ⊎ ((b ≢ y) ⊎ (c ≢ z)) → (eqb a x && (eqb b y && eqb c z)) ≡ false
+sizes-unfit {a} {b} {c} {x} {y} {z} w = go (eqb a x && (eqb b y && eqb c z)) refl
+  where
+    go : (t : Bool) → (eqb a x && (eqb b y && eqb c z)) ≡ t → (eqb a x && (eqb b y && eqb c z)) ≡ false
+    go true e =
+        let r : (eqb b y && eqb c z) ≡ true = and-right (eqb a x) (eqb b y && eqb c z) e in
+        absurd
+        (⊎-elim (λ n. n (eqb-true a x (and-left (eqb a x) (eqb b y && eqb c z) e)))
+        (⊎-elim (λ n. n (eqb-true b y (and-left (eqb b y) (eqb c z) r))) (λ n. n (eqb-true c z (and-right (eqb b y) (eqb c z) r))))
+        w)
+    go false e = e
+
+-- ---- columns in the order of a list
 
 unfoldable pub entriesOf : (ℕ → List ℕ) → List ℕ → List Entry
 entriesOf columns [] = []
@@ -148,29 +169,12 @@ module _ (𝓓 : Model) where
       pub table-size : (length table ≢ tableLength) ⊎ ((length message ≢ rate) ⊎ (length report ≢ (reportLength 𝓓)))
           → tableOf rate table doubt message report ≡ refusedClosing wrongSize message report
       unfolding tableFits
-      table-size w = unfit (go (tableFits rate table message report) refl)
-        where
-          go : (b : Bool) → (eqb (length table) tableLength && (eqb (length message) rate && eqb (length report) (reportLength 𝓓))) ≡ b
-              → (eqb (length table) tableLength && (eqb (length message) rate && eqb (length report) (reportLength 𝓓))) ≡ false
-          go true e =
-              let a = eqb (length table) tableLength in
-              let b = eqb (length message) rate in
-              let c = eqb (length report) (reportLength 𝓓) in
-              absurd
-              (⊎-elim (λ n. n (eqb-true (length table) tableLength (and-left a (b && c) e)))
-              (⊎-elim (λ n. n (eqb-true (length message) rate (and-left b c (and-right a (b && c) e))))
-              (λ n. n (eqb-true (length report) (reportLength 𝓓) (and-right b c (and-right a (b && c) e)))))
-              w)
-          go false e = e
+      table-size w = unfit (sizes-unfit w)
 
       module _ (whole : length table ≡ tableLength) (long : length message ≡ rate) (whole-report : length report ≡ reportLength 𝓓) where
         fits : tableFits rate table message report ≡ true
         unfolding tableFits
-        fits =
-            and-both (eqb (length table) tableLength) (eqb (length message) rate && eqb (length report) (reportLength 𝓓))
-            (eq-eqb (length table) tableLength whole)
-            (and-both (eqb (length message) rate) (eqb (length report) (reportLength 𝓓)) (eq-eqb (length message) rate long)
-            (eq-eqb (length report) (reportLength 𝓓) whole-report))
+        fits = sizes-fit whole long whole-report
 
         pub table-doubt : mostDoubt < doubt → tableOf rate table doubt message report ≡ refusedClosing wrongDoubt message report
         unfolding tableOf

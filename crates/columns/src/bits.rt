@@ -4,19 +4,19 @@ use crate::costs::PLACES;
 use crate::costs::SYMBOLS;
 use crate::costs::byte_at;
 ghost use mathlib.Core.Path.{_≡_};
-ghost use Prim.Native.Nat.{_*_, _<_, _≤_};
+ghost use Prim.Native.Nat.{_*_, _<_};
 ghost use lib.ListN.{length};
 ghost use Rattle.lists.specs.Listed.{listed};
 ghost use Rattle.soft.specs.Column.{places, symbols};
 ghost use Rattle.soft.specs.Bits.{bits, bitCost, symbolCost, bitColumn, bitCosts, valuesAt};
 
-pub const BITS: usize = 4;
+const BITS: usize = 4;
 
 // What a value adds to the cost of a symbol with that bit: a value from 1 to 127 its magnitude to the bit 1, one from 128 on, which is negative, to the bit 0.
-// As products, so that a column is filled without a branch.
+// As products, so that nothing branches on the bit.
 fn bit_cost(value: u8, bit: usize) -> u16
     requires { ⌜ bit < 2 ⌝ }
-    ensures { λ r. ⌜ (r ≡ bitCost value bit) × (r ≤ 128) ⌝ }
+    ensures { λ r. ⌜ r ≡ bitCost value bit ⌝ }
 {
     if value < 128 {
         return bit as u16 * value as u16;

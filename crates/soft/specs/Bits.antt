@@ -5,9 +5,11 @@
 --   isNegative v           v stands for a negative value
 --   magnitude v            how far it is from zero; that of −128 is 128
 --   favoured v             the bit that v favours: 0 if it is positive, 1 if it is negative, none if it is zero
+--   isOther f t            f is a bit, and t is not the one
 --   contradicts v t        v favours a bit, and t is not the one
 --   bitOf b s i            bit number i of the symbol s, of b bits, where number 0 is the highest
 --   bitCost v t            what v adds to the cost of a symbol that has the bit t there: its magnitude if the bit contradicts it, else nothing
+--   addedBy b values s i   what the value number i adds to the cost of the symbol s
 --   symbolCost b values s  the cost of a symbol: the sum of these
 --   bitColumn b values     the column: the cost of every symbol
 --   valuesAt b frame p     the b values of place p, where a frame holds those of place 0 first; what it lacks reads as 0
@@ -36,7 +38,6 @@ magnitude v = cond (isNegative v) (256 - v) v
 unfoldable pub favoured : ℕ → Option ℕ
 favoured v = cond (eqb v 0) none (some (cond (isNegative v) 1 0))
 
--- a bit is favoured, and t is the other one
 abbrev pub isOther : Option ℕ → ℕ → Bool
 isOther none t = false
 isOther (some f) t = not (eqb t f)
@@ -50,7 +51,6 @@ bitCost v t = cond (contradicts v t) (magnitude v) 0
 unfoldable pub bitOf : ℕ → ℕ → ℕ → ℕ
 bitOf b s i = s / 2 ^ (b - 1 - i) % 2
 
--- what the value number i adds
 abbrev pub addedBy : ℕ → List ℕ → ℕ → ℕ → ℕ
 addedBy b values s i = bitCost (getD values i 0) (bitOf b s i)
 

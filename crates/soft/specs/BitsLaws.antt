@@ -1,6 +1,5 @@
 -- Laws of the columns that bit values make.
 --
---   symbols-bits           the modem's sixteen symbols are those of four bits
 --   magnitude-positive, magnitude-negative   a byte below 128 is its own magnitude; 128 to 255 have 128 to 1
 --   magnitude-128          so the magnitude of −128 is 128,
 --   magnitude-most         and there is no larger one
@@ -18,7 +17,7 @@
 --   bit-costs-length, bit-table-length   a frame of n places makes n costs for each symbol, and two bytes for each cost;
 --   bit-table-bytes        they are bytes,
 --   costs-bits             and from them the costs are read
---   values-at, values-block   the values of place p are those from number b p to b p + b − 1, a block of the frame
+--   values-at              the values of place p are those from number b p to b p + b − 1
 --   bit-columns            the table's column of place p is the one that they make
 --   columns-bits           so the columns of the costs are those of the frame, at every place
 use mathlib.Core.Bool.{Bool, true, false, not, cond}
@@ -34,17 +33,13 @@ use lib.ListN.{length, getD, length-append, List·getD-append, List·getD-eq-def
 use lib.Pow.{pow-pos, pow-lt, pow-add}
 use lib.Seq.{getD-append-add}
 use borrow.Author.Tests.{le-leb, lt-leb, ne-eqb}
-use Rattle.lists.specs.Block.{block, block-length, block-at}
 use Rattle.lists.specs.Count.{sumOf, sumOf-nil, sumOf-suc, sumOf-ext, sumOf-plus, sumOf-bound, sumOf-strict}
 use Rattle.lists.specs.Distinct.{below}
-use Rattle.lists.specs.Listed.{listed, listed-length, listed-at, listed-ext, listed-by}
-use Rattle.soft.specs.Column.{symbols, ceiling, costOf, costAt, costsFrom, columnOf, isBlank}
+use Rattle.lists.specs.Listed.{listed, listed-length, listed-at, listed-ext}
+use Rattle.soft.specs.Column.{ceiling, costOf, costAt, costsFrom, columnOf, isBlank}
 use Rattle.soft.specs.BlankLaws.{blank-same}
 use Rattle.soft.specs.CostBytes.{costBytes, cost-bytes-length, cost-bytes-below, costs-written}
 use Rattle.soft.specs.Bits.{bits, isNegative, magnitude, favoured, contradicts, bitCost, bitOf, addedBy, symbolCost, bitColumn, valuesAt, bitColumns, bitCosts, bitTable}
-
-pub symbols-bits : symbols ≡ 2 ^ bits
-symbols-bits = refl
 
 -- ---- one value
 
@@ -120,9 +115,9 @@ bit-cost-high {v} {t} h two = go (ℕ-discrete t 0)
         let one : 1 ≡ t = omega arith in
         subst (λ x. (1 - x) * (256 - v) ≡ bitCost v x) one (omega (arith, bit-cost-negative h .1))
 
-pub bit-cost-most : (v t : ℕ) → bitCost v t ≤ 128
+pub bit-cost-most : (v t : ℕ) {r : ℕ} → r ≡ bitCost v t → r ≤ 128
 unfolding bitCost
-bit-cost-most v t = go (contradicts v t)
+bit-cost-most v t e = subst (λ x. x ≤ 128) (sym e) (go (contradicts v t))
   where
     go : (b : Bool) → cond b (magnitude v) 0 ≤ 128
     go true = magnitude-most v
@@ -206,7 +201,7 @@ module _ (b : ℕ) (values : List ℕ) where
 
   symbol-cost-most : (s : ℕ) → symbolCost b values s ≤ b * 128
   unfolding symbolCost
-  symbol-cost-most s = sumOf-bound b 128 (addedBy b values s) (λ i l. bit-cost-most (getD values i 0) (bitOf b s i))
+  symbol-cost-most s = sumOf-bound b 128 (addedBy b values s) (λ i l. bit-cost-most (getD values i 0) (bitOf b s i) refl)
 
   pub bit-column-most : (s : ℕ) → costOf (bitColumn b values) s ≤ b * 128
   unfolding bitColumn
@@ -310,12 +305,6 @@ module _ (b : ℕ) (frame : List ℕ) where
   pub values-at : (p i : ℕ) → i < b → getD (valuesAt b frame p) i 0 ≡ getD frame (b * p + i) 0
   unfolding valuesAt
   values-at p i h = listed-at b i (λ j. getD frame (b * p + j) 0) 0 h
-
-  -- where the frame has them, they stand there in a row
-  pub values-block : (p : ℕ) → b * p + b ≤ length frame → valuesAt b frame p ≡ block b p frame
-  unfolding valuesAt
-  values-block p h =
-      sym (listed-by 0 b (block b p frame) (λ i. getD frame (b * p + i) 0) (block-length b p frame h) (λ i l. block-at b p frame i 0 l))
 
   pub bit-costs-suc : (n : ℕ) → bitCosts b (suc n) frame ≡ bitCosts b n frame ++ bitColumns b frame n
   unfolding bitCosts

@@ -1,6 +1,6 @@
 -- Costs as bytes, two each, high byte first: written and read again.
 --
---   costBytes costs        their bytes
+--   costBytes column       their bytes
 --   cost-bytes-append, cost-bytes-length   the bytes of one list after another, and how many there are
 --   cost-bytes-below       they are bytes, where no cost is above 65535
 --   costs-written          costs written and read are the costs,
@@ -19,25 +19,25 @@ use Rattle.soft.specs.Column.{ceiling, costFrom, costsFrom}
 
 unfoldable pub costBytes : List ℕ → List ℕ
 costBytes [] = []
-costBytes (cost ∷ costs) = cost / 256 ∷ cost % 256 ∷ costBytes costs
+costBytes (cost ∷ column) = cost / 256 ∷ cost % 256 ∷ costBytes column
 
 pub cost-bytes-append : (a b : List ℕ) → costBytes (a ++ b) ≡ costBytes a ++ costBytes b
 unfolding costBytes
 cost-bytes-append [] b = refl
 cost-bytes-append (c ∷ a) b = ap (λ (l : List ℕ). c / 256 ∷ c % 256 ∷ l) (cost-bytes-append a b)
 
-pub cost-bytes-length : (costs : List ℕ) → length (costBytes costs) ≡ 2 * length costs
+pub cost-bytes-length : (column : List ℕ) → length (costBytes column) ≡ 2 * length column
 unfolding costBytes
 cost-bytes-length [] = refl
-cost-bytes-length (c ∷ costs) = omega (arith, cost-bytes-length costs)
+cost-bytes-length (c ∷ column) = omega (arith, cost-bytes-length column)
 
-pub cost-bytes-below : (costs : List ℕ) → ((i : ℕ) → getD costs i 0 ≤ ceiling) → below 256 (costBytes costs) ≡ true
+pub cost-bytes-below : (column : List ℕ) → ((i : ℕ) → getD column i 0 ≤ ceiling) → below 256 (costBytes column) ≡ true
 unfolding costBytes below
 cost-bytes-below [] h = refl
-cost-bytes-below (c ∷ costs) h =
+cost-bytes-below (c ∷ column) h =
     let l : c ≤ ceiling = h 0 in
-    and-both (ltb (c / 256) 256) (below 256 (c % 256 ∷ costBytes costs)) (lt-ltb (c / 256) 256 (omega arith))
-    (and-both (ltb (c % 256) 256) (below 256 (costBytes costs)) (lt-ltb (c % 256) 256 (omega arith)) (cost-bytes-below costs (λ i. h (suc i))))
+    and-both (ltb (c / 256) 256) (below 256 (c % 256 ∷ costBytes column)) (lt-ltb (c / 256) 256 (omega arith))
+    (and-both (ltb (c % 256) 256) (below 256 (costBytes column)) (lt-ltb (c % 256) 256 (omega arith)) (cost-bytes-below column (λ i. h (suc i))))
 
 costs-cons : (n h l : ℕ) (bytes : List ℕ) → costsFrom (suc n) (h ∷ l ∷ bytes) ≡ (h * 256 + l) ∷ costsFrom n bytes
 unfolding costsFrom
@@ -55,12 +55,12 @@ no-costs : (bytes : List ℕ) → costsFrom 0 bytes ≡ []
 unfolding costsFrom
 no-costs bytes = listed-nil (costFrom bytes)
 
-pub costs-written : (costs : List ℕ) → costsFrom (length costs) (costBytes costs) ≡ costs
+pub costs-written : (column : List ℕ) → costsFrom (length column) (costBytes column) ≡ column
 unfolding costBytes
 costs-written [] = no-costs []
-costs-written (c ∷ costs) =
-    costs-cons (length costs) (c / 256) (c % 256) (costBytes costs)
-    ∙ ap₂ (λ x (l : List ℕ). x ∷ l) (omega arith) (costs-written costs)
+costs-written (c ∷ column) =
+    costs-cons (length column) (c / 256) (c % 256) (costBytes column)
+    ∙ ap₂ (λ x (l : List ℕ). x ∷ l) (omega arith) (costs-written column)
 
 pub bytes-read : (n : ℕ) (bytes : List ℕ) → length bytes ≡ 2 * n → below 256 bytes ≡ true → costBytes (costsFrom n bytes) ≡ bytes
 unfolding costBytes

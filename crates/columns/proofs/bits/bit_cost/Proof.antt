@@ -1,24 +1,18 @@
 -- `columns::bits::bit_cost` meets its contract: the value is positive or zero, or it is negative.
-use mathlib.Core.Path.{_≡_}
-use Prim.Native.Nat.{ℕ, _≤_}
 use native.Mathlib.Omega.{arith}
 use borrow.Author.Needs.{needs}
-use Rattle.soft.specs.Bits.{bitCost}
 use Rattle.soft.specs.BitsLaws.{bit-cost-low, bit-cost-high, bit-cost-most}
 use Rattle.columns.proofs.bits.bit_cost.Statement.{statement}
 use Rattle.columns.proofs.bits.bit_cost.Tie as tie
-
-small : (v t : ℕ) {r : ℕ} → r ≡ bitCost v t → (r ≡ bitCost v t) × (r ≤ 128)
-small v t e = (e, omega (arith, bit-cost-most v t))
 
 cast-result : tie.Need-cast-result
 cast-result c = search needs
 
 mul-result : tie.Need-mul-result
-mul-result c = omega (arith, small _ _ (bit-cost-low (c .if1 .taken) (c .before .pre)))
+mul-result c = omega (arith, bit-cost-most _ _ (bit-cost-low (c .if1 .taken) (c .before .pre)))
 
 returns : tie.Need-returns
-returns c = small _ _ (bit-cost-low (c .if1 .taken) (c .before .pre))
+returns c = bit-cost-low (c .if1 .taken) (c .before .pre)
 
 cast-result-2 : tie.Need-cast-result-2
 cast-result-2 c = search needs
@@ -30,10 +24,10 @@ sub-result-2 : tie.Need-sub-result-2
 sub-result-2 c = search needs
 
 mul-result-2 : tie.Need-mul-result-2
-mul-result-2 c = omega (arith, small _ _ (bit-cost-high (c .if1 .left) (c .before .pre)))
+mul-result-2 c = omega (arith, bit-cost-most _ _ (bit-cost-high (c .if1 .left) (c .before .pre)))
 
 returns-2 : tie.Need-returns-2
-returns-2 c = small _ _ (bit-cost-high (c .if1 .left) (c .before .pre))
+returns-2 c = bit-cost-high (c .if1 .left) (c .before .pre)
 
 pub bit-cost-spec : {M : Type 1} → statement M
 bit-cost-spec =

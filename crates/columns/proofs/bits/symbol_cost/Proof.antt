@@ -1,4 +1,4 @@
--- `columns::bits::symbol_cost` meets its contract: the sum over four bits, written out.
+-- `columns::bits::symbol_cost` meets its contract: the sum over four bits, written out; no value adds more than 128, so it fits.
 use mathlib.Core.Path.{_≡_, ap, _∙_}
 use mathlib.Core.List.{List}
 use Prim.Native.Nat.{ℕ, _+_, _/_, _%_}
@@ -7,6 +7,7 @@ use lib.ListN.{getD}
 use borrow.Author.Needs.{needs}
 use Rattle.lists.specs.Count.{sumOf}
 use Rattle.soft.specs.Bits.{bits, bitCost, bitOf, symbolCost}
+use Rattle.soft.specs.BitsLaws.{bit-cost-most}
 use Rattle.columns.proofs.bits.symbol_cost.Statement.{statement}
 use Rattle.columns.proofs.bits.symbol_cost.Tie as tie
 
@@ -30,7 +31,7 @@ bit-cost-requires-2 : tie.Need-bit-cost-requires-2
 bit-cost-requires-2 c κs = search needs
 
 add-result : tie.Need-add-result
-add-result c = search needs
+add-result c = omega (arith, bit-cost-most _ _ (c .before .bit-cost .ensures), bit-cost-most _ _ (c .bit-cost2 .ensures))
 
 array-read-bit-cost-3 : tie.Need-array-read-bit-cost-3
 array-read-bit-cost-3 c = search needs
@@ -39,7 +40,13 @@ bit-cost-requires-3 : tie.Need-bit-cost-requires-3
 bit-cost-requires-3 c κs = search needs
 
 add-result-2 : tie.Need-add-result-2
-add-result-2 c = search needs
+add-result-2 c =
+    omega (
+      arith,
+      bit-cost-most _ _ (c .before .before .bit-cost .ensures),
+      bit-cost-most _ _ (c .before .bit-cost2 .ensures),
+      bit-cost-most _ _ (c .bit-cost3 .ensures),
+    )
 
 array-read-bit-cost-4 : tie.Need-array-read-bit-cost-4
 array-read-bit-cost-4 c = search needs
@@ -48,12 +55,19 @@ bit-cost-requires-4 : tie.Need-bit-cost-requires-4
 bit-cost-requires-4 c κs = search needs
 
 add-result-3 : tie.Need-add-result-3
-add-result-3 c = search needs
+add-result-3 c =
+    omega (
+      arith,
+      bit-cost-most _ _ (c .before .before .before .bit-cost .ensures),
+      bit-cost-most _ _ (c .before .before .bit-cost2 .ensures),
+      bit-cost-most _ _ (c .before .bit-cost3 .ensures),
+      bit-cost-most _ _ (c .bit-cost4 .ensures),
+    )
 
 returns : tie.Need-returns
 returns c =
-    four-added _ _ (c .before .before .before .bit-cost .ensures .0) (c .before .before .bit-cost2 .ensures .0) (c .before .bit-cost3 .ensures .0)
-    (c .bit-cost4 .ensures .0)
+    four-added _ _ (c .before .before .before .bit-cost .ensures) (c .before .before .bit-cost2 .ensures) (c .before .bit-cost3 .ensures)
+    (c .bit-cost4 .ensures)
 
 pub symbol-cost-spec : {M : Type 1} → statement M
 symbol-cost-spec =
