@@ -1,12 +1,11 @@
-//! A channel for simulations: BPSK over white Gaussian noise, and columns from the demapper's bit
-//! values.
+//! A channel for simulations: BPSK over white Gaussian noise, and the demapper's bit values.
 //!
 //! - [`Channel`], [`Channel::at`]: the noise of a rate at an Eb/N0.
-//! - [`Channel::column`]: what is received of one symbol.
-//! - [`column_of_bits`]: a column from four signed bytes.
+//! - [`Channel::values`]: what is received of one symbol.
 //! - [`LOST`], [`LOST_AS_ZERO`]: what a fade leaves of a symbol, and how document 01 takes it.
 //! - [`Channel::beyond`]: how likely more than T symbols are wrong, computed.
 
+use crate::bits::{BITS, SENT};
 use crate::curve::PLACES;
 use crate::field::SYMBOLS;
 use crate::random::Random;
@@ -15,16 +14,13 @@ use crate::soft::Column;
 /// The bit value of a noiseless bit: values then reach four times as far as it.
 const STEPS: f64 = 32.0;
 
-/// Bits of a symbol.
-const BITS: usize = 4;
-
-/// What a fade leaves of a symbol: four bit values of zero make a blank column.
-pub const LOST: Column = [0; SYMBOLS];
+/// What a fade leaves of a symbol: four bit values of zero, which make a blank column.
+pub const LOST: [i8; BITS] = [0; BITS];
 
 /// A column that is not blank and has the best symbol, 0, the second, 1, and the gap, 0, that document
 /// 01 gives to a blank one: symbol 15 alone costs 1.
 pub const LOST_AS_ZERO: Column = {
-    let mut column = LOST;
+    let mut column = [0; SYMBOLS];
     column[SYMBOLS - 1] = 1;
     column
 };
@@ -46,17 +42,11 @@ impl Channel {
 
     /// A symbol's bits are sent highest first, bit 0 as +1 and bit 1 as −1; each comes with noise and
     /// is rounded to a signed byte.
-    pub fn column(&self, symbol: u8, random: &mut Random) -> Column {
-        let value = |bit: usize| {
-            let sent = if symbol >> (BITS - 1 - bit) & 1 == 0 {
-                1.0
-            } else {
-                -1.0
-            };
-            let received: f64 = sent + self.deviation * normal(random);
+    pub fn values(&self, symbol: u8, random: &mut Random) -> [i8; BITS] {
+        SENT[usize::from(symbol)].map(|bit| {
+            let received = f64::from(bit) + self.deviation * normal(random);
             (STEPS * received).round().clamp(-128.0, 127.0) as i8
-        };
-        column_of_bits(std::array::from_fn(value))
+        })
     }
 
     /// The chance that more than `reach` of the 64 symbols have a wrong bit.
@@ -72,26 +62,6 @@ impl Channel {
         }
         1.0 - within
     }
-}
-
-/// Four signed bytes, highest bit first, a positive one favouring bit 0: the cost of a symbol sums
-/// the magnitudes of those whose favoured bit it contradicts.
-pub fn column_of_bits(values: [i8; BITS]) -> Column {
-    let cost = |symbol: usize| {
-        let contradicted = |bit: &usize| {
-            let one = symbol >> (BITS - 1 - *bit) & 1 == 1;
-            if one {
-                values[*bit] > 0
-            } else {
-                values[*bit] < 0
-            }
-        };
-        let magnitudes = (0..BITS).filter(contradicted);
-        magnitudes
-            .map(|bit| u16::from(values[bit].unsigned_abs()))
-            .sum()
-    };
-    std::array::from_fn::<u16, SYMBOLS, _>(cost)
 }
 
 /// A normal number, by Box and Muller.
@@ -120,24 +90,14 @@ fn upper_tail(from: f64) -> f64 {
 #[cfg(test)]
 mod tests {
     use super::*;
+    use crate::bits::column_of_bits;
     use crate::soft::{best, gap, is_blank, second};
 
     #[test]
-    fn columns_sum_contradicted_magnitudes() {
-        let column = column_of_bits([-128, 100, 3, 0]);
-        assert_eq!(column[0b1000], 0);
-        assert_eq!(column[0b1001], 0);
-        assert_eq!(column[0b1010], 3);
-        assert_eq!(column[0b0111], 128 + 100 + 3);
-        assert_eq!((best(&column), second(&column), gap(&column)), (8, 9, 0));
-        assert_eq!(column_of_bits([0; 4]), LOST);
-        assert_eq!(column_of_bits([-128; 4])[0], 512);
-    }
-
-    #[test]
     fn lost_symbols_are_blank_or_zero() {
-        assert!(is_blank(&LOST) && !is_blank(&LOST_AS_ZERO));
-        for column in [&LOST, &LOST_AS_ZERO] {
+        let blank = column_of_bits(LOST);
+        assert!(is_blank(&blank) && !is_blank(&LOST_AS_ZERO));
+        for column in [&blank, &LOST_AS_ZERO] {
             assert_eq!((best(column), second(column), gap(column)), (0, 1, 0));
         }
     }
@@ -160,7 +120,7 @@ mod tests {
         let mut frame = || {
             let wrong = (0..PLACES).filter(|_| {
                 let symbol = random.symbol();
-                best(&channel.column(symbol, &mut random)) != symbol
+                best(&column_of_bits(channel.values(symbol, &mut random))) != symbol
             });
             wrong.count() > 6
         };

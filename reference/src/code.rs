@@ -118,7 +118,7 @@ pub fn read_back(rate: u64, word: &[u8], message: &mut [u8]) -> Result<(), Refus
 }
 
 /// A lent buffer has exactly the size asked for.
-pub fn check_size(buffer: &[u8], size: usize) -> Result<(), Refusal> {
+pub fn check_size<T>(buffer: &[T], size: usize) -> Result<(), Refusal> {
     if buffer.len() == size {
         Ok(())
     } else {

@@ -5,6 +5,7 @@
 //! - [`Case::calls`]: its calls, from a fixed seed.
 //! - [`Measured`]: one call's rate, doubt and bytes; [`Measured::bytes`]: as `bench/counted` reads it.
 
+use crate::bits::column_of_bits;
 use crate::channel::Channel;
 use crate::code::Code;
 use crate::curve::PLACES;
@@ -149,7 +150,7 @@ impl Case {
                     None => {
                         let channel = Channel::at(self.rate, NOISE);
                         let symbols = sent.elements();
-                        symbols.map(|symbol| channel.column(symbol, random))
+                        symbols.map(|symbol| column_of_bits(channel.values(symbol, random)))
                     }
                 };
                 (b'T', table_of_columns(&columns))

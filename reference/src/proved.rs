@@ -1,9 +1,9 @@
 //! The proved library's calls, from `libmodem.a`, declared as in `include/hermitian.h`.
 //!
 //! - [`PROVED`]: encoding and reading back.
-//! - [`PROVED_TABLE`]: table decoding.
+//! - [`PROVED_TABLE`]: table decoding; [`PROVED_BITS`]: decoding from bit values.
 
-use crate::trials::{Coding, DecodeTable};
+use crate::trials::{Coding, DecodeBits, DecodeTable};
 
 extern "C" {
     fn hermitian_encode(
@@ -27,6 +27,17 @@ extern "C" {
         rate: usize,
         table: *const u8,
         table_length: usize,
+        doubt: usize,
+        message: *mut u8,
+        message_length: usize,
+        report: *mut u8,
+        report_length: usize,
+    ) -> u8;
+
+    fn hermitian_decode_bits(
+        rate: usize,
+        values: *const i8,
+        values_length: usize,
         doubt: usize,
         message: *mut u8,
         message_length: usize,
@@ -61,6 +72,20 @@ pub const PROVED_TABLE: DecodeTable = |rate, table, doubt, message, report| unsa
         rate as usize,
         table.as_ptr(),
         table.len(),
+        doubt as usize,
+        message.as_mut_ptr(),
+        message.len(),
+        report.as_mut_ptr(),
+        report.len(),
+    )
+};
+
+/// The proved library's decoding from bit values.
+pub const PROVED_BITS: DecodeBits = |rate, values, doubt, message, report| unsafe {
+    hermitian_decode_bits(
+        rate as usize,
+        values.as_ptr(),
+        values.len(),
         doubt as usize,
         message.as_mut_ptr(),
         message.len(),

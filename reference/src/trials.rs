@@ -1,14 +1,19 @@
-//! The three calls of the firmware, and random trials that compare two libraries on them.
+//! The four calls of the firmware, and random trials that compare two libraries on them.
 //!
-//! - [`Coding`]: encoding and reading back; [`DecodeTable`]: table decoding; each returns the refusal
-//!   or 0. [`REFERENCE`] and [`REFERENCE_TABLE`] are this package's.
-//! - [`encode_trial`], [`read_back_trial`], [`table_trial`]: one numbered call, right or damaged,
-//!   on a library; the [`Outcome`] is its number and every byte of its buffers.
-//! - [`compare`]: many trials on two libraries; the [`Tally`] of numbers, margins, blank places and
-//!   doubtful ones, or a [`Difference`].
+//! - [`Coding`]: encoding and reading back; [`DecodeTable`], [`DecodeBits`]: decoding a table, and from
+//!   bit values; each returns the refusal or 0. [`REFERENCE`], [`REFERENCE_TABLE`] and
+//!   [`REFERENCE_BITS`] are this package's.
+//! - [`encode_trial`], [`read_back_trial`], [`table_trial`], [`bits_trial`]: one numbered call, right
+//!   or damaged, on a library; the [`Outcome`] is its number and every byte of its buffers.
+//! - [`compare`]: many trials on two libraries; the [`Tally`] of numbers, margins, blank places,
+//!   doubtful ones and sorts of bit values, or a [`Difference`].
 
+use std::sync::atomic::{AtomicBool, Ordering};
 use std::thread;
 
+use crate::bit_counts::BitCounts;
+use crate::bit_frames::BitCall;
+use crate::bits::decode_bits;
 use crate::blanks::{Blanks, Faded};
 use crate::choices::{Choice, Choices};
 use crate::code::{encode, read_back, Code};
@@ -29,6 +34,9 @@ pub struct Coding {
 /// Table decoding, as the firmware calls it: rate, table, doubt, message, report.
 pub type DecodeTable = fn(u64, &[u8], u64, &mut [u8], &mut [u8]) -> u8;
 
+/// Decoding from bit values, as the firmware calls it: rate, values, doubt, message, report.
+pub type DecodeBits = fn(u64, &[i8], u64, &mut [u8], &mut [u8]) -> u8;
+
 /// This package's encoding and reading back.
 pub const REFERENCE: Coding = Coding {
     encode: |rate, message, frame, start| number(&encode(rate, message, frame, start)),
@@ -38,6 +46,11 @@ pub const REFERENCE: Coding = Coding {
 /// This package's table decoding.
 pub const REFERENCE_TABLE: DecodeTable = |rate, table, doubt, message, report| {
     number(&decode_table(rate, table, doubt, message, report))
+};
+
+/// This package's decoding from bit values.
+pub const REFERENCE_BITS: DecodeBits = |rate, values, doubt, message, report| {
+    number(&decode_bits(rate, values, doubt, message, report))
 };
 
 /// What a call returned, and every byte of its lent buffers afterwards.
@@ -51,6 +64,8 @@ pub struct Outcome {
     pub faded: Option<Faded>,
     /// What its pinned seconds make of the doubtful places, where the table was decoded.
     pub choice: Option<Choice>,
+    /// The call, where it decodes from bit values.
+    pub bits: Option<BitCall>,
 }
 
 /// The numbers that these calls return are below this.
@@ -63,17 +78,18 @@ pub struct Difference {
     pub outcomes: Box<[Outcome; 2]>,
 }
 
-/// One call of a library, the same for the same random stream.
-pub type Trial<L> = fn(&L, Random) -> Outcome;
+/// One call of a library, the same for the same seed and number.
+pub type Trial<L> = fn(&L, u64, u64) -> Outcome;
 
-/// How often each number was returned, the margins of the reports, and the blank and the doubtful
-/// places of the tables.
+/// How often each number was returned, the margins of the reports, the blank and the doubtful places
+/// of the tables and the sorts of bit values.
 #[derive(Clone, Debug, Default)]
 pub struct Tally {
     pub numbers: [u64; NUMBERS],
     pub margins: Margins,
     pub blanks: Blanks,
     pub choices: Choices,
+    pub bits: BitCounts,
 }
 
 impl Tally {
@@ -90,6 +106,10 @@ impl Tally {
         if let Some(choice) = &outcome.choice {
             self.choices.count(choice);
         }
+        if let (Some(call), Some(report)) = (&outcome.bits, &outcome.report) {
+            let message = &outcome.buffer;
+            self.bits.count(call, outcome.number, message, report);
+        }
     }
 
     fn add(&mut self, other: Tally) {
@@ -99,11 +119,13 @@ impl Tally {
         self.margins.add(other.margins);
         self.blanks.add(other.blanks);
         self.choices.add(other.choices);
+        self.bits.add(other.bits);
     }
 }
 
 /// Encoding into the middle of a frame.
-pub fn encode_trial(library: &Coding, mut random: Random) -> Outcome {
+pub fn encode_trial(library: &Coding, seed: u64, number: u64) -> Outcome {
+    let mut random = Random::new(seed, number);
     let symbols = random.one_of(&RATES) as usize;
     let rate = perhaps_unknown(symbols as u64, &mut random);
     let length = perhaps_other(symbols, &mut random);
@@ -127,11 +149,13 @@ pub fn encode_trial(library: &Coding, mut random: Random) -> Outcome {
         report: None,
         faded: None,
         choice: None,
+        bits: None,
     }
 }
 
 /// Reading back a codeword, one with a few wrong symbols, or any word.
-pub fn read_back_trial(library: &Coding, mut random: Random) -> Outcome {
+pub fn read_back_trial(library: &Coding, seed: u64, number: u64) -> Outcome {
+    let mut random = Random::new(seed, number);
     let symbols = random.one_of(&RATES) as usize;
     let code = Code::of_rate(symbols as u64).expect("a known rate");
     let mut word = random_codeword(code, &mut random).elements().to_vec();
@@ -150,11 +174,13 @@ pub fn read_back_trial(library: &Coding, mut random: Random) -> Outcome {
         report: None,
         faded: None,
         choice: None,
+        bits: None,
     }
 }
 
 /// Table decoding of one of the numbered frames.
-pub fn table_trial(decode_table: &DecodeTable, mut random: Random) -> Outcome {
+pub fn table_trial(decode_table: &DecodeTable, seed: u64, number: u64) -> Outcome {
+    let mut random = Random::new(seed, number);
     let (seed, number) = (random.number(), random.below(1 << 20) as u64);
     let frame = Frame::numbered(seed, number);
     let faded = Faded::of(Kind::numbered(number), frame.rate, &frame.columns, &[]);
@@ -176,6 +202,33 @@ pub fn table_trial(decode_table: &DecodeTable, mut random: Random) -> Outcome {
         report: Some(report),
         faded: Some(faded),
         choice: decoded.then(|| Choice::of(rate, &frame.columns, doubt as usize)),
+        bits: None,
+    }
+}
+
+/// Decoding from one of the numbered frames of bit values.
+pub fn bits_trial<D>(decode_bits: &D, seed: u64, number: u64) -> Outcome
+where
+    D: Fn(u64, &[i8], u64, &mut [u8], &mut [u8]) -> u8,
+{
+    let call = BitCall::numbered(seed, number);
+    let mut random = Random::new(!seed, number);
+    let mut message = bytes(call.message, &mut random);
+    let mut report = bytes(call.report, &mut random);
+    let number = decode_bits(
+        call.rate,
+        &call.values,
+        call.doubt,
+        &mut message,
+        &mut report,
+    );
+    Outcome {
+        number,
+        buffer: message,
+        report: Some(report),
+        faded: None,
+        choice: None,
+        bits: Some(call),
     }
 }
 
@@ -228,11 +281,16 @@ pub fn compare<L: Sync>(
     count: u64,
 ) -> Result<Tally, Difference> {
     let threads = thread::available_parallelism().map_or(1, |threads| threads.get() as u64);
+    let found = AtomicBool::new(false);
     let part = |first: u64| {
         let mut tally = Tally::default();
         for number in (first..count).step_by(threads as usize) {
-            let outcomes = libraries.map(|library| trial(library, Random::new(seed, number)));
+            if found.load(Ordering::Relaxed) {
+                break;
+            }
+            let outcomes = libraries.map(|library| trial(library, seed, number));
             if outcomes[0] != outcomes[1] {
+                found.store(true, Ordering::Relaxed);
                 return Err(Difference {
                     trial: number,
                     outcomes: Box::new(outcomes),
@@ -257,6 +315,8 @@ pub fn compare<L: Sync>(
 #[cfg(test)]
 mod tests {
     use super::*;
+    use crate::bit_frames::BitKind;
+    use crate::bits::{column_of_bits, BITS, FRAME_VALUES};
     use crate::blanks::OF_TABLES;
     use crate::decode::decode_table_by;
     use crate::soft::{
@@ -569,6 +629,197 @@ mod tests {
         };
         for library in [never, always, zero_is_absent, two_bytes, runner_up] {
             assert!(compare(table_trial, [&REFERENCE_TABLE, &library], 63, 400).is_err());
+        }
+    }
+
+    #[test]
+    fn trials_have_every_sort_of_bit_values() {
+        let both = [&REFERENCE_BITS, &REFERENCE_BITS];
+        let tally = compare(bits_trial, both, 66, 8192).unwrap();
+        assert_eq!(tally.bits.check(), Ok(()));
+        let often = (0..NUMBERS).filter(|number| tally.numbers[*number] >= 10);
+        assert_eq!(often.collect::<Vec<usize>>(), [0, 1, 2, 4, 9, 12]);
+        let both = [&REFERENCE, &REFERENCE];
+        let tally = compare(encode_trial, both, 66, 40).unwrap();
+        assert_eq!(tally.bits, BitCounts::default());
+    }
+
+    /// What four values make.
+    type Made = fn([i8; BITS]) -> Column;
+
+    /// Decoding with these columns.
+    fn decoding(made: Made) -> impl Fn(u64, &[i8], u64, &mut [u8], &mut [u8]) -> u8 {
+        move |rate, values, doubt, message, report| {
+            if Code::of_rate(rate).is_err() || values.len() != FRAME_VALUES {
+                return REFERENCE_BITS(rate, values, doubt, message, report);
+            }
+            let columns = values.chunks_exact(BITS).map(|four| {
+                let four = four.try_into().expect("four values");
+                made(four)
+            });
+            let table: Vec<u8> = columns.flat_map(|column| column_bytes(&column)).collect();
+            REFERENCE_TABLE(rate, &table, doubt, message, report)
+        }
+    }
+
+    /// Columns with one fault each; the last ones are wrong for one value at one position.
+    #[test]
+    fn wrong_columns_from_bit_values_are_found() {
+        let faults: [(&str, Made); 15] = [
+            ("positive favours 1", |values| {
+                let column = column_of_bits(values);
+                std::array::from_fn(|symbol| column[15 - symbol])
+            }),
+            ("lowest bit first", |[a, b, c, d]| {
+                column_of_bits([d, c, b, a])
+            }),
+            ("bytes are not signed", |values| {
+                let ones = |symbol: usize| (0..BITS).filter(move |bit| symbol & 8 >> bit != 0);
+                std::array::from_fn(|symbol| {
+                    ones(symbol).map(|bit| u16::from(values[bit] as u8)).sum()
+                })
+            }),
+            ("-128 has magnitude 127", |values| {
+                column_of_bits(values.map(|value| value.max(-127)))
+            }),
+            ("-128 has magnitude 0", |values| {
+                column_of_bits(values.map(|value| if value == -128 { 0 } else { value }))
+            }),
+            ("127 has magnitude 128", |values| {
+                let mut column = column_of_bits(values);
+                for (bit, value) in values.iter().enumerate() {
+                    let ones = (0..16).filter(|symbol| symbol & 8 >> bit != 0);
+                    ones.for_each(|symbol| column[symbol] += u16::from(*value == 127));
+                }
+                column
+            }),
+            ("sums of one byte", |values| {
+                column_of_bits(values).map(|cost| cost & 255)
+            }),
+            ("sums up to 511", |values| {
+                column_of_bits(values).map(|cost| cost.min(511))
+            }),
+            ("zero favours 0", |values| {
+                column_of_bits(values.map(|value| if value == 0 { 1 } else { value }))
+            }),
+            ("zero favours 1", |values| {
+                column_of_bits(values.map(|value| if value == 0 { -1 } else { value }))
+            }),
+            ("four zeros are not blank", |values| {
+                let mut column = column_of_bits(values);
+                column[15] += u16::from(values == [0; BITS]);
+                column
+            }),
+            ("three zeros are blank", |values| {
+                let zeros = values.iter().filter(|value| **value == 0).count();
+                column_of_bits(if zeros == 3 { [0; BITS] } else { values })
+            }),
+            ("sum zero is blank", |values| {
+                let sum: i16 = values.into_iter().map(i16::from).sum();
+                column_of_bits(if sum == 0 { [0; BITS] } else { values })
+            }),
+            ("-77 at position 2", |[a, b, c, d]| {
+                column_of_bits([a, b, c + i8::from(c == -77), d])
+            }),
+            ("93 beside zeros", |values| {
+                column_of_bits(if values == [0, 0, 0, 93] {
+                    [0, 0, 0, 92]
+                } else {
+                    values
+                })
+            }),
+        ];
+        let right = decoding(column_of_bits);
+        assert!(compare(bits_trial, [&right, &decoding(column_of_bits)], 67, 100).is_ok());
+        for (name, made) in faults {
+            let compared = compare(bits_trial, [&right, &decoding(made)], 67, 8192);
+            assert!(compared.is_err(), "{name}");
+        }
+    }
+
+    /// Whether more places of a frame are blank than may be.
+    fn too_blank(rate: u64, values: &[i8]) -> bool {
+        let blank = values.chunks_exact(BITS).filter(|four| **four == [0; BITS]);
+        Code::of_rate(rate).is_ok_and(|code| blank.count() > code.blank_limit())
+    }
+
+    /// Decoding from bit values with one fault each in its checks, on the calls that try these.
+    #[test]
+    fn wrong_checks_of_bit_values_are_found() {
+        let faults: [(&str, DecodeBits); 9] = [
+            ("a short frame", |rate, values, doubt, message, report| {
+                let mut values = values.to_vec();
+                if values.len() == 255 {
+                    values.push(0);
+                }
+                REFERENCE_BITS(rate, &values, doubt, message, report)
+            }),
+            ("a long frame", |rate, values, doubt, message, report| {
+                let most = values.len().min(FRAME_VALUES);
+                REFERENCE_BITS(rate, &values[..most], doubt, message, report)
+            }),
+            ("a table", |rate, values, doubt, message, report| {
+                if values.len() == FRAME_VALUES {
+                    return REFERENCE_BITS(rate, values, doubt, message, report);
+                }
+                let table: Vec<u8> = values.iter().map(|value| *value as u8).collect();
+                REFERENCE_TABLE(rate, &table, doubt, message, report)
+            }),
+            (
+                "the size before the rate",
+                |rate, values, doubt, message, report| match values.len() {
+                    FRAME_VALUES => REFERENCE_BITS(rate, values, doubt, message, report),
+                    _ => 2,
+                },
+            ),
+            (
+                "the doubt before the size",
+                |rate, values, doubt, message, report| match (rate, doubt) {
+                    (39 | 49, 9..) => 4,
+                    _ => REFERENCE_BITS(rate, values, doubt, message, report),
+                },
+            ),
+            (
+                "blank places before the doubt",
+                |rate, values, doubt, message, report| {
+                    let number = REFERENCE_BITS(rate, values, doubt, message, report);
+                    if number == 4 && too_blank(rate, values) {
+                        return 12;
+                    }
+                    number
+                },
+            ),
+            (
+                "nearness before blank places",
+                |rate, values, doubt, message, report| {
+                    let number = REFERENCE_BITS(rate, values, doubt, message, report);
+                    if number == 12 {
+                        return 9;
+                    }
+                    number
+                },
+            ),
+            ("doubt 9", |rate, values, doubt, message, report| {
+                let doubt = if doubt == 9 { 8 } else { doubt };
+                REFERENCE_BITS(rate, values, doubt, message, report)
+            }),
+            (
+                "the last place first",
+                |rate, values, doubt, message, report| {
+                    let places: Vec<&[i8]> = values.chunks(BITS).rev().collect();
+                    REFERENCE_BITS(rate, &places.concat(), doubt, message, report)
+                },
+            ),
+        ];
+        let refused: Trial<DecodeBits> = |library, seed, number| {
+            let outcome = bits_trial(library, seed, 16 * number + 15);
+            let kind = outcome.bits.as_ref().map(|call| call.kind);
+            assert_eq!(kind, Some(BitKind::Refused));
+            outcome
+        };
+        for (name, library) in faults {
+            let compared = compare(refused, [&REFERENCE_BITS, &library], 68, 512);
+            assert!(compared.is_err(), "{name}");
         }
     }
 }

@@ -26,6 +26,7 @@ compare shows SEED COUNT PROGRAM ..         run a program on COUNT captures and 
 compare time COUNT                          decode COUNT frames of each sort and time them
 compare code SEED COUNT                     the proved encoding and reading back (feature proved)
 compare tables SEED COUNT                   the proved table decoding (feature proved)
+compare bits SEED COUNT                     the proved decoding from bit values (feature proved)
 LETTERS are those of the calls wanted, of OCDRWXLU.
 The count of frames with a margin is printed; fewer than one in six are a failure.
 The counts of frames with blank places are printed, by kind, by rate and number of these places, and
@@ -38,7 +39,9 @@ than one in five frames after deliveries, or one a frame after captures, are a f
 capture that comes back unchanged and is not in place order, or the other way round.
 The counts of withdrawals are printed, by the place's sort or the refusal, and those of deliveries,
 readings, closings and writings after them; fewer than one a frame are a failure, or than one in six
-frames where the place is doubtful or blank.";
+frames where the place is doubtful or blank.
+The counts of each sort of bit values are printed; one that is missing is a failure. 8,192 frames go
+round every value at every position.";
 
 fn main() -> ExitCode {
     let arguments: Vec<String> = std::env::args().skip(1).collect();
@@ -96,6 +99,8 @@ fn run(arguments: &[String]) -> Result<(), String> {
         ["code", seed, count] => proved::code(number(seed)?, number(count)?),
         #[cfg(feature = "proved")]
         ["tables", seed, count] => proved::tables(number(seed)?, number(count)?),
+        #[cfg(feature = "proved")]
+        ["bits", seed, count] => proved::bits(number(seed)?, number(count)?),
         _ => Err(USAGE.to_string()),
     }
 }
@@ -168,10 +173,10 @@ fn time(count: u64) -> Result<(), String> {
 #[cfg(feature = "proved")]
 mod proved {
     use reference::blanks::OF_TABLES;
-    use reference::proved::{PROVED, PROVED_TABLE};
+    use reference::proved::{PROVED, PROVED_BITS, PROVED_TABLE};
     use reference::trials::{
-        compare, encode_trial, read_back_trial, table_trial, Difference, Tally, Trial, REFERENCE,
-        REFERENCE_TABLE,
+        bits_trial, compare, encode_trial, read_back_trial, table_trial, Difference, Tally, Trial,
+        REFERENCE, REFERENCE_BITS, REFERENCE_TABLE,
     };
 
     pub fn code(seed: u64, count: u64) -> Result<(), String> {
@@ -194,6 +199,13 @@ mod proved {
         blanks.check(count, &OF_TABLES)?;
         choices.check(count)?;
         margins.check(count)
+    }
+
+    pub fn bits(seed: u64, count: u64) -> Result<(), String> {
+        let both = [&REFERENCE_BITS, &PROVED_BITS];
+        let Tally { bits, .. } = report("decode bits", bits_trial, both, seed, count)?;
+        super::output(format!("decode bits: {bits}\n").as_bytes())?;
+        bits.check()
     }
 
     /// Prints how often each number was returned; the counts are handed back.

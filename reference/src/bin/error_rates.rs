@@ -1,5 +1,5 @@
-//! Frame error rates of the proved library's table decoding: random codewords through BPSK and white
-//! Gaussian noise. `error_rates FOLDER [FRAMES]` prints the numbers and draws them there:
+//! Frame error rates of the proved library's decoding from bit values: random codewords through BPSK
+//! and white Gaussian noise. `error_rates FOLDER [FRAMES]` prints the numbers and draws them there:
 //!
 //! - error-rates-39.svg and error-rates-49.svg: every place is received; a curve for each doubt;
 //! - faded-39-doubt-0.svg, faded-39-doubt-8.svg and faded-49-doubt-8.svg: some places of each frame,
@@ -16,6 +16,7 @@ use std::process::ExitCode;
 use std::sync::atomic::{AtomicU64, Ordering};
 use std::thread;
 
+use reference::bits::{columns_of_bits, BITS};
 use reference::channel::{Channel, LOST, LOST_AS_ZERO};
 use reference::code::Code;
 use reference::curve::PLACES;
@@ -23,9 +24,8 @@ use reference::decode::{table_of_columns, REPORT_BYTES};
 use reference::frames::{random_codeword, RATES};
 use reference::measured::DOUBTS;
 use reference::plot::{draw, Curve};
-use reference::proved::PROVED_TABLE;
+use reference::proved::{PROVED_BITS, PROVED_TABLE};
 use reference::random::Random;
-use reference::soft::Column;
 
 const SEED: u64 = 105;
 
@@ -60,9 +60,10 @@ const FADED_LEAST: f64 = 1e-3;
 struct Setting {
     rate: u64,
     doubt: usize,
-    /// How many places of a frame are lost, and the column that comes there.
+    /// How many places of a frame are lost.
     lost: usize,
-    column: Column,
+    /// They are not blank but symbol 0.
+    as_zero: bool,
 }
 
 /// What came of the frames at a point of a curve.
@@ -195,7 +196,7 @@ impl FadedCurve {
         let name = format!("{} as symbol 0", setting.lost);
         FadedCurve {
             setting: Setting {
-                column: LOST_AS_ZERO,
+                as_zero: true,
                 ..setting
             },
             curve: Curve::compared(name, colour),
@@ -253,7 +254,7 @@ impl Setting {
             rate,
             doubt,
             lost,
-            column: LOST,
+            as_zero: false,
         }
     }
 
@@ -307,20 +308,56 @@ impl Setting {
         let code = self.code();
         let sent = random_codeword(code, &mut random);
         let symbols = sent.elements();
-        let mut columns = symbols.map(|symbol| channel.column(symbol, &mut random));
-        for place in random.shuffled(0..PLACES).into_iter().take(self.lost) {
-            columns[place] = self.column;
+        let mut values = symbols.map(|symbol| channel.values(symbol, &mut random));
+        let lost: Vec<usize> = random
+            .shuffled(0..PLACES)
+            .into_iter()
+            .take(self.lost)
+            .collect();
+        for place in &lost {
+            values[*place] = LOST;
         }
-        let table = table_of_columns(&columns);
         let mut message = vec![0; code.symbols];
-        let mut report = [0; REPORT_BYTES];
-        let doubt = self.doubt as u64;
-        let number = PROVED_TABLE(self.rate, &table, doubt, &mut message, &mut report);
+        let number = match self.as_zero {
+            true => self.decode_as_zero(&values, &lost, &mut message),
+            false => {
+                let doubt = self.doubt as u64;
+                let values = values.as_flattened();
+                PROVED_BITS(
+                    self.rate,
+                    values,
+                    doubt,
+                    &mut message,
+                    &mut [0; REPORT_BYTES],
+                )
+            }
+        };
         counts.frames += 1;
         if number != 0 {
             counts.refused += 1;
         } else if code.codeword(&message) != sent {
             counts.wrong += 1;
         }
+    }
+
+    /// By the table with symbol 0 at the lost places, which no bit values make.
+    fn decode_as_zero(
+        &self,
+        values: &[[i8; BITS]; PLACES],
+        lost: &[usize],
+        message: &mut [u8],
+    ) -> u8 {
+        let mut columns = columns_of_bits(values.as_flattened());
+        for place in lost {
+            columns[*place] = LOST_AS_ZERO;
+        }
+        let table = table_of_columns(&columns);
+        PROVED_TABLE(
+            self.rate,
+            &table,
+            self.doubt as u64,
+            message,
+            &mut [0; REPORT_BYTES],
+        )
     }
 }
