@@ -69,14 +69,18 @@ fn picked(a: u8, one: u8, two: u8, four: u8, eight: u8) -> u8
     (a1 & one) ^ (a1 * 2 & two) ^ (a1 * 4 & four) ^ (a1 * 8 & eight)
 }
 
+// The terms of a row, as a byte: the order of a term fits one.
+const TERMS: u8 = 96;
+
 fn summed(row: Row, one: Row, two: Row, four: Row, eight: Row) -> u8
     ensures { λ r. ⌜ r ≡ summedOf row one two four eight ⌝ }
 {
     let mut sum = 0u8;
-    let mut i = 0;
-    while i < ROW {
+    let mut term = 0u8;
+    while term < TERMS {
+        let i = term as usize;
         sum = sum ^ picked(row[i], one[i], two[i], four[i], eight[i]);
-        i += 1;
+        term += 1;
     }
     sum
 }

@@ -7,13 +7,16 @@ use Rattle.rows.proofs.summed.Statement.{statement}
 use Rattle.rows.proofs.summed.Tie as tie
 
 abbrev Inv-loop : tie.InvT-loop
-Inv-loop row one two four eight sum₀ i₀ sum i = Summed 96 (pickedAt row one two four eight) i sum
+Inv-loop row one two four eight sum₀ term₀ sum term = Summed 96 (pickedAt row one two four eight) term sum
 
 abbrev μ-loop : tie.MeasureT-loop
-μ-loop row one two four eight sum₀ i₀ sum i = 96 - i
+μ-loop row one two four eight sum₀ term₀ sum term = 96 - term
 
 loop-holds : tie.Need-loop-holds Inv-loop μ-loop
 loop-holds c = summed-start 96 _
+
+cast-i : tie.Need-cast-i Inv-loop μ-loop
+cast-i c = search needs
 
 array-read-picked : tie.Need-array-read-picked Inv-loop μ-loop
 array-read-picked c = search needs
@@ -33,8 +36,8 @@ array-read-picked-5 c = search needs
 picked-requires : tie.Need-picked-requires Inv-loop μ-loop
 picked-requires c κs = search needs
 
-add-i : tie.Need-add-i Inv-loop μ-loop
-add-i c = search needs
+add-term : tie.Need-add-term Inv-loop μ-loop
+add-term c = search needs
 
 loop-less : tie.Need-loop-less Inv-loop μ-loop
 loop-less c = search needs
@@ -54,13 +57,14 @@ summed-spec =
     Inv-loop
     μ-loop
     loop-holds
+    cast-i
     array-read-picked
     array-read-picked-2
     array-read-picked-3
     array-read-picked-4
     array-read-picked-5
     picked-requires
-    add-i
+    add-term
     loop-less
     loop-again
     returns)
