@@ -1,5 +1,7 @@
 -- Laws of the doubtful places.
 --
+--   ahead-cases            a place is ahead by a smaller gap, or by an equal one and as the lower place; smaller-ahead: by a smaller gap it always is
+--   none-ahead, ahead-none   the places ahead count 0 exactly if no place that counts is ahead: the place is the first
 --   ahead-key              of two of n places one is ahead exactly if its key, the gap times n plus the place, is smaller
 --   ahead-rank             so the places ahead are counted by a rank
 --   smallest-length        exactly d places are chosen, where so many count; smallest-most: never more
@@ -14,17 +16,18 @@
 --   doubtful-pinned        a place with such a second is chosen only if all places are that are not blank and whose second is below the ceiling
 --   doubtful-none          no doubt, no doubtful places
 --   aheadOf-ext, smallest-ext, doubtful-ext   only the n places matter
-use mathlib.Core.Bool.{Bool, true, false, not, _&&_}
+use mathlib.Core.Bool.{Bool, true, false, not, _&&_, _||_}
 use mathlib.Core.Path.{_≡_, refl, sym, ap, ap₂, _∙_, subst}
 use mathlib.Core.List.{List, [], List·Memᴰ}
+use mathlib.Core.Logic.{_⊎_, inl, inr}
 use Prim.Native.Nat.{ℕ, suc, _+_, _*_, _<_, _≤_}
 use native.Mathlib.Nat.{mul-le-mul-right, suc-mul}
 use native.Mathlib.Decide.{decLe}
 use native.Mathlib.Omega.{arith}
-use lib.Dec.{T, ltb, ltb→lt, lt→ltb}
+use lib.Dec.{T, ltb, eqb, ltb→lt, lt→ltb, eqb→eq}
 use lib.ListN.{length}
-use borrow.Author.Tests.{lt-ltb, le-ltb, eq-eqb, ne-eqb}
-use Rattle.lists.specs.Count.{count, count-ext, count-mono, count-strict, kept, kept-ext, kept-length, kept-member, kept-passes, kept-rising, kept-none, Rising}
+use borrow.Author.Tests.{lt-ltb, le-ltb, ltb-true, eq-eqb, ne-eqb}
+use Rattle.lists.specs.Count.{count, count-ext, count-none, count-zero, count-mono, count-strict, kept, kept-ext, kept-length, kept-member, kept-passes, kept-rising, kept-none, Rising}
 use Rattle.lists.specs.Distinct.{and-both}
 use Rattle.lists.specs.Every.{both-left, both-right, both-intro, T-true, true-T}
 use Rattle.soft.specs.Column.{ceiling, costOf, secondOf, doubtGapOf, isBlank}
@@ -53,6 +56,19 @@ unfolding doubtfulOf
 doubtful-ext n d c e h =
     smallest-ext n (openAt c) (openAt e) (gapAt c) (gapAt e) (λ p l. ap (λ x. not (isBlank x)) (h p l)) (λ p l. ap doubtGapOf (h p l)) d
 
+-- what is ahead has a smaller gap, or an equal one and is the lower place
+pub ahead-cases : (g p h q : ℕ) → T (aheadBy g p h q) → (g < h) ⊎ ((g ≡ h) × (p < q))
+unfolding aheadBy
+ahead-cases g p h q t = go (ltb g h) refl t
+  where
+    go : (b : Bool) → ltb g h ≡ b → T (b || (eqb g h && ltb p q)) → (g < h) ⊎ ((g ≡ h) × (p < q))
+    go true e s = inl (ltb-true g h e)
+    go false e s = inr (eqb→eq g h (both-left (eqb g h) (ltb p q) s), ltb→lt p q (both-right (eqb g h) (ltb p q) s))
+
+pub smaller-ahead : (g p h q : ℕ) → g < h → T (aheadBy g p h q)
+unfolding aheadBy
+smaller-ahead g p h q l = simp (lt-ltb g h l) tt
+
 -- no doubt, no doubtful places
 pub doubtful-none : (n : ℕ) (columns : ℕ → List ℕ) → doubtfulOf n 0 columns ≡ []
 unfolding doubtfulOf smallest
@@ -66,6 +82,23 @@ doubtful-none n columns =
 
 key-lt : (n g h p q : ℕ) → g < h → p < n → g * n + p < h * n + q
 key-lt n g h p q l k = let m : suc g * n ≤ h * n = mul-le-mul-right n l in omega (arith, suc-mul g n)
+
+-- the first of the places that count
+module _ (n : ℕ) (gap : ℕ → ℕ) (counts : ℕ → Bool) (q : ℕ) where
+  pub none-ahead : ((p : ℕ) → p < n → counts p ≡ true → T (ahead gap p q) → ⊥) → aheadOf n counts gap q ≡ 0
+  unfolding aheadOf
+  none-ahead none =
+      count-none n (λ p. counts p && ahead gap p q)
+      (λ p l. T-false (counts p && ahead gap p q) (λ t. none p l (T-true (counts p) (both-left (counts p) (ahead gap p q) t)) (both-right (counts p) (ahead gap p q) t)))
+    where
+      T-false : (b : Bool) → (T b → ⊥) → b ≡ false
+      T-false true f = absurd (f tt)
+      T-false false f = refl
+
+  pub ahead-none : aheadOf n counts gap q ≡ 0 → (p : ℕ) → p < n → counts p ≡ true → T (ahead gap p q) → ⊥
+  unfolding aheadOf
+  ahead-none e p l c t =
+      subst T (count-zero n (λ p. counts p && ahead gap p q) e p l) (both-intro (counts p) (ahead gap p q) (true-T (counts p) c) t)
 
 module _ (n : ℕ) (gap : ℕ → ℕ) where
   abbrev key : ℕ → ℕ

@@ -4,12 +4,14 @@ pub mod Bits
 pub mod Blank
 pub mod Ranks
 pub mod Doubt
+pub mod Threshold
 pub mod TestWord
 pub mod Total
 pub mod ColumnLaws
 pub mod BlankLaws
 pub mod BitsLaws
 pub mod DoubtLaws
+pub mod ThresholdLaws
 pub mod TestWordLaws
 pub mod TotalLaws
 pub mod Bench
