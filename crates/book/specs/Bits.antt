@@ -6,6 +6,7 @@
 --   bitsOf rate frame doubt message report   1 if the rate is unknown, 2 if a buffer has the wrong size, 4 if the doubt is too large;
 --                          else what decoding by the frame's columns and the places of smallest gap answers
 --   bits-rate, bits-size, bits-doubt, bits-decoded   the four cases; bits-frame: any other length of the frame is 2, once the rate is known
+--   bits-refused           where the checks of rate and sizes refuse, it gives their number
 --   bits-blank-only        of the last: it gives 12 exactly where more places are blank than leave a T
 --   bits-blank             a place is blank exactly if all its values are zero
 --   bits-costs             the frame's columns have a cost for each symbol, 0 to 65535
@@ -23,7 +24,7 @@ use native.Mathlib.Omega.{arith}
 use lib.Dec.{eqb, leb}
 use lib.ListN.{length, getD}
 use borrow.Author.Tests.{eq-eqb, le-leb, lt-leb}
-use Rattle.refusals.specs.Refusal.{unknownRate, wrongSize, wrongDoubt, tooBlank}
+use Rattle.refusals.specs.Refusal.{accepted, unknownRate, wrongSize, wrongDoubt, tooBlank}
 use Rattle.soft.specs.Column as Soft
 use Rattle.soft.specs.Doubt.{doubtfulOf}
 use Rattle.soft.specs.Blank.{blankAt, blanksOf}
@@ -34,7 +35,7 @@ use Rattle.book.specs.Model.{Model, places, width}
 use Rattle.book.specs.Book.{Entry, columnIn}
 use Rattle.book.specs.Closing.{reportLength, Closed, refusedClosing, decodeOf, closeOf}
 use Rattle.book.specs.ClosingLaws.{decode-blank-only}
-use Rattle.book.specs.Table.{sizes-fit, sizes-unfit, tableLength, tableColumns, pickedOf, tableFits, tableOf, Delivered, bookFor, table-as-session}
+use Rattle.book.specs.Table.{sizes-fit, sizes-unfit, tableLength, tableColumns, pickedOf, tableFits, checksOf, refused-by-checks, tableOf, Delivered, bookFor, table-as-session}
 use Rattle.book.specs.Costs.{AreColumns}
 
 module _ (𝓓 : Model) (b : ℕ) where
@@ -96,6 +97,17 @@ module _ (𝓓 : Model) (b : ℕ) where
         bits-blank-only h =
             subst (λ (c : Closed). (c .number ≡ tooBlank) ↔ (blankLimit member rate < blanksOf (places 𝓓) (bitColumns b frame))) (sym (bits-decoded h))
             (decode-blank-only 𝓓 rate (bitColumns b frame) (doubtfulOf (places 𝓓) doubt (bitColumns b frame)) message report)
+
+    pub bits-refused : checksOf 𝓓 rate (length frame) frameLength (length message) (length report) ≢ accepted
+        → bitsOf rate frame doubt message report
+        ≡ refusedClosing (checksOf 𝓓 rate (length frame) frameLength (length message) (length report)) message report
+    unfolding bitsOf bitsFit
+    bits-refused n =
+        refused-by-checks 𝓓 rate (length frame) frameLength message report
+        (cond (leb doubt mostDoubt)
+        (decodeOf 𝓓 rate (bitColumns b frame) (doubtfulOf (places 𝓓) doubt (bitColumns b frame)) message report)
+        (refusedClosing wrongDoubt message report))
+        n
 
   -- ---- the columns
 

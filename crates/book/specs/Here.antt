@@ -5,8 +5,8 @@
 --   power                sixteen symbols are those of four bits
 --   pinnedIn, changedIn, markIn, marginIn   the report's bytes 6, 7 and 8, and the number in its last four: pinned-byte, changed-byte, mark-byte, margin-bytes
 --
--- All others mean what they mean in Book, Opening, Delivery, Withdrawal, Columns, Entries, RowLaws, OpeningLaws, PlaceOrder, Closing, Table, Bits, Sentences,
--- Costs, Report and Repairs.
+-- All others mean what they mean in Book, Opening, Delivery, Withdrawal, Columns, Entries, RowLaws, OpeningLaws, PlaceOrder, Closing, Table, Below, Bits,
+-- Sentences, Costs, Report and Repairs.
 use mathlib.Core.Bool.{Bool}
 use mathlib.Core.Path.{_≡_, refl}
 use mathlib.Core.List.{List}
@@ -31,6 +31,7 @@ use Rattle.book.specs.PlaceOrder as PlaceOrder
 use Rattle.book.specs.Closing as Closing
 use Rattle.book.specs.Closing.{Closed}
 use Rattle.book.specs.Table as Table
+use Rattle.book.specs.Below as Below
 use Rattle.book.specs.Bits as Bits
 use Rattle.book.specs.Sentences as Sentences
 use Rattle.book.specs.Costs as Costs
@@ -195,11 +196,25 @@ tableColumns table p = Table.tableColumns modem64 table p
 abbrev pub pickedOf : List ℕ → ℕ → List ℕ
 pickedOf table doubt = Table.pickedOf modem64 table doubt
 
+abbrev pub checksOf : ℕ → ℕ → ℕ → ℕ → ℕ → ℕ
+checksOf rate given wanted message report = Table.checksOf modem64 rate given wanted message report
+
+abbrev pub Checked : ℕ → ℕ → ℕ → ℕ → ℕ → Type 0
+Checked rate given wanted message report = Table.Checked modem64 rate given wanted message report
+
 abbrev pub tableOf : ℕ → List ℕ → ℕ → List ℕ → List ℕ → Closed
 tableOf rate table doubt message report = Table.tableOf modem64 rate table doubt message report
 
 abbrev pub Delivered : List ℕ → List Entry → Type 0
 Delivered table row = Table.Delivered modem64 table row
+
+-- ---- by a threshold
+
+abbrev pub pickedBelow : List ℕ → ℕ → ℕ → List ℕ
+pickedBelow table t m = Below.pickedBelow modem64 table t m
+
+abbrev pub tableBelowOf : ℕ → List ℕ → ℕ → ℕ → List ℕ → List ℕ → Closed
+tableBelowOf rate table t m message report = Below.tableBelowOf modem64 rate table t m message report
 
 -- ---- decoding from bit values
 

@@ -14,6 +14,7 @@ pub mod AlikeDelivery
 pub mod Closing
 pub mod ClosingLaws
 pub mod Table
+pub mod Below
 pub mod Sentences
 pub mod Costs
 pub mod Bits

@@ -5,6 +5,10 @@
 --   closed n message report   a number returned and the two lent buffers afterwards
 --   tableColumns table     the columns by place
 --   pickedOf table doubt   the doubtful places: of those that are not blank those of smallest gap as it counts for choosing, equal gaps to the lower place
+--   checksOf rate given wanted message report   the number that the checks of rate and sizes give, by the lengths of the buffers: 1 if the rate is unknown,
+--                          2 if one that was given has another length than the one wanted, else 0
+--   checks-rate, checks-size, checks-fit   the three cases; Checked, checks-passed: what is known where they pass
+--   refused-by-checks      a call that begins with these checks answers with their number where they refuse; checks-refused: so does table decoding
 --   tableOf rate table doubt message report   1 if the rate is unknown, 2 if a buffer has the wrong size, 4 if the doubt is too large;
 --                          else what decoding by the table's columns and the doubtful places picked answers
 --   table-rate, table-size, table-doubt, table-decoded   the four cases
@@ -118,6 +122,11 @@ module _ (𝓓 : Model) where
   unfoldable pub tableFits : ℕ → List ℕ → List ℕ → List ℕ → Bool
   tableFits rate table message report = eqb (length table) tableLength && (eqb (length message) rate && eqb (length report) (reportLength 𝓓))
 
+  -- the checks that table decoding begins with, and other calls too, by lengths
+  unfoldable pub checksOf : ℕ → ℕ → ℕ → ℕ → ℕ → ℕ
+  checksOf rate given wanted message report =
+      cond (known rate) (cond (eqb given wanted && (eqb message rate && eqb report (reportLength 𝓓))) accepted wrongSize) unknownRate
+
   unfoldable pub tableOf : ℕ → List ℕ → ℕ → List ℕ → List ℕ → Closed
   tableOf rate table doubt message report =
       cond (known rate)
@@ -153,6 +162,76 @@ module _ (𝓓 : Model) where
   -- as many blank places as the limit says leave a T, so these are not all
   pub limit-below : {rate : ℕ} → known rate ≡ true → blankLimit member rate < places 𝓓
   limit-below {rate} e = omega (arith, reach-is member (workable rate e) {b = blankLimit member rate} (omega arith) .fits)
+
+  -- ---- the checks of rate and sizes
+
+  pub record Checked (rate given wanted message report : ℕ) : Type 0 where
+    pub rated : known rate ≡ true
+    pub whole : given ≡ wanted
+    pub long : message ≡ rate
+    pub whole-report : report ≡ reportLength 𝓓
+
+  module _ (rate given wanted message report : ℕ) where
+    abbrev sized : Bool
+    sized = eqb given wanted && (eqb message rate && eqb report (reportLength 𝓓))
+
+    pub checks-rate : known rate ≡ false → checksOf rate given wanted message report ≡ unknownRate
+    unfolding checksOf
+    checks-rate e = rw e
+
+    checks-unfit : known rate ≡ true → sized ≡ false → checksOf rate given wanted message report ≡ wrongSize
+    unfolding checksOf
+    checks-unfit e f = rw (e, f)
+
+    pub checks-size : known rate ≡ true → (given ≢ wanted) ⊎ ((message ≢ rate) ⊎ (report ≢ (reportLength 𝓓)))
+        → checksOf rate given wanted message report ≡ wrongSize
+    checks-size e w = checks-unfit e (sizes-unfit w)
+
+    checks-fitting : known rate ≡ true → sized ≡ true → checksOf rate given wanted message report ≡ accepted
+    unfolding checksOf
+    checks-fitting e f = rw (e, f)
+
+    pub checks-fit : known rate ≡ true → given ≡ wanted → message ≡ rate → report ≡ reportLength 𝓓
+        → checksOf rate given wanted message report ≡ accepted
+    checks-fit e whole long whole-report = checks-fitting e (sizes-fit whole long whole-report)
+
+    pub checks-passed : checksOf rate given wanted message report ≡ accepted → Checked rate given wanted message report
+    checks-passed n = go (known rate) refl sized refl
+      where
+        go : (a : Bool) → known rate ≡ a → (b : Bool) → sized ≡ b → Checked rate given wanted message report
+        go false e b f = absurd (omega (arith, sym (checks-rate e) ∙ n))
+        go true e false f = absurd (omega (arith, sym (checks-unfit e f) ∙ n))
+        go true e true f =
+            let rest : (eqb message rate && eqb report (reportLength 𝓓)) ≡ true = and-right (eqb given wanted) (eqb message rate && eqb report (reportLength 𝓓)) f in
+            record {
+              rated = e;
+              whole = eqb-true given wanted (and-left (eqb given wanted) (eqb message rate && eqb report (reportLength 𝓓)) f);
+              long = eqb-true message rate (and-left (eqb message rate) (eqb report (reportLength 𝓓)) rest);
+              whole-report = eqb-true report (reportLength 𝓓) (and-right (eqb message rate) (eqb report (reportLength 𝓓)) rest);
+            }
+
+  pub refused-by-checks : (rate given wanted : ℕ) (message report : List ℕ) (rest : Closed)
+      → checksOf rate given wanted (length message) (length report) ≢ accepted
+      → cond (known rate)
+      (cond (eqb given wanted && (eqb (length message) rate && eqb (length report) (reportLength 𝓓))) rest (refusedClosing wrongSize message report))
+      (refusedClosing unknownRate message report)
+      ≡ refusedClosing (checksOf rate given wanted (length message) (length report)) message report
+  refused-by-checks rate given wanted message report rest n = go (known rate) refl (sized rate given wanted (length message) (length report)) refl
+    where
+      number : ℕ
+      number = checksOf rate given wanted (length message) (length report)
+
+      refused : (k : ℕ) → number ≡ k → refusedClosing k message report ≡ refusedClosing number message report
+      refused k e = ap (λ i. refusedClosing i message report) (sym e)
+
+      go : (a : Bool) → known rate ≡ a → (b : Bool) → sized rate given wanted (length message) (length report) ≡ b
+          → cond (known rate)
+          (cond (sized rate given wanted (length message) (length report)) rest (refusedClosing wrongSize message report))
+          (refusedClosing unknownRate message report)
+          ≡ refusedClosing number message report
+      go false e b f = rw e (refused unknownRate (checks-rate rate given wanted (length message) (length report) e))
+      go true e false f = rw (e, f) (refused wrongSize (checks-unfit rate given wanted (length message) (length report) e f))
+      go true e true f = absurd (n (checks-fitting rate given wanted (length message) (length report) e f))
 
   -- ---- the four cases
 
@@ -205,6 +284,16 @@ module _ (𝓓 : Model) where
               open-count (places 𝓓) (tableColumns table),
               count-none (places 𝓓) (openAt (tableColumns table)) (λ p l. ap not (blank p l)),
             ))
+
+    pub checks-refused : checksOf rate (length table) tableLength (length message) (length report) ≢ accepted
+        → tableOf rate table doubt message report
+        ≡ refusedClosing (checksOf rate (length table) tableLength (length message) (length report)) message report
+    unfolding tableOf tableFits
+    checks-refused n =
+        refused-by-checks rate (length table) tableLength message report
+        (cond (leb doubt mostDoubt) (decodeOf 𝓓 rate (tableColumns table) (pickedOf table doubt) message report)
+        (refusedClosing wrongDoubt message report))
+        n
 
     pub table-accepted : tableOf rate table doubt message report .number ≡ accepted
         → (doubt ≤ mostDoubt) × (tableOf rate table doubt message report ≡ decodeOf 𝓓 rate (tableColumns table) (pickedOf table doubt) message report)
