@@ -1,8 +1,8 @@
 -- Table decoding by a threshold: rate, then sizes, then the maximum, then blank places, then nearness; and why it answers as table decoding does with a
 -- doubt that is counted, and as a session does that was opened with the places that the threshold picks.
 --
---   pickedBelow table t m  the doubtful places: of those that are not blank that of smallest gap, and in rising order of gap and then place those with a gap
---                          below the threshold t, up to m in all
+--   pickedBelow table t m  the doubtful places with the threshold t and the maximum m, as `soft` Threshold has them: the first that is not blank, and then
+--                          those whose gap is smaller than t, never more than m
 --   tableBelowOf rate table t m message report   1 if the rate is unknown, 2 if a buffer has the wrong size, 4 if the maximum m is 0 or larger than the
 --                          largest doubt; else what decoding by the table's columns and these places answers
 --   below-rate, below-size, below-doubt, below-decoded   the four cases; below-refused: where the checks of rate and sizes refuse, it gives their number

@@ -1,5 +1,5 @@
--- Which places are doubtful by a threshold: of those that are not blank the place of smallest gap, and after it, in rising order of gap and then
--- place, those with a gap below the threshold, up to a maximum in all. Gap and order are those of Doubt.
+-- Which places a threshold makes doubtful: of those that are not blank the first, whatever its gap, and then each whose gap is smaller than the
+-- threshold, until there are as many as the maximum allows. What a gap is, and which place is first, is said in Doubt.
 --
 --   isClose n t m counts gap q   place q counts, fewer than m of the n places that count are ahead of it, and none is or its gap is below t
 --   closest n t m counts gap     the places below n that are, rising
