@@ -2,7 +2,6 @@
 --
 --   key-open, key-blank    the key of a place, from its gap
 --   places-start, places-turn   the places chosen so far, in an array of w
---   chosen-places, chosen-count   those chosen by the keys are the doubtful places
 --   skipped-places, skipped-count   without doubt there are none
 use mathlib.Core.Bool.{Bool, true, false, cond, true≢false, false≢true}
 use mathlib.Core.Path.{_≡_, sym, ap, ap₂, _∙_}
@@ -11,12 +10,12 @@ use Prim.Native.Nat.{ℕ, _+_, _*_, _<_, _≤_}
 use native.Mathlib.Numerals.{add-one}
 use native.Mathlib.Omega.{arith}
 use lib.ListN.{length, set, replicate}
-use Rattle.lists.specs.Count.{count, kept, kept-nil, kept-suc, kept-ext, kept-length}
+use Rattle.lists.specs.Count.{count, kept, kept-nil, kept-suc, kept-length}
 use Rattle.lists.specs.Padded.{padded, padded-nil, padded-if}
 use Rattle.soft.specs.Blank.{openAt}
-use Rattle.soft.specs.Doubt.{fewAhead, gapAt, smallest, doubtfulOf}
+use Rattle.soft.specs.Doubt.{gapAt, doubtfulOf}
 use Rattle.soft.specs.DoubtLaws.{doubtful-none}
-use Rattle.doubt.specs.Keys.{KeyOf, Keyed, chosenBy, chosen-few}
+use Rattle.doubt.specs.Keys.{KeyOf}
 
 -- the key of a place
 module _ {n far : ℕ} {columns : ℕ → List ℕ} {p key : ℕ} where
@@ -37,19 +36,7 @@ module _ (w : ℕ) where
       er ∙ ap₂ (λ t o. cond t (set o found p) o) eb eo ∙ padded-if w (kept p f) p found (f p) (ef ∙ sym (kept-length p f))
       ∙ ap (padded w) (sym (kept-suc p f) ∙ ap (λ n. kept n f) (sym (add-one p)))
 
--- those chosen by the keys are the doubtful places
-module _ {n far : ℕ} {columns : ℕ → List ℕ} {keys : List ℕ} (K : Keyed n far columns keys) (d : ℕ) where
-  doubtful-chosen : kept n (chosenBy n far d keys) ≡ doubtfulOf n d columns
-  unfolding smallest doubtfulOf
-  doubtful-chosen = kept-ext n (chosenBy n far d keys) (fewAhead n d (openAt columns) (gapAt columns)) (chosen-few K d)
-
-  pub chosen-places : (w : ℕ) {out : List ℕ} → out ≡ padded w (kept n (chosenBy n far d keys)) → out ≡ padded w (doubtfulOf n d columns)
-  chosen-places w e = e ∙ ap (padded w) doubtful-chosen
-
-  pub chosen-count : {found : ℕ} → found ≡ count n (chosenBy n far d keys) → found ≡ length (doubtfulOf n d columns)
-  chosen-count e = e ∙ sym (kept-length n (chosenBy n far d keys)) ∙ ap length doubtful-chosen
-
--- and without doubt there are none
+-- without doubt there are none
 module _ (n : ℕ) (columns : ℕ → List ℕ) (d : ℕ) (e : d ≡ 0) where
   pub skipped-places : (w : ℕ) → replicate w 0 ≡ padded w (doubtfulOf n d columns)
   skipped-places w = sym (ap (λ k. padded w (doubtfulOf n k columns)) e ∙ ap (padded w) (doubtful-none n columns) ∙ padded-nil w)

@@ -7,8 +7,9 @@
 --   Keyed n far columns keys    the keys of all of them
 --   chosenWith far d key rank   a place with this key and so many ahead of it is not blank, and fewer than d are ahead
 --   chosenBy n far d keys q     the same of place q, by the keys
+--   chosenOf n far d keys  the places chosen, rising
 --   rank-ahead             of a place that is not blank, the keys below its own are counted by the places ahead
---   chosen-few             so the places chosen are the doubtful ones
+--   chosen-few, chosen-doubtful   so the places chosen are the doubtful ones
 use mathlib.Core.Bool.{Bool, true, false, _&&_}
 use mathlib.Core.Path.{_≡_, refl, sym, ap, ap₂, _∙_}
 use mathlib.Core.List.{List}
@@ -17,10 +18,11 @@ use native.Mathlib.Omega.{arith}
 use lib.Dec.{ltb}
 use lib.ListN.{getD}
 use borrow.Author.Tests.{lt-ltb, le-ltb}
+use Rattle.lists.specs.Count.{kept, kept-ext}
 use Rattle.lists.specs.Rank.{rankOf}
 use Rattle.soft.specs.Blank.{openAt}
 use Rattle.soft.specs.Column.{places, ceiling}
-use Rattle.soft.specs.Doubt.{aheadOf, fewAhead, gapAt}
+use Rattle.soft.specs.Doubt.{aheadOf, fewAhead, gapAt, smallest, doubtfulOf}
 use Rattle.soft.specs.DoubtLaws.{ahead-rank}
 use Rattle.soft.specs.Ranks.{rank-in}
 
@@ -43,6 +45,9 @@ chosenWith far d key rank = ltb key far && ltb rank d
 abbrev pub chosenBy : ℕ → ℕ → ℕ → List ℕ → ℕ → Bool
 chosenBy n far d keys q = chosenWith far d (entryOf keys q) (rankOf (entryOf keys) n q)
 
+unfoldable pub chosenOf : ℕ → ℕ → ℕ → List ℕ → List ℕ
+chosenOf n far d keys = kept n (chosenBy n far d keys)
+
 module _ {n far : ℕ} {columns : ℕ → List ℕ} {keys : List ℕ} (K : Keyed n far columns keys) where
   pub rank-ahead : (q : ℕ) → q < n → openAt columns q ≡ true → rankOf (entryOf keys) n q ≡ aheadOf n (openAt columns) (gapAt columns) q
   rank-ahead q l o =
@@ -60,3 +65,7 @@ module _ {n far : ℕ} {columns : ℕ → List ℕ} {keys : List ℕ} (K : Keyed
       go false e =
           ap (λ b. b && ltb (rankOf (entryOf keys) n q) d) (le-ltb (entryOf keys q) far (K .at q l .behind e))
           ∙ sym (ap (λ b. b && ltb (aheadOf n (openAt columns) (gapAt columns) q) d) e)
+
+  pub chosen-doubtful : (d : ℕ) → chosenOf n far d keys ≡ doubtfulOf n d columns
+  unfolding chosenOf smallest doubtfulOf
+  chosen-doubtful d = kept-ext n (chosenBy n far d keys) (fewAhead n d (openAt columns) (gapAt columns)) (chosen-few d)

@@ -12,7 +12,7 @@ ghost use lib.ListN.{set};
 ghost use Rattle.lists.specs.Rank.{rankOf};
 ghost use Rattle.soft.specs.Column.{places, symbols, columnOf};
 ghost use Rattle.soft.specs.Doubt.{doubtfulOf};
-ghost use Rattle.doubt.specs.Keys.{far, entryOf, KeyOf, Keyed, chosenWith};
+ghost use Rattle.doubt.specs.Keys.{far, entryOf, KeyOf, Keyed, chosenWith, chosenOf};
 ghost use Rattle.doubt.specs.Picked.{PickedOf};
 
 pub const MOST_DOUBT: usize = 8;
@@ -82,17 +82,10 @@ pub fn with_place(list: [u8; MOST_DOUBT], at: usize, place: u8, chosen: bool) ->
     out
 }
 
-// The doubtful places, rising; the most doubt allowed finds room for all. They are fewer than the doubt where too few places are not blank.
-pub fn doubtful(costs: &[u16], doubt: usize) -> Picked
-    ensures { λ r. ⌜ PickedOf (doubtfulOf places doubt (columnOf symbols (now (costs .entry)))) r ⌝ }
+// The places with fewer than so many ahead of them, rising; the most doubt allowed finds room for all.
+fn picked_by(keys: [u32; PLACES], doubt: usize) -> Picked
+    ensures { λ r. ⌜ PickedOf (chosenOf places far doubt keys) r ⌝ }
 {
-    if doubt == 0 {
-        return Picked {
-            places: [0u8; MOST_DOUBT],
-            count: 0,
-        };
-    }
-    let keys = keys_of(costs);
     let mut out = [0u8; MOST_DOUBT];
     let mut found = 0;
     for place in 0..PLACES {
@@ -106,4 +99,18 @@ pub fn doubtful(costs: &[u16], doubt: usize) -> Picked
         places: out,
         count: found,
     }
+}
+
+// The doubtful places. They are fewer than the doubt where too few places are not blank.
+pub fn doubtful(costs: &[u16], doubt: usize) -> Picked
+    ensures { λ r. ⌜ PickedOf (doubtfulOf places doubt (columnOf symbols (now (costs .entry)))) r ⌝ }
+{
+    if doubt == 0 {
+        return Picked {
+            places: [0u8; MOST_DOUBT],
+            count: 0,
+        };
+    }
+    let keys = keys_of(costs);
+    picked_by(keys, doubt)
 }
