@@ -1,5 +1,5 @@
-// The doubtful places of a table: of those that are not blank the ones of smallest gap, as it counts for choosing. It knows of no word and no
-// code.
+// The doubtful places of a table: of those that are not blank the ones of smallest gap, as it counts for choosing, so many as are asked for or as
+// a threshold takes in. It knows of no word and no code.
 use columns::bit::bit;
 use columns::blank::is_open;
 use columns::column::doubt_gap;
@@ -7,12 +7,13 @@ use columns::costs::PLACES;
 use columns::costs::column_of;
 ghost use mathlib.Core.Path.{_≡_};
 ghost use mathlib.Core.Bool.{cond};
-ghost use Prim.Native.Nat.{_<_};
+ghost use Prim.Native.Nat.{_<_, _≤_};
 ghost use lib.ListN.{set};
 ghost use Rattle.lists.specs.Rank.{rankOf};
 ghost use Rattle.soft.specs.Column.{places, symbols, columnOf};
 ghost use Rattle.soft.specs.Doubt.{doubtfulOf};
-ghost use Rattle.doubt.specs.Keys.{far, entryOf, KeyOf, Keyed, chosenWith, chosenOf};
+ghost use Rattle.soft.specs.Threshold.{closestOf, clampOf};
+ghost use Rattle.doubt.specs.Keys.{far, entryOf, KeyOf, Keyed, chosenWith, chosenOf, belowBy};
 ghost use Rattle.doubt.specs.Picked.{PickedOf};
 
 pub const MOST_DOUBT: usize = 8;
@@ -113,4 +114,38 @@ pub fn doubtful(costs: &[u16], doubt: usize) -> Picked
     }
     let keys = keys_of(costs);
     picked_by(keys, doubt)
+}
+
+// How many places have a gap below a limit. A key's quotient is the gap; that of a blank place is above all gaps.
+fn count_below(keys: [u32; PLACES], limit: u32) -> usize
+    ensures { λ r. ⌜ r ≡ belowBy places limit keys ⌝ }
+{
+    let mut n = 0u32;
+    for place in 0..PLACES {
+        n += bit(keys[place] / (PLACES as u32) < limit) as u32;
+    }
+    n as usize
+}
+
+// A number, but one at least and the most at most.
+fn clamp(count: usize, most: usize) -> usize
+    ensures { λ r. ⌜ r ≡ clampOf most count ⌝ }
+{
+    if most <= count {
+        return most;
+    }
+    if count == 0 {
+        return 1;
+    }
+    count
+}
+
+// The doubtful places by a threshold: the first of the order, and those behind it with a gap below the threshold, up to the most in all.
+pub fn doubtful_below(costs: &[u16], threshold: u16, most: usize) -> Picked
+    requires { ⌜ 1 ≤ most ⌝ }
+    ensures { λ r. ⌜ PickedOf (closestOf places threshold most (columnOf symbols (now (costs .entry)))) r ⌝ }
+{
+    let keys = keys_of(costs);
+    let below = count_below(keys, threshold as u32);
+    picked_by(keys, clamp(below, most))
 }
