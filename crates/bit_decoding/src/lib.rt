@@ -1,12 +1,11 @@
 // Decoding from bit values: table decoding's checks in their order, and then decoding by the columns that the frame makes and the doubtful places picked from them.
 // It makes no table of bytes, and answers as table decoding of it does.
+use checking::checks;
 use columns::bits::costs_from_bits;
 use decoding::decode;
 use doubt::MOST_DOUBT;
-use refusals::UNKNOWN_RATE;
+use refusals::ACCEPTED;
 use refusals::WRONG_DOUBT;
-use refusals::WRONG_SIZE;
-use totals::report::REPORT_BYTES;
 ghost use mathlib.Core.Path.{_≡_};
 ghost use Rattle.book.specs.Table.{closed};
 ghost use Rattle.book.specs.Here.{bitsOf};
@@ -23,17 +22,9 @@ pub fn decode_bits(
 ) -> u8
     ensures { λ r. ⌜ closed r (now (message .exit)) (now (report .exit)) ≡ bitsOf rate (now (frame .entry)) doubt (now (message .entry)) (now (report .entry)) ⌝ }
 {
-    if !encoding::known_rate(rate) {
-        return UNKNOWN_RATE;
-    }
-    if frame.len() != FRAME_BYTES {
-        return WRONG_SIZE;
-    }
-    if message.len() != rate {
-        return WRONG_SIZE;
-    }
-    if report.len() != REPORT_BYTES {
-        return WRONG_SIZE;
+    let checked = checks(rate, frame.len(), FRAME_BYTES, message.len(), report.len());
+    if checked != ACCEPTED {
+        return checked;
     }
     if MOST_DOUBT < doubt {
         return WRONG_DOUBT;

@@ -1,17 +1,16 @@
 // Table decoding: document 01's checks in their order, and then decoding by the table's columns and the doubtful places picked from them.
 // It knows of no session and of no codeword: what is near is `decoding`'s.
+use checking::checks;
 use decoding::decode;
 use doubt::MOST_DOUBT;
-use refusals::UNKNOWN_RATE;
+use refusals::ACCEPTED;
 use refusals::WRONG_DOUBT;
-use refusals::WRONG_SIZE;
-use totals::report::REPORT_BYTES;
 ghost use mathlib.Core.Path.{_≡_};
 ghost use Rattle.book.specs.Table.{closed};
 ghost use Rattle.book.specs.Here.{tableOf};
 
 // The two bytes of a cost for each symbol of each place.
-const TABLE_BYTES: usize = 2048;
+pub const TABLE_BYTES: usize = 2048;
 
 pub fn decode_table(
     rate: usize,
@@ -22,17 +21,9 @@ pub fn decode_table(
 ) -> u8
     ensures { λ r. ⌜ closed r (now (message .exit)) (now (report .exit)) ≡ tableOf rate (now (table .entry)) doubt (now (message .entry)) (now (report .entry)) ⌝ }
 {
-    if !encoding::known_rate(rate) {
-        return UNKNOWN_RATE;
-    }
-    if table.len() != TABLE_BYTES {
-        return WRONG_SIZE;
-    }
-    if message.len() != rate {
-        return WRONG_SIZE;
-    }
-    if report.len() != REPORT_BYTES {
-        return WRONG_SIZE;
+    let checked = checks(rate, table.len(), TABLE_BYTES, message.len(), report.len());
+    if checked != ACCEPTED {
+        return checked;
     }
     if MOST_DOUBT < doubt {
         return WRONG_DOUBT;
