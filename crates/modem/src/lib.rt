@@ -3,7 +3,7 @@ ghost use mathlib.Core.Path.{_≡_};
 ghost use Rattle.family.specs.Calls.{outcome};
 ghost use Rattle.code.specs.Calls.{encodeCall, readBackCall};
 ghost use Rattle.book.specs.Table.{closed};
-ghost use Rattle.book.specs.Here.{tableOf, bitsOf};
+ghost use Rattle.book.specs.Here.{tableOf, bitsOf, tableBelowOf};
 
 #[no_mangle]
 pub extern "C" fn hermitian_encode(
@@ -49,4 +49,18 @@ pub extern "C" fn hermitian_decode_bits(
     ensures { λ r. ⌜ closed r (now (message .exit)) (now (report .exit)) ≡ bitsOf rate (now (frame .entry)) doubt (now (message .entry)) (now (report .entry)) ⌝ }
 {
     bit_decoding::decode_bits(rate, frame, doubt, message, report)
+}
+
+#[no_mangle]
+pub extern "C" fn hermitian_decode_table_below(
+    rate: usize,
+    table: &[u8],
+    threshold: u16,
+    most: usize,
+    message: &mut [u8],
+    report: &mut [u8],
+) -> u8
+    ensures { λ r. ⌜ closed r (now (message .exit)) (now (report .exit)) ≡ tableBelowOf rate (now (table .entry)) threshold most (now (message .entry)) (now (report .entry)) ⌝ }
+{
+    threshold_decoding::decode_table_below(rate, table, threshold, most, message, report)
 }
