@@ -6,10 +6,11 @@
 use std::collections::BTreeMap;
 use std::fmt;
 
-use crate::bit_frames::{first_fault, BitCall, BitKind, Fault, BIT_KINDS, FAULT_SETS, SIZES};
+use crate::bit_frames::{BitCall, BitKind, BIT_KINDS, SIZES};
 use crate::bits::{columns_of_bits, BITS, FRAME_VALUES, MOST_COST, SENT};
 use crate::code::Code;
 use crate::decode::margin_of;
+use crate::faults::{first_fault, Fault, FAULT_SETS};
 use crate::frames::{blank_limit, RATES};
 use crate::soft::{blank_places, DOUBT_LIMIT};
 

@@ -4,13 +4,13 @@
 //!   at every position, the odd ones round the other kinds, the rates, the doubts and the numbers of
 //!   blank places.
 //! - [`BitKind`], [`BIT_KINDS`]: what a call is made to try.
-//! - [`Fault`], [`FAULTS`]: what may be wrong with a call, in the order of the checks.
 
 use crate::bits::{BITS, FRAME_VALUES, SENT};
 use crate::channel::Channel;
 use crate::code::Code;
 use crate::curve::PLACES;
 use crate::decode::{REPORT_BYTES, TABLE_BYTES};
+use crate::faults::{has, Fault, Faults, FAULT_SETS};
 use crate::frames::{blank_limit, random_codeword, some_places, DOUBTFUL_GAP, RATES};
 use crate::light::lightest;
 use crate::random::Random;
@@ -63,41 +63,6 @@ pub const BIT_KINDS: [BitKind; 8] = [
     BitKind::Refused,
 ];
 
-/// What may be wrong with a call.
-#[derive(Clone, Copy, Debug, PartialEq, Eq)]
-pub enum Fault {
-    Rate,
-    Values,
-    Message,
-    Report,
-    Doubt,
-    Blank,
-    Near,
-}
-
-/// The faults with their refusals, in the order of the checks.
-pub const FAULTS: [(Fault, u8); 7] = [
-    (Fault::Rate, 1),
-    (Fault::Values, 2),
-    (Fault::Message, 2),
-    (Fault::Report, 2),
-    (Fault::Doubt, 4),
-    (Fault::Blank, 12),
-    (Fault::Near, 9),
-];
-
-/// Any of the faults: number n of [`FAULTS`] is bit n.
-pub type Faults = u8;
-
-/// All sets of faults.
-pub const FAULT_SETS: usize = 1 << FAULTS.len();
-
-/// The refusal of the first fault, or 0.
-pub fn first_fault(faults: Faults) -> u8 {
-    let first = FAULTS.get(faults.trailing_zeros() as usize);
-    first.map_or(0, |(_, refusal)| *refusal)
-}
-
 /// What decoding from bit values is called with, and the sizes of its lent buffers.
 #[derive(Clone, Debug, PartialEq, Eq)]
 pub struct BitCall {
@@ -147,8 +112,7 @@ impl BitCall {
     }
 
     pub fn has(&self, fault: Fault) -> bool {
-        let number = FAULTS.iter().position(|(other, _)| *other == fault);
-        number.is_some_and(|number| self.faults >> number & 1 == 1)
+        has(self.faults, fault)
     }
 }
 
@@ -358,7 +322,7 @@ fn refused(round: usize, random: &mut Random) -> BitCall {
     if call.has(Fault::Rate) {
         call.rate = random.one_of(&[0, 38, 40, 48, 50, 255, rate + 256, u64::MAX]);
     }
-    if call.has(Fault::Values) {
+    if call.has(Fault::Given) {
         let size = SIZES[(set + turn_of_sets) % SIZES.len()];
         call.values.resize(size, 1);
     }
@@ -380,6 +344,7 @@ mod tests {
     use super::*;
     use crate::bits::{columns_of_bits, decode_bits};
     use crate::decode::margin_of;
+    use crate::faults::first_fault;
     use crate::refusal::number;
     use crate::soft::{best, blank_places, second};
 

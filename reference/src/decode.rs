@@ -5,13 +5,14 @@
 //! - [`near_codewords`]: all near codewords with their totals; [`decode`]: the one of least total.
 //! - [`decode_table`]: document 01's call, with its checks; [`decode_table_by`]: with doubtful places
 //!   chosen by any rule.
+//! - [`decode_table_below`]: with a threshold and a maximum; [`decode_table_below_by`]: by any rule.
 
 use crate::code::{check_size, Code};
 use crate::curve::PLACES;
 use crate::nearest::{Finder, Near};
 use crate::refusal::Refusal;
 use crate::row::Row;
-use crate::soft::{self, doubtful_places, Columns, COLUMN_BYTES, DOUBT_LIMIT};
+use crate::soft::{self, doubtful_below, doubtful_places, Columns, COLUMN_BYTES, DOUBT_LIMIT};
 
 /// "Table of 2,048 bytes, place 0 first."
 pub const TABLE_BYTES: usize = PLACES * COLUMN_BYTES;
@@ -144,24 +145,68 @@ pub fn decode_table_by(
     rate: u64,
     table: &[u8],
     doubt: u64,
+    lent: [&mut [u8]; 2],
+) -> Result<(), Refusal> {
+    checked(rate, table, lent, |columns| {
+        if doubt > DOUBT_LIMIT as u64 {
+            return Err(Refusal::Doubt);
+        }
+        Ok(choose(columns, doubt as usize))
+    })
+}
+
+/// Table decoding with a threshold and a maximum instead of a doubt. The checks are the same, in the
+/// same order; the maximum is refused as a doubt is, and 0 is refused too.
+pub fn decode_table_below(
+    rate: u64,
+    table: &[u8],
+    threshold: u16,
+    most: u64,
+    message: &mut [u8],
+    report: &mut [u8],
+) -> Result<(), Refusal> {
+    let limits = (threshold, most);
+    decode_table_below_by(doubtful_below, rate, table, limits, [message, report])
+}
+
+/// The same with the doubtful places that these columns have by a rule of threshold and maximum.
+pub fn decode_table_below_by(
+    choose: impl FnOnce(&Columns, u16, usize) -> Vec<u8>,
+    rate: u64,
+    table: &[u8],
+    (threshold, most): (u16, u64),
+    lent: [&mut [u8]; 2],
+) -> Result<(), Refusal> {
+    checked(rate, table, lent, |columns| {
+        if !(1..=DOUBT_LIMIT as u64).contains(&most) {
+            return Err(Refusal::Doubt);
+        }
+        Ok(choose(columns, threshold, most as usize))
+    })
+}
+
+/// The checks of rate and sizes; then the doubtful places, or that they cannot be chosen; then the
+/// answer, into the message buffer and the report that are lent.
+fn checked(
+    rate: u64,
+    table: &[u8],
     [message, report]: [&mut [u8]; 2],
+    choose: impl FnOnce(&Columns) -> Result<Vec<u8>, Refusal>,
 ) -> Result<(), Refusal> {
     let code = Code::of_rate(rate)?;
     check_size(table, TABLE_BYTES)?;
     check_size(message, code.symbols)?;
     check_size(report, REPORT_BYTES)?;
-    if doubt > DOUBT_LIMIT as u64 {
-        return Err(Refusal::Doubt);
-    }
     let columns = columns_of_table(table);
-    let doubtful = choose(&columns, doubt as usize);
+    let doubtful = choose(&columns)?;
     let answer = decode(Finder::of_rate(rate)?, &columns, &doubtful)?;
     message.copy_from_slice(&answer.message);
     report.copy_from_slice(&answer.report());
     Ok(())
 }
 
-fn columns_of_table(table: &[u8]) -> Columns {
+/// The columns of a table of 2,048 bytes.
+pub fn columns_of_table(table: &[u8]) -> Columns {
     let mut parts = table.chunks_exact(COLUMN_BYTES);
     std::array::from_fn(|_| soft::column_of_bytes(parts.next().expect("64 columns")))
 }
@@ -227,6 +272,54 @@ mod tests {
         assert_eq!(decoded(39, &columns, 0, 39), Err(Refusal::NoneNear));
         columns[14..].copy_from_slice(&frame_s(0)[14..]);
         assert_eq!(decoded(39, &columns, 0, 39), Ok(()));
+    }
+
+    /// A maximum of 0 or above the limit comes after the sizes and before blank places.
+    #[test]
+    fn thresholds_and_maxima_are_checked_in_order() {
+        let decoded = |rate, columns: &Columns, most, size: usize| {
+            let table = table_of_columns(columns);
+            let (mut message, mut report) = (vec![9; size], [9; REPORT_BYTES]);
+            let result = decode_table_below(rate, &table, 31, most, &mut message, &mut report);
+            assert!(result.is_ok() || message == vec![9; size] && report == [9; REPORT_BYTES]);
+            result
+        };
+        let mut columns = [[7; 16]; PLACES];
+        for most in [0, 9, 255, 256, 256 + 3, u64::MAX] {
+            assert_eq!(decoded(40, &columns, most, 40), Err(Refusal::Rate));
+            assert_eq!(decoded(39, &columns, most, 40), Err(Refusal::Size));
+            assert_eq!(decoded(39, &columns, most, 39), Err(Refusal::Doubt));
+        }
+        assert_eq!(decoded(39, &columns, 1, 39), Err(Refusal::TooBlank));
+        columns = frame_s(7);
+        for most in 1..=8 {
+            assert_eq!(decoded(39, &columns, most, 39), Ok(()));
+        }
+        columns[1] = columns[10];
+        assert_eq!(decoded(39, &columns, 1, 39), Err(Refusal::NoneNear));
+        assert_eq!(decoded(39, &columns, 2, 39), Ok(()));
+    }
+
+    /// The bench sheet's S(7): seven places have gap 30. A maximum of 2 is R4.
+    #[test]
+    fn the_threshold_stands_beside_the_doubt() {
+        let table = table_of_columns(&frame_s(7));
+        let decoded = |threshold, most| {
+            let (mut message, mut report) = (vec![9; 39], [9; REPORT_BYTES]);
+            let result = decode_table_below(39, &table, threshold, most, &mut message, &mut report);
+            (result, message, report)
+        };
+        let by_doubt = |doubt| {
+            let (mut message, mut report) = (vec![9; 39], [9; REPORT_BYTES]);
+            let result = decode_table(39, &table, doubt, &mut message, &mut report);
+            (result, message, report)
+        };
+        assert_eq!(decoded(31, 2).2[4..6], [0, 3]);
+        for most in 1..=8 {
+            assert_eq!(decoded(30, most), by_doubt(1));
+            assert_eq!(decoded(31, most), by_doubt(most.min(7)));
+            assert_eq!(decoded(41, most), by_doubt(most));
+        }
     }
 
     /// Zero is a margin, and not the same as none.

@@ -8,6 +8,8 @@
 //! - each test word is decoded by itself, with an error locator and checks from which blank places
 //!   are eliminated ([`nearest`]); answer and margin are the first two totals of all codewords found
 //!   ([`decode`]);
+//! - doubtful places by threshold and maximum are taken from the front of the places sorted by gap, one
+//!   after the other ([`soft`]);
 //! - a column from bit values is what is left of their magnitudes where signs agree, from a table of
 //!   the sixteen symbols' bits ([`bits`]);
 //! - a session keeps the row of the book, as its places arrived, and computes each answer from it; a
@@ -35,15 +37,17 @@
 //!
 //! [`frames`] makes frames of thirteen kinds from a seed, each with every number of blank places,
 //! [`pairs`] those between codewords at least distance, [`damage`] captures with faults, [`arrivals`]
-//! five sorts of order in which places arrive, [`bit_frames`] bit values. The binary `compare` runs
-//! them in two ways. It counts the frames with blank places and with a margin, the tables in which a
-//! pinned second is not chosen as doubtful, the captures written after each sort of order, the
-//! withdrawals of each sort and the sorts of bit values, and fails where they are too few to try it
-//! ([`blanks`], [`margins`], [`choices`], [`written`], [`withdrawals`], [`bit_counts`]).
+//! five sorts of order in which places arrive, [`below_frames`] thresholds and maxima, [`bit_frames`]
+//! bit values. The binary `compare` runs them in two ways. It counts the frames with blank places and
+//! with a margin, the tables in which a pinned second is not chosen as doubtful, the captures written
+//! after each sort of order, the withdrawals of each sort, the sorts of thresholds, with what wrong
+//! rules would lead to ([`slips`]), and those of bit values, and fails where they are too few to try it
+//! ([`blanks`], [`margins`], [`choices`], [`written`], [`withdrawals`], [`below_counts`],
+//! [`bit_counts`]).
 //!
 //! Calls that cross as numbers and byte slices are linked: with the feature `proved`, and with
-//! `MODEM_LIB_DIR` naming the folder of `libmodem.a`, `compare code`, `compare tables` and `compare
-//! bits` run the trials of [`trials`] on both libraries.
+//! `MODEM_LIB_DIR` naming the folder of `libmodem.a`, `compare code`, `compare tables`, `compare below`
+//! and `compare bits` run the trials of [`trials`] on both libraries.
 //!
 //! Sessions and captures are compared by stream: a program reads calls on its standard input and
 //! writes answers on its standard output, laid out as in [`calls`]; `compare run` starts it on the
@@ -63,6 +67,8 @@
 //! [`channel`] and draws curves ([`plot`]).
 
 pub mod arrivals;
+pub mod below_counts;
+pub mod below_frames;
 pub mod bit_counts;
 pub mod bit_frames;
 pub mod bits;
@@ -76,6 +82,7 @@ pub mod code;
 pub mod curve;
 pub mod damage;
 pub mod decode;
+pub mod faults;
 pub mod field;
 pub mod frames;
 pub mod least;
@@ -93,6 +100,7 @@ pub mod refusal;
 pub mod row;
 pub mod session;
 pub mod show;
+pub mod slips;
 pub mod soft;
 pub mod streams;
 pub mod trials;

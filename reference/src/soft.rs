@@ -4,7 +4,8 @@
 //! - [`best`], [`second`], [`gap`]: what a column says by itself; [`counted_gap`]: the gap as it
 //!   counts for choosing.
 //! - [`is_blank`], [`blank_places`]: columns that say nothing.
-//! - [`doubtful_places`]: the places that table decoding doubles; [`smallest`]: by any gap.
+//! - [`doubtful_places`]: the places that table decoding doubles; [`smallest`]: by any gap;
+//!   [`doubtful_below`]: by threshold and maximum.
 //! - [`total`], [`pinned`], [`changed`]: what a codeword costs, and the counts of the report.
 
 use crate::curve::PLACES;
@@ -96,12 +97,34 @@ pub fn doubtful_places(columns: &Columns, doubt: usize) -> Vec<u8> {
 
 /// The places that are not blank with the smallest gaps, however these are counted.
 pub fn smallest<G: Ord>(columns: &Columns, doubt: usize, gap: fn(&Column) -> G) -> Vec<u8> {
-    let unblanked = |place: &u8| !is_blank(&columns[usize::from(*place)]);
-    let mut places: Vec<u8> = (0..PLACES as u8).filter(unblanked).collect();
-    places.sort_by_key(|place| (gap(&columns[usize::from(*place)]), *place));
+    let mut places = by_gap(columns, gap);
     places.truncate(doubt);
     places.sort_unstable();
     places
+}
+
+/// The places that are not blank by rising gap, however gaps are counted, and equal gaps by place.
+pub fn by_gap<G: Ord>(columns: &Columns, gap: fn(&Column) -> G) -> Vec<u8> {
+    let unblanked = |place: &u8| !is_blank(&columns[usize::from(*place)]);
+    let mut places: Vec<u8> = (0..PLACES as u8).filter(unblanked).collect();
+    places.sort_by_key(|place| (gap(&columns[usize::from(*place)]), *place));
+    places
+}
+
+/// The doubtful places by threshold and maximum: from the front of the order by gap the first, and each
+/// next one as long as its gap is smaller than the threshold and there is room. Blank places are not
+/// chosen, and a pinned second counts as the largest gap. The list rises; the maximum is 1 at least.
+pub fn doubtful_below(columns: &Columns, threshold: u16, most: usize) -> Vec<u8> {
+    let mut places = by_gap(columns, counted_gap).into_iter();
+    let mut chosen: Vec<u8> = places.next().into_iter().collect();
+    for place in places {
+        if chosen.len() >= most || counted_gap(&columns[usize::from(place)]) >= threshold {
+            break;
+        }
+        chosen.push(place);
+    }
+    chosen.sort_unstable();
+    chosen
 }
 
 /// A word's costs by place.
@@ -214,6 +237,99 @@ mod tests {
         columns[60] = [CEILING - 1; SYMBOLS];
         columns[60][0] = 0;
         assert_eq!(doubtful_places(&columns, 2), [5, 60]);
+    }
+
+    /// Columns with these gaps at these places, and gap 9,000 at the others.
+    fn with_gaps(gaps: &[(usize, u16)]) -> Columns {
+        let mut columns = [[10_000; SYMBOLS]; PLACES];
+        for column in &mut columns {
+            column[3] = 1_000;
+        }
+        for (place, gap) in gaps {
+            columns[*place][3] = 10_000 - gap;
+        }
+        columns
+    }
+
+    #[test]
+    fn the_place_of_smallest_gap_is_chosen_whatever_the_threshold() {
+        let columns = with_gaps(&[(40, 7), (41, 7), (50, 8)]);
+        for threshold in [0, 1, 6, 7] {
+            for most in 1..=8 {
+                assert_eq!(doubtful_below(&columns, threshold, most), [40]);
+            }
+        }
+        assert_eq!(doubtful_below(&columns, 8, 1), [40]);
+        assert_eq!(doubtful_below(&columns, CEILING, 1), [40]);
+    }
+
+    /// A gap that is equal to the threshold is not below it.
+    #[test]
+    fn places_below_the_threshold_are_chosen() {
+        let columns = with_gaps(&[(60, 3), (20, 7), (41, 7), (50, 8), (10, 9)]);
+        for (threshold, places) in [
+            (0, vec![60]),
+            (7, vec![60]),
+            (8, vec![20, 41, 60]),
+            (9, vec![20, 41, 50, 60]),
+            (10, vec![10, 20, 41, 50, 60]),
+            (9_000, vec![10, 20, 41, 50, 60]),
+            (9_001, vec![0, 1, 2, 10, 20, 41, 50, 60]),
+            (CEILING, vec![0, 1, 2, 10, 20, 41, 50, 60]),
+        ] {
+            assert_eq!(doubtful_below(&columns, threshold, 8), places);
+        }
+    }
+
+    /// The first counts to the maximum, and equal gaps go by the place.
+    #[test]
+    fn the_maximum_ends_the_list() {
+        let columns = with_gaps(&[(60, 3), (20, 7), (41, 7), (50, 8), (10, 9)]);
+        for (most, places) in [
+            (1, vec![60]),
+            (2, vec![20, 60]),
+            (3, vec![20, 41, 60]),
+            (4, vec![20, 41, 50, 60]),
+            (5, vec![10, 20, 41, 50, 60]),
+            (6, vec![10, 20, 41, 50, 60]),
+        ] {
+            assert_eq!(doubtful_below(&columns, 10, most), places);
+        }
+        for most in 1..=8 {
+            let all = doubtful_places(&columns, most);
+            assert_eq!(doubtful_below(&columns, 9_001, most), all);
+        }
+    }
+
+    /// A pinned second has gap 65535, which no threshold exceeds.
+    #[test]
+    fn pinned_seconds_are_below_no_threshold() {
+        let mut columns = pinned_at_30(CEILING - 1);
+        for column in &mut columns[..28] {
+            *column = [CEILING; SYMBOLS];
+        }
+        for column in &mut columns[34..] {
+            *column = [CEILING; SYMBOLS];
+        }
+        assert_eq!(doubtful_below(&columns, CEILING, 8), [28, 29, 31, 32, 33]);
+        for place in [28, 29, 31, 32, 33] {
+            columns[place] = columns[30];
+        }
+        assert_eq!(doubtful_below(&columns, CEILING, 8), [28]);
+        assert_eq!(doubtful_below(&columns, 0, 8), [28]);
+    }
+
+    #[test]
+    fn blank_places_are_below_no_threshold() {
+        let mut columns = [[9; SYMBOLS]; PLACES];
+        assert_eq!(doubtful_below(&columns, CEILING, 8), []);
+        columns[17][4] = 0;
+        assert_eq!(doubtful_below(&columns, 0, 8), [17]);
+        columns[5][4] = 0;
+        columns[63][4] = 1;
+        assert_eq!(doubtful_below(&columns, 8, 8), [63]);
+        assert_eq!(doubtful_below(&columns, 10, 8), [5, 17, 63]);
+        assert_eq!(doubtful_below(&columns, 10, 2), [5, 63]);
     }
 
     #[test]

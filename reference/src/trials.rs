@@ -1,23 +1,26 @@
-//! The four calls of the firmware, and random trials that compare two libraries on them.
+//! The five calls of the firmware, and random trials that compare two libraries on them.
 //!
-//! - [`Coding`]: encoding and reading back; [`DecodeTable`], [`DecodeBits`]: decoding a table, and from
-//!   bit values; each returns the refusal or 0. [`REFERENCE`], [`REFERENCE_TABLE`] and
-//!   [`REFERENCE_BITS`] are this package's.
-//! - [`encode_trial`], [`read_back_trial`], [`table_trial`], [`bits_trial`]: one numbered call, right
-//!   or damaged, on a library; the [`Outcome`] is its number and every byte of its buffers.
+//! - [`Coding`]: encoding and reading back; [`DecodeTable`], [`DecodeBelow`], [`DecodeBits`]: decoding
+//!   a table by doubt, by threshold and maximum, and from bit values; each returns the refusal or 0.
+//!   [`REFERENCE`], [`REFERENCE_TABLE`], [`REFERENCE_BELOW`] and [`REFERENCE_BITS`] are this package's.
+//! - [`encode_trial`], [`read_back_trial`], [`table_trial`], [`below_trial`], [`bits_trial`]: one
+//!   numbered call, right or damaged, on a library; the [`Outcome`] is its number and every byte of its
+//!   buffers.
 //! - [`compare`]: many trials on two libraries; the [`Tally`] of numbers, margins, blank places,
-//!   doubtful ones and sorts of bit values, or a [`Difference`].
+//!   doubtful ones and sorts of thresholds and of bit values, or a [`Difference`].
 
 use std::sync::atomic::{AtomicBool, Ordering};
 use std::thread;
 
+use crate::below_counts::BelowCounts;
+use crate::below_frames::BelowCall;
 use crate::bit_counts::BitCounts;
 use crate::bit_frames::BitCall;
 use crate::bits::decode_bits;
 use crate::blanks::{Blanks, Faded};
 use crate::choices::{Choice, Choices};
 use crate::code::{encode, read_back, Code};
-use crate::decode::{decode_table, margin_of, table_of_columns, REPORT_BYTES};
+use crate::decode::{decode_table, decode_table_below, margin_of, table_of_columns, REPORT_BYTES};
 use crate::frames::{random_codeword, Frame, Kind, RATES};
 use crate::margins::Margins;
 use crate::random::Random;
@@ -34,6 +37,10 @@ pub struct Coding {
 /// Table decoding, as the firmware calls it: rate, table, doubt, message, report.
 pub type DecodeTable = fn(u64, &[u8], u64, &mut [u8], &mut [u8]) -> u8;
 
+/// Table decoding with a threshold, as the firmware calls it: rate, table, threshold, maximum,
+/// message, report.
+pub type DecodeBelow = fn(u64, &[u8], u16, u64, &mut [u8], &mut [u8]) -> u8;
+
 /// Decoding from bit values, as the firmware calls it: rate, values, doubt, message, report.
 pub type DecodeBits = fn(u64, &[i8], u64, &mut [u8], &mut [u8]) -> u8;
 
@@ -48,13 +55,20 @@ pub const REFERENCE_TABLE: DecodeTable = |rate, table, doubt, message, report| {
     number(&decode_table(rate, table, doubt, message, report))
 };
 
+/// This package's table decoding with a threshold.
+pub const REFERENCE_BELOW: DecodeBelow = |rate, table, threshold, most, message, report| {
+    number(&decode_table_below(
+        rate, table, threshold, most, message, report,
+    ))
+};
+
 /// This package's decoding from bit values.
 pub const REFERENCE_BITS: DecodeBits = |rate, values, doubt, message, report| {
     number(&decode_bits(rate, values, doubt, message, report))
 };
 
 /// What a call returned, and every byte of its lent buffers afterwards.
-#[derive(Clone, Debug, PartialEq, Eq)]
+#[derive(Clone, Debug, Default, PartialEq, Eq)]
 pub struct Outcome {
     pub number: u8,
     pub buffer: Vec<u8>,
@@ -64,6 +78,8 @@ pub struct Outcome {
     pub faded: Option<Faded>,
     /// What its pinned seconds make of the doubtful places, where the table was decoded.
     pub choice: Option<Choice>,
+    /// The call, where it decodes a table with a threshold.
+    pub below: Option<BelowCall>,
     /// The call, where it decodes from bit values.
     pub bits: Option<BitCall>,
 }
@@ -82,13 +98,14 @@ pub struct Difference {
 pub type Trial<L> = fn(&L, u64, u64) -> Outcome;
 
 /// How often each number was returned, the margins of the reports, the blank and the doubtful places
-/// of the tables and the sorts of bit values.
+/// of the tables and the sorts of thresholds and of bit values.
 #[derive(Clone, Debug, Default)]
 pub struct Tally {
     pub numbers: [u64; NUMBERS],
     pub margins: Margins,
     pub blanks: Blanks,
     pub choices: Choices,
+    pub below: BelowCounts,
     pub bits: BitCounts,
 }
 
@@ -106,8 +123,11 @@ impl Tally {
         if let Some(choice) = &outcome.choice {
             self.choices.count(choice);
         }
+        let message = &outcome.buffer;
+        if let (Some(call), Some(report)) = (&outcome.below, &outcome.report) {
+            self.below.count(call, outcome.number, message, report);
+        }
         if let (Some(call), Some(report)) = (&outcome.bits, &outcome.report) {
-            let message = &outcome.buffer;
             self.bits.count(call, outcome.number, message, report);
         }
     }
@@ -119,6 +139,7 @@ impl Tally {
         self.margins.add(other.margins);
         self.blanks.add(other.blanks);
         self.choices.add(other.choices);
+        self.below.add(other.below);
         self.bits.add(other.bits);
     }
 }
@@ -146,10 +167,7 @@ pub fn encode_trial(library: &Coding, seed: u64, number: u64) -> Outcome {
     Outcome {
         number,
         buffer: frame,
-        report: None,
-        faded: None,
-        choice: None,
-        bits: None,
+        ..Outcome::default()
     }
 }
 
@@ -171,10 +189,7 @@ pub fn read_back_trial(library: &Coding, seed: u64, number: u64) -> Outcome {
     Outcome {
         number,
         buffer: message,
-        report: None,
-        faded: None,
-        choice: None,
-        bits: None,
+        ..Outcome::default()
     }
 }
 
@@ -202,7 +217,33 @@ pub fn table_trial(decode_table: &DecodeTable, seed: u64, number: u64) -> Outcom
         report: Some(report),
         faded: Some(faded),
         choice: decoded.then(|| Choice::of(rate, &frame.columns, doubt as usize)),
-        bits: None,
+        ..Outcome::default()
+    }
+}
+
+/// Table decoding with a threshold, of one of the numbered calls.
+pub fn below_trial<D>(decode_below: &D, seed: u64, number: u64) -> Outcome
+where
+    D: Fn(u64, &[u8], u16, u64, &mut [u8], &mut [u8]) -> u8,
+{
+    let call = BelowCall::numbered(seed, number);
+    let mut random = Random::new(!seed, number);
+    let mut message = bytes(call.message, &mut random);
+    let mut report = bytes(call.report, &mut random);
+    let number = decode_below(
+        call.rate,
+        &call.table,
+        call.threshold,
+        call.most,
+        &mut message,
+        &mut report,
+    );
+    Outcome {
+        number,
+        buffer: message,
+        report: Some(report),
+        below: Some(call),
+        ..Outcome::default()
     }
 }
 
@@ -226,9 +267,8 @@ where
         number,
         buffer: message,
         report: Some(report),
-        faded: None,
-        choice: None,
         bits: Some(call),
+        ..Outcome::default()
     }
 }
 
@@ -315,13 +355,15 @@ pub fn compare<L: Sync>(
 #[cfg(test)]
 mod tests {
     use super::*;
+    use crate::below_frames::BelowKind;
     use crate::bit_frames::BitKind;
     use crate::bits::{column_of_bits, BITS, FRAME_VALUES};
     use crate::blanks::OF_TABLES;
-    use crate::decode::decode_table_by;
+    use crate::decode::{decode_table_below_by, decode_table_by, TABLE_BYTES};
+    use crate::slips::SLIPS;
     use crate::soft::{
-        best, column_bytes, column_of_bytes, counted_gap, doubtful_places, gap, is_blank,
-        is_second_pinned, smallest, Column, Columns, CEILING, COLUMN_BYTES,
+        best, column_bytes, column_of_bytes, counted_gap, doubtful_below, doubtful_places, gap,
+        is_blank, is_second_pinned, smallest, Column, Columns, CEILING, COLUMN_BYTES,
     };
 
     /// The numbers that come often when a library is compared with itself.
@@ -633,6 +675,51 @@ mod tests {
     }
 
     #[test]
+    fn trials_have_every_sort_of_thresholds() {
+        let both = [&REFERENCE_BELOW, &REFERENCE_BELOW];
+        let tally = compare(below_trial, both, 69, 3000).unwrap();
+        assert_eq!(tally.below.check(), Ok(()));
+        let often = (0..NUMBERS).filter(|number| tally.numbers[*number] >= 10);
+        assert_eq!(often.collect::<Vec<usize>>(), [0, 1, 2, 4, 9, 12]);
+        let both = [&REFERENCE, &REFERENCE];
+        let tally = compare(encode_trial, both, 69, 40).unwrap();
+        assert_eq!(tally.below, BelowCounts::default());
+    }
+
+    /// Decoding with doubtful places chosen by this rule.
+    fn deciding(
+        choose: impl Fn(&Columns, u16, usize) -> Vec<u8>,
+    ) -> impl Fn(u64, &[u8], u16, u64, &mut [u8], &mut [u8]) -> u8 {
+        move |rate, table, threshold, most, message, report| {
+            let lent = [message, report];
+            let limits = (threshold, most);
+            number(&decode_table_below_by(&choose, rate, table, limits, lent))
+        }
+    }
+
+    /// Table decoding by each of the wrong rules.
+    #[test]
+    fn wrong_choices_by_threshold_are_found() {
+        let right = deciding(doubtful_below);
+        assert!(compare(below_trial, [&right, &deciding(doubtful_below)], 70, 100).is_ok());
+        for (slip, _) in SLIPS {
+            let wrong =
+                deciding(move |columns, threshold, most| slip.places(columns, threshold, most));
+            assert!(differs((&right, &wrong), 70, 600), "{slip:?}");
+        }
+    }
+
+    /// Whether two libraries differ in one of so many calls.
+    fn differs<A, B>((right, wrong): (&A, &B), seed: u64, count: u64) -> bool
+    where
+        A: Fn(u64, &[u8], u16, u64, &mut [u8], &mut [u8]) -> u8,
+        B: Fn(u64, &[u8], u16, u64, &mut [u8], &mut [u8]) -> u8,
+    {
+        (0..count)
+            .any(|number| below_trial(right, seed, number) != below_trial(wrong, seed, number))
+    }
+
+    #[test]
     fn trials_have_every_sort_of_bit_values() {
         let both = [&REFERENCE_BITS, &REFERENCE_BITS];
         let tally = compare(bits_trial, both, 66, 8192).unwrap();
@@ -819,6 +906,85 @@ mod tests {
         };
         for (name, library) in faults {
             let compared = compare(refused, [&REFERENCE_BITS, &library], 68, 512);
+            assert!(compared.is_err(), "{name}");
+        }
+    }
+
+    /// Decoding with a threshold with one fault each in its checks, on the calls that try these.
+    #[test]
+    fn wrong_checks_of_thresholds_are_found() {
+        let faults: [(&str, DecodeBelow); 8] = [
+            (
+                "a maximum of 0",
+                |rate, table, threshold, most, message, report| {
+                    REFERENCE_BELOW(rate, table, threshold, most.max(1), message, report)
+                },
+            ),
+            (
+                "a maximum of 9",
+                |rate, table, threshold, most, message, report| {
+                    let most = if most == 9 { 8 } else { most };
+                    REFERENCE_BELOW(rate, table, threshold, most, message, report)
+                },
+            ),
+            (
+                "a maximum of one byte",
+                |rate, table, threshold, most, message, report| {
+                    REFERENCE_BELOW(rate, table, threshold, most & 255, message, report)
+                },
+            ),
+            (
+                "the size before the rate",
+                |rate, table, threshold, most, message, report| match table.len() {
+                    TABLE_BYTES => REFERENCE_BELOW(rate, table, threshold, most, message, report),
+                    _ => 2,
+                },
+            ),
+            (
+                "the maximum before the size",
+                |rate, table, threshold, most, message, report| match (rate, most) {
+                    (39 | 49, 0 | 9..) => 4,
+                    _ => REFERENCE_BELOW(rate, table, threshold, most, message, report),
+                },
+            ),
+            (
+                "blank places before the maximum",
+                |rate, table, threshold, most, message, report| {
+                    let number = REFERENCE_BELOW(rate, table, threshold, most, message, report);
+                    match (number, beyond_limit(rate, table)) {
+                        (4, 1..) => 12,
+                        _ => number,
+                    }
+                },
+            ),
+            (
+                "nearness before blank places",
+                |rate, table, threshold, most, message, report| match REFERENCE_BELOW(
+                    rate, table, threshold, most, message, report,
+                ) {
+                    12 => 9,
+                    number => number,
+                },
+            ),
+            (
+                "a refusal that writes",
+                |rate, table, threshold, most, message, report| {
+                    let number = REFERENCE_BELOW(rate, table, threshold, most, message, report);
+                    if number == 4 {
+                        report.fill(0);
+                    }
+                    number
+                },
+            ),
+        ];
+        let refused: Trial<DecodeBelow> = |library, seed, number| {
+            let outcome = below_trial(library, seed, 10 * number + 9);
+            let kind = outcome.below.as_ref().map(|call| call.kind);
+            assert_eq!(kind, Some(BelowKind::Refused));
+            outcome
+        };
+        for (name, library) in faults {
+            let compared = compare(refused, [&REFERENCE_BELOW, &library], 71, 512);
             assert!(compared.is_err(), "{name}");
         }
     }
