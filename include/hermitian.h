@@ -1,6 +1,6 @@
-/* What the modem's firmware calls: encoding, reading back, table decoding and decoding from
- * bit values for the Hermitian code y^4 + y = x^5 over GF(16), 64 places. Link libmodem.a
- * (rt staticlib modem).
+/* What the modem's firmware calls: encoding, reading back, table decoding by doubt or by
+ * threshold and decoding from bit values for the Hermitian code y^4 + y = x^5 over GF(16), 64
+ * places. Link libmodem.a (rt staticlib modem).
  *
  * A call returns 0, or the number of its refusal. A refused call leaves every buffer as
  * it was. The library keeps no state, allocates nothing and calls nothing back: any two
@@ -52,7 +52,7 @@ enum hermitian_refusal {
     HERMITIAN_UNKNOWN_RATE = 1, /* the rate is not 39 or 49 */
     HERMITIAN_WRONG_SIZE = 2,   /* a buffer of the wrong size, or no 64 bytes from the start */
     HERMITIAN_NO_SYMBOL = 3,    /* a symbol above 15 */
-    HERMITIAN_WRONG_DOUBT = 4,  /* a doubt above 8 */
+    HERMITIAN_WRONG_DOUBT = 4,  /* a doubt above 8, or a maximum of 0 or above 8 */
     HERMITIAN_NO_CODEWORD = 8,  /* the word is not a codeword */
     HERMITIAN_NONE_NEAR = 9,    /* no codeword is near */
     HERMITIAN_TOO_BLANK = 12    /* more than 13 blank places at rate 39, more than 3 at rate 49 */
@@ -87,6 +87,19 @@ uint8_t hermitian_decode_table(size_t rate,
                                size_t doubt,
                                uint8_t *message, size_t message_length,
                                uint8_t *report, size_t report_length);
+
+/* Decodes a table of costs with as many doubtful places as its gaps ask for: those whose gap is
+ * smaller than the threshold, but one place at least, and no more than most, which is 1 to 8.
+ * They are taken as hermitian_decode_table takes them: by the smallest gap, with gaps counted
+ * as there, equal gaps by the lower place, and no blank place. So the answer is that of
+ * hermitian_decode_table with a doubt of so many. Every threshold of 16 bits is taken.
+ * Checks, in this order: rate; table of 2048, message buffer of k and report of 13 bytes; most;
+ * blank places; nearness. Refusals: 1, 2, 4, 12, 9. */
+uint8_t hermitian_decode_table_below(size_t rate,
+                                     const uint8_t *table, size_t table_length,
+                                     uint16_t threshold, size_t most,
+                                     uint8_t *message, size_t message_length,
+                                     uint8_t *report, size_t report_length);
 
 /* Decodes bit values as hermitian_decode_table does the table that they make: a symbol costs
  * the sum of the magnitudes of those of its four values whose favoured bit it does not have.

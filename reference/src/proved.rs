@@ -1,9 +1,10 @@
 //! The proved library's calls, from `libmodem.a`, declared as in `include/hermitian.h`.
 //!
 //! - [`PROVED`]: encoding and reading back.
-//! - [`PROVED_TABLE`]: table decoding; [`PROVED_BITS`]: decoding from bit values.
+//! - [`PROVED_TABLE`]: table decoding; [`PROVED_BELOW`]: with a threshold; [`PROVED_BITS`]: decoding
+//!   from bit values.
 
-use crate::trials::{Coding, DecodeBits, DecodeTable};
+use crate::trials::{Coding, DecodeBelow, DecodeBits, DecodeTable};
 
 extern "C" {
     fn hermitian_encode(
@@ -28,6 +29,18 @@ extern "C" {
         table: *const u8,
         table_length: usize,
         doubt: usize,
+        message: *mut u8,
+        message_length: usize,
+        report: *mut u8,
+        report_length: usize,
+    ) -> u8;
+
+    fn hermitian_decode_table_below(
+        rate: usize,
+        table: *const u8,
+        table_length: usize,
+        threshold: u16,
+        most: usize,
         message: *mut u8,
         message_length: usize,
         report: *mut u8,
@@ -73,6 +86,21 @@ pub const PROVED_TABLE: DecodeTable = |rate, table, doubt, message, report| unsa
         table.as_ptr(),
         table.len(),
         doubt as usize,
+        message.as_mut_ptr(),
+        message.len(),
+        report.as_mut_ptr(),
+        report.len(),
+    )
+};
+
+/// The proved library's table decoding with a threshold.
+pub const PROVED_BELOW: DecodeBelow = |rate, table, threshold, most, message, report| unsafe {
+    hermitian_decode_table_below(
+        rate as usize,
+        table.as_ptr(),
+        table.len(),
+        threshold,
+        most as usize,
         message.as_mut_ptr(),
         message.len(),
         report.as_mut_ptr(),

@@ -26,6 +26,7 @@ compare shows SEED COUNT PROGRAM ..         run a program on COUNT captures and 
 compare time COUNT                          decode COUNT frames of each sort and time them
 compare code SEED COUNT                     the proved encoding and reading back (feature proved)
 compare tables SEED COUNT                   the proved table decoding (feature proved)
+compare below SEED COUNT                    the proved table decoding with a threshold (feature proved)
 compare bits SEED COUNT                     the proved decoding from bit values (feature proved)
 LETTERS are those of the calls wanted, of OCDRWXLU.
 The count of frames with a margin is printed; fewer than one in six are a failure.
@@ -40,6 +41,9 @@ capture that comes back unchanged and is not in place order, or the other way ro
 The counts of withdrawals are printed, by the place's sort or the refusal, and those of deliveries,
 readings, closings and writings after them; fewer than one a frame are a failure, or than one in six
 frames where the place is doubtful or blank.
+The counts of each sort of thresholds are printed: of each maximum the ranks of a place that decides
+the answer, with a gap one below the threshold, at it and one above, and the wrong rules that would
+lead elsewhere; one that is missing is a failure.
 The counts of each sort of bit values are printed; one that is missing is a failure. 8,192 frames go
 round every value at every position.";
 
@@ -99,6 +103,8 @@ fn run(arguments: &[String]) -> Result<(), String> {
         ["code", seed, count] => proved::code(number(seed)?, number(count)?),
         #[cfg(feature = "proved")]
         ["tables", seed, count] => proved::tables(number(seed)?, number(count)?),
+        #[cfg(feature = "proved")]
+        ["below", seed, count] => proved::below(number(seed)?, number(count)?),
         #[cfg(feature = "proved")]
         ["bits", seed, count] => proved::bits(number(seed)?, number(count)?),
         _ => Err(USAGE.to_string()),
@@ -173,10 +179,10 @@ fn time(count: u64) -> Result<(), String> {
 #[cfg(feature = "proved")]
 mod proved {
     use reference::blanks::OF_TABLES;
-    use reference::proved::{PROVED, PROVED_BITS, PROVED_TABLE};
+    use reference::proved::{PROVED, PROVED_BELOW, PROVED_BITS, PROVED_TABLE};
     use reference::trials::{
-        bits_trial, compare, encode_trial, read_back_trial, table_trial, Difference, Tally, Trial,
-        REFERENCE, REFERENCE_BITS, REFERENCE_TABLE,
+        below_trial, bits_trial, compare, encode_trial, read_back_trial, table_trial, Difference,
+        Tally, Trial, REFERENCE, REFERENCE_BELOW, REFERENCE_BITS, REFERENCE_TABLE,
     };
 
     pub fn code(seed: u64, count: u64) -> Result<(), String> {
@@ -199,6 +205,13 @@ mod proved {
         blanks.check(count, &OF_TABLES)?;
         choices.check(count)?;
         margins.check(count)
+    }
+
+    pub fn below(seed: u64, count: u64) -> Result<(), String> {
+        let both = [&REFERENCE_BELOW, &PROVED_BELOW];
+        let Tally { below, .. } = report("decode table below", below_trial, both, seed, count)?;
+        super::output(format!("decode table below: {below}\n").as_bytes())?;
+        below.check()
     }
 
     pub fn bits(seed: u64, count: u64) -> Result<(), String> {
