@@ -3,6 +3,7 @@
 //! - [`Channel`], [`Channel::at`]: the noise of a rate at an Eb/N0.
 //! - [`Channel::values`]: what is received of one symbol.
 //! - [`LOST`], [`LOST_AS_ZERO`]: what a fade leaves of a symbol, and how document 01 takes it.
+//! - [`Channel::threshold`]: the gaps that stand for a ratio of likelihoods.
 //! - [`Channel::beyond`]: how likely more than T symbols are wrong, computed.
 
 use crate::bits::{BITS, SENT};
@@ -47,6 +48,14 @@ impl Channel {
             let received = f64::from(bit) + self.deviation * normal(random);
             (STEPS * received).round().clamp(-128.0, 127.0) as i8
         })
+    }
+
+    /// The threshold for a ratio of the second likelihood to the best: a gap is below it where the ratio
+    /// is larger. The gap is the smallest magnitude of a place, whose bit is as many times likelier as it
+    /// was sent than the other way as e to the power of twice the received amplitude over the variance.
+    pub fn threshold(&self, ratio: f64) -> u16 {
+        let variance = self.deviation * self.deviation;
+        (STEPS * variance / 2.0 * (1.0 / ratio).ln()).ceil() as u16
     }
 
     /// The chance that more than `reach` of the 64 symbols have a wrong bit.
@@ -111,6 +120,23 @@ mod tests {
         let numbers: Vec<f64> = (0..100_000).map(|_| normal(&mut random)).collect();
         let above = numbers.iter().filter(|number| **number > 1.0).count();
         assert!((15_400..16_300).contains(&above), "{above}");
+    }
+
+    /// By the density of the noise itself: a value that is received where +1 was sent, and where −1 was.
+    #[test]
+    fn gaps_below_the_threshold_have_larger_ratios() {
+        for decibels in [3.0, 5.25, 7.25] {
+            let channel = Channel::at(49, decibels);
+            let density = |from: f64| (-(from / channel.deviation).powi(2) / 2.0).exp();
+            for ratio in [0.1, 0.2, 0.4] {
+                let threshold = channel.threshold(ratio);
+                for gap in 0..64u16 {
+                    let received = f64::from(gap) / STEPS;
+                    let ratio_of_gap = density(received + 1.0) / density(received - 1.0);
+                    assert_eq!(gap < threshold, ratio_of_gap > ratio, "{gap} {threshold}");
+                }
+            }
+        }
     }
 
     #[test]

@@ -62,9 +62,10 @@
 //!
 //! # Measuring
 //!
-//! Two binaries want the feature `proved` and are started by scripts: `bench` by `bench/run`, on the
-//! calls of [`measured`], and `error_rates` by `bench/error-rates`, which sends codewords through a
-//! [`channel`] and draws curves ([`plot`]).
+//! Three binaries want the feature `proved` and are started by scripts: `bench` by `bench/run`, on the
+//! calls of [`measured`], `error_rates` by `bench/error-rates`, which sends codewords through a
+//! [`channel`] ([`sent`]) and draws curves ([`plot`]), and `thresholds` by `bench/thresholds`, which
+//! decodes the same frames by doubt and by threshold. What a call costs is counted by [`counted`].
 
 pub mod arrivals;
 pub mod below_counts;
@@ -79,6 +80,7 @@ pub mod capture;
 pub mod channel;
 pub mod choices;
 pub mod code;
+pub mod counted;
 pub mod curve;
 pub mod damage;
 pub mod decode;
@@ -98,6 +100,7 @@ pub mod proved;
 pub mod random;
 pub mod refusal;
 pub mod row;
+pub mod sent;
 pub mod session;
 pub mod show;
 pub mod slips;

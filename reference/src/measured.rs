@@ -4,6 +4,7 @@
 //! - [`Case`], [`cases`]: one call, rate and doubt, and how the frames are damaged.
 //! - [`Case::calls`]: its calls, from a fixed seed.
 //! - [`Measured`]: one call's rate, doubt and bytes; [`Measured::bytes`]: as `bench/counted` reads it.
+//! - [`Form`]: table decoding by doubt, or by threshold and maximum; [`Form::call`]: of a table.
 
 use crate::bits::column_of_bits;
 use crate::channel::Channel;
@@ -13,7 +14,7 @@ use crate::decode::table_of_columns;
 use crate::frames::{column, random_codeword, some_places, DOUBTFUL_GAP, RATES, SETTLED_GAP};
 use crate::random::Random;
 use crate::row::Row;
-use crate::soft::Columns;
+use crate::soft::{doubtful_below, doubtful_places, Columns};
 
 /// The calls of a case.
 pub const CALLS: u64 = 20;
@@ -80,8 +81,43 @@ pub struct Case {
 pub struct Measured {
     pub letter: u8,
     pub rate: u64,
+    /// The doubt, or the maximum.
     pub doubt: usize,
+    /// Of a table that is decoded by threshold; else 0.
+    pub threshold: u16,
     pub given: Vec<u8>,
+}
+
+/// How a table is decoded.
+#[derive(Clone, Copy, Debug, PartialEq, Eq)]
+pub enum Form {
+    Doubt(usize),
+    Below { threshold: u16, most: usize },
+}
+
+impl Form {
+    /// The call that decodes a table so.
+    pub fn call(self, rate: u64, table: Vec<u8>) -> Measured {
+        let (letter, doubt, threshold) = match self {
+            Form::Doubt(doubt) => (b'T', doubt, 0),
+            Form::Below { threshold, most } => (b'L', most, threshold),
+        };
+        Measured {
+            letter,
+            rate,
+            doubt,
+            threshold,
+            given: table,
+        }
+    }
+
+    /// The places that are doubtful so.
+    pub fn places(self, columns: &Columns) -> Vec<u8> {
+        match self {
+            Form::Doubt(doubt) => doubtful_places(columns, doubt),
+            Form::Below { threshold, most } => doubtful_below(columns, threshold, most),
+        }
+    }
 }
 
 /// All cases. At rate 49 one wrong place is T wrong places, and stands there once.
@@ -160,6 +196,7 @@ impl Case {
             letter,
             rate: self.rate,
             doubt: self.doubt().unwrap_or(0),
+            threshold: 0,
             given,
         }
     }
@@ -169,6 +206,7 @@ impl Measured {
     /// The call as `bench/counted` reads it.
     pub fn bytes(&self) -> Vec<u8> {
         let mut bytes = vec![self.letter, self.rate as u8, self.doubt as u8];
+        bytes.extend(self.threshold.to_be_bytes());
         bytes.extend((self.given.len() as u16).to_be_bytes());
         bytes.extend(&self.given);
         bytes

@@ -6,14 +6,14 @@
 //! N` makes the calls of case N once, for callgrind.
 
 use std::fs;
-use std::io::Write;
 use std::path::Path;
-use std::process::{Command, ExitCode, Stdio};
+use std::process::ExitCode;
 use std::sync::atomic::{AtomicUsize, Ordering};
 use std::sync::Mutex;
 use std::thread;
 use std::time::{Duration, Instant};
 
+use reference::counted::{self, answered, grouped};
 use reference::decode::REPORT_BYTES;
 use reference::frames::RATES;
 use reference::measured::{cases, Case, Measured, Which, CALLS};
@@ -86,6 +86,7 @@ impl Library {
             rate,
             doubt,
             given,
+            ..
         } = call;
         let mut buffer = vec![0; if *letter == b'E' { 64 } else { *rate as usize }];
         let mut report = vec![0; if *letter == b'T' { REPORT_BYTES } else { 0 }];
@@ -182,36 +183,18 @@ fn agree(calls: &[Measured]) -> Result<(), String> {
 
 /// The multiplications of each call, by `counted`, whose answers must be the proved library's.
 fn multiplications(folder: &Path, calls: &[Measured]) -> Result<Vec<u64>, String> {
-    let problem = |error: std::io::Error| format!("counted: {error}");
-    let mut child = Command::new(folder.join("counted"))
-        .stdin(Stdio::piped())
-        .stdout(Stdio::piped())
-        .spawn()
-        .map_err(problem)?;
-    let input: Vec<u8> = calls.iter().flat_map(Measured::bytes).collect();
-    let mut pipe = child.stdin.take().expect("a pipe");
-    pipe.write_all(&input).map_err(problem)?;
-    drop(pipe);
-    let output = child.wait_with_output().map_err(problem)?.stdout;
-    let lines = String::from_utf8_lossy(&output).into_owned();
-    let lines: Vec<&str> = lines.lines().collect();
-    if lines.len() != calls.len() {
-        return Err("counted: not a line for each call".to_string());
-    }
-    let count = |(call, line): (&Measured, &&str)| {
+    let counts = counted::multiplications(folder, calls)?;
+    let count = |(call, (count, answer)): (&Measured, &(u64, String))| {
         let (number, bytes) = LIBRARIES[0].answer(call);
-        let digits: String = bytes.iter().map(|byte| format!("{byte:02x}")).collect();
-        let words: Vec<&str> = line.split(' ').collect();
-        if words.len() != 3 || words[1] != number.to_string() || words[2] != digits {
-            return Err(format!("counted answers otherwise: {line}"));
+        match *answer == answered(number, &[&bytes]) {
+            true => Ok(*count),
+            false => Err(format!("counted answers otherwise: {answer}")),
         }
-        words[0].parse().map_err(|_| format!("counted: {line}"))
     };
-    calls.iter().zip(&lines).map(count).collect()
+    calls.iter().zip(&counts).map(count).collect()
 }
 
-/// The instructions of each call, inside the exported function only: callgrind dumps its counters
-/// after each call.
+/// The instructions of each call, inside the exported function only.
 fn instructions(folder: &Path, number: usize, case: &Case) -> Result<Vec<u64>, String> {
     let function = match case.which {
         Which::Encode => "hermitian_encode",
@@ -219,30 +202,8 @@ fn instructions(folder: &Path, number: usize, case: &Case) -> Result<Vec<u64>, S
         Which::Table { .. } => "hermitian_decode_table",
     };
     let dumps = folder.join(format!("callgrind.{number}"));
-    let program = std::env::current_exe().map_err(|error| error.to_string())?;
-    let output = Command::new("valgrind")
-        .arg("--tool=callgrind")
-        .arg(format!("--toggle-collect={function}"))
-        .arg(format!("--dump-after={function}"))
-        .arg(format!("--callgrind-out-file={}", dumps.display()))
-        .arg(program)
-        .args(["calls", &number.to_string()])
-        .output()
-        .map_err(|error| format!("valgrind: {error}"))?;
-    if !output.status.success() {
-        return Err(String::from_utf8_lossy(&output.stderr).into_owned());
-    }
-    let counted = |call| {
-        let name = format!("{}.{}", dumps.display(), call + 1);
-        let text = fs::read_to_string(&name).map_err(|error| format!("{name}: {error}"))?;
-        fs::remove_file(&name).map_err(|error| format!("{name}: {error}"))?;
-        let line = text.lines().find_map(|line| line.strip_prefix("totals: "));
-        line.and_then(|total| total.trim().parse().ok())
-            .ok_or(format!("{name}: no total"))
-    };
-    let counts = (0..CALLS).map(counted).collect();
-    let _ = fs::remove_file(&dumps);
-    counts
+    let arguments = ["calls".to_string(), number.to_string()];
+    counted::instructions(&dumps, function, &arguments, CALLS)
 }
 
 fn mean(numbers: &[u64]) -> u64 {
@@ -252,19 +213,6 @@ fn mean(numbers: &[u64]) -> u64 {
 
 fn largest(numbers: &[u64]) -> u64 {
     numbers.iter().copied().max().unwrap_or(0)
-}
-
-/// 1234567 as 1,234,567.
-fn grouped(number: u64) -> String {
-    let digits = number.to_string();
-    let mut text = String::new();
-    for (at, digit) in digits.chars().enumerate() {
-        if at > 0 && (digits.len() - at).is_multiple_of(3) {
-            text.push(',');
-        }
-        text.push(digit);
-    }
-    text
 }
 
 /// The cells of a case.

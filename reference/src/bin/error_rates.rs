@@ -21,13 +21,11 @@ use reference::channel::{Channel, LOST, LOST_AS_ZERO};
 use reference::code::Code;
 use reference::curve::PLACES;
 use reference::decode::{table_of_columns, REPORT_BYTES};
-use reference::frames::{random_codeword, RATES};
+use reference::frames::RATES;
 use reference::measured::DOUBTS;
 use reference::plot::{draw, Curve};
 use reference::proved::{PROVED_BITS, PROVED_TABLE};
-use reference::random::Random;
-
-const SEED: u64 = 105;
+use reference::sent::{decibels, Sent};
 
 /// The most frames at a point, if the command doesn't say otherwise.
 const FRAMES: u64 = 10_000;
@@ -156,7 +154,7 @@ fn by_doubt(rate: u64, frames: u64) -> String {
     );
     head(&format!("Rate {rate}"), &names);
     for quarter in quarters(rate) {
-        let decibels = quarter as f64 / 4.0;
+        let decibels = decibels(quarter);
         computed.add(decibels, Channel::at(rate, decibels).beyond(code.reach));
         let counts = DOUBTS.map(|doubt| Setting::blank(rate, doubt, 0).point(quarter, frames));
         for (curve, counts) in curves.iter_mut().zip(&counts) {
@@ -210,7 +208,7 @@ impl FadedCurve {
             return String::new();
         }
         let counts = self.setting.point(quarter, frames);
-        self.curve.add(quarter as f64 / 4.0, counts.rate());
+        self.curve.add(decibels(quarter), counts.rate());
         self.ended = counts.rate() < FADED_LEAST;
         counts.cell()
     }
@@ -237,7 +235,7 @@ fn by_lost(rate: u64, doubt: usize, lost: [usize; 4], frames: u64) -> String {
         }
         let all = blank.iter_mut().chain(&mut zero);
         let cells: Vec<String> = all.map(|faded| faded.add(quarter, frames)).collect();
-        println!("| {:.2} | {} |", quarter as f64 / 4.0, cells.join(" | "));
+        println!("| {:.2} | {} |", decibels(quarter), cells.join(" | "));
     }
     println!();
     eprintln!();
@@ -264,7 +262,6 @@ impl Setting {
 
     /// The frames of one point, on all threads.
     fn point(&self, quarter: u64, frames: u64) -> Counts {
-        let channel = Channel::at(self.rate, quarter as f64 / 4.0);
         let mut sum = Counts::default();
         while sum.frames < frames && sum.errors() < ENOUGH {
             let next = AtomicU64::new(sum.frames);
@@ -276,8 +273,8 @@ impl Setting {
                     if number >= end {
                         return counts;
                     }
-                    let random = Random::new(SEED, self.rate << 48 | quarter << 40 | number);
-                    self.one_frame(channel, random, &mut counts);
+                    let sent = Sent::numbered(self.rate, quarter, number);
+                    self.one_frame(sent, &mut counts);
                 }
             };
             let threads = thread::available_parallelism().map_or(1, usize::from);
@@ -293,7 +290,7 @@ impl Setting {
             eprint!(
                 "\rrate {}, {:.2} dB, doubt {}, {} lost: {} errors of {} frames   ",
                 self.rate,
-                quarter as f64 / 4.0,
+                decibels(quarter),
                 self.doubt,
                 self.lost,
                 sum.errors(),
@@ -304,20 +301,18 @@ impl Setting {
     }
 
     /// The lost places are drawn after all else, so that the rest is the same for every number.
-    fn one_frame(&self, channel: Channel, mut random: Random, counts: &mut Counts) {
-        let code = self.code();
-        let sent = random_codeword(code, &mut random);
-        let symbols = sent.elements();
-        let mut values = symbols.map(|symbol| channel.values(symbol, &mut random));
-        let lost: Vec<usize> = random
+    fn one_frame(&self, mut sent: Sent, counts: &mut Counts) {
+        let lost: Vec<usize> = sent
+            .random
             .shuffled(0..PLACES)
             .into_iter()
             .take(self.lost)
             .collect();
+        let mut values = sent.values;
         for place in &lost {
             values[*place] = LOST;
         }
-        let mut message = vec![0; code.symbols];
+        let mut message = vec![0; self.rate as usize];
         let number = match self.as_zero {
             true => self.decode_as_zero(&values, &lost, &mut message),
             false => {
@@ -335,7 +330,7 @@ impl Setting {
         counts.frames += 1;
         if number != 0 {
             counts.refused += 1;
-        } else if code.codeword(&message) != sent {
+        } else if !sent.came_back(&message) {
             counts.wrong += 1;
         }
     }
