@@ -4,7 +4,7 @@
 --   unknownRate      1: the rate is not 39 or 49
 --   wrongSize        2: a lent buffer of the wrong size, or no 64 bytes from the start
 --   noSymbol         3: a symbol above 15
---   wrongDoubt       4: doubt above 8, or a doubtful list longer than 8, with a place above 63 or not strictly rising
+--   wrongDoubt       4: doubt above 8, a maximum of 0 or above 8, or a doubtful list longer than 8, with a place above 63 or not strictly rising
 --   noPlace          5: a place above 63
 --   placeTaken       6: a place already taken
 --   placeMissing     7: closing or writing with a place missing

@@ -8,7 +8,7 @@ pub const UNKNOWN_RATE: u8 = 1;
 pub const WRONG_SIZE: u8 = 2;
 // 3: a symbol above 15.
 pub const NO_SYMBOL: u8 = 3;
-// 4: doubt above 8, or a doubtful list longer than 8, with a place above 63 or not strictly rising.
+// 4: doubt above 8, a maximum of 0 or above 8, or a doubtful list longer than 8, with a place above 63 or not strictly rising.
 pub const WRONG_DOUBT: u8 = 4;
 // 7: closing or writing with a place missing.
 pub const PLACE_MISSING: u8 = 7;
