@@ -88,7 +88,7 @@ impl Slip {
             Slip::BesideTheFirst => first_and(&order, most + 1, below),
             Slip::HigherPlace => {
                 let mut order = order;
-                order.sort_by_key(|place| (gap_at(*place), Reverse(*place)));
+                order.sort_by_cached_key(|place| (gap_at(*place), Reverse(*place)));
                 first_and(&order, most, below)
             }
             Slip::PlaceOrder => {
@@ -106,7 +106,7 @@ impl Slip {
             }
             Slip::BlankChosen => {
                 let mut order: Vec<u8> = (0..PLACES as u8).collect();
-                order.sort_by_key(|place| (gap_at(*place), *place));
+                order.sort_by_cached_key(|place| (gap_at(*place), *place));
                 first_and(&order, most, below)
             }
             Slip::NoThreshold => first_and(&order, most, |_| true),

@@ -107,7 +107,7 @@ pub fn smallest<G: Ord>(columns: &Columns, doubt: usize, gap: fn(&Column) -> G) 
 pub fn by_gap<G: Ord>(columns: &Columns, gap: fn(&Column) -> G) -> Vec<u8> {
     let unblanked = |place: &u8| !is_blank(&columns[usize::from(*place)]);
     let mut places: Vec<u8> = (0..PLACES as u8).filter(unblanked).collect();
-    places.sort_by_key(|place| (gap(&columns[usize::from(*place)]), *place));
+    places.sort_by_cached_key(|place| (gap(&columns[usize::from(*place)]), *place));
     places
 }
 

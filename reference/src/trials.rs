@@ -677,7 +677,7 @@ mod tests {
     #[test]
     fn trials_have_every_sort_of_thresholds() {
         let both = [&REFERENCE_BELOW, &REFERENCE_BELOW];
-        let tally = compare(below_trial, both, 69, 3000).unwrap();
+        let tally = compare(below_trial, both, 69, 4096).unwrap();
         assert_eq!(tally.below.check(), Ok(()));
         let often = (0..NUMBERS).filter(|number| tally.numbers[*number] >= 10);
         assert_eq!(often.collect::<Vec<usize>>(), [0, 1, 2, 4, 9, 12]);

@@ -141,6 +141,29 @@ struct Figures {
     multiplications: u64,
 }
 
+impl Figures {
+    /// The failures, and how many of them are wrong messages and not refusals, where there are any.
+    fn failed(&self) -> String {
+        let failures = grouped(self.failures);
+        match self.wrong {
+            0 => failures,
+            wrong => format!("{failures}, {wrong} wrong"),
+        }
+    }
+
+    fn doubtful(&self) -> String {
+        format!("{:.2}", self.places)
+    }
+
+    fn cost(&self) -> String {
+        grouped(self.instructions)
+    }
+}
+
+fn failures_of(frames: u64) -> String {
+    format!("failures of {} frames", grouped(frames))
+}
+
 fn main() -> ExitCode {
     let arguments: Vec<String> = std::env::args().skip(1).collect();
     let words: Vec<&str> = arguments.iter().map(String::as_str).collect();
@@ -316,19 +339,11 @@ fn print_forms(folder: &Path, rate: u64, quarters: &[u64], frames: u64) -> Resul
     });
     type Show = fn(&Figures) -> String;
     let tables: [(String, Show); 3] = [
-        (
-            format!("failures of {} frames", grouped(frames)),
-            |figures| match figures.wrong {
-                0 => grouped(figures.failures),
-                wrong => format!("{}, {wrong} wrong", grouped(figures.failures)),
-            },
-        ),
-        ("mean doubtful places".to_string(), |figures| {
-            format!("{:.2}", figures.places)
-        }),
+        (failures_of(frames), Figures::failed),
+        ("mean doubtful places".to_string(), Figures::doubtful),
         (
             format!("mean instructions of {COUNTED} frames"),
-            |figures| grouped(figures.instructions),
+            Figures::cost,
         ),
     ];
     for (what, show) in tables {
@@ -377,12 +392,11 @@ fn print_source(folder: &Path, source: &Source, frames: u64) -> Result<(), Strin
         let thresholds: Vec<String> = cells.iter().filter_map(threshold).collect();
         if !thresholds.is_empty() {
             line("here: that ratio as a threshold", thresholds);
-            line("doubtful places", by(|f| format!("{:.2}", f.places)));
+            line("doubtful places", by(Figures::doubtful));
         }
         line("here: multiplications", by(|f| grouped(f.multiplications)));
-        line("instructions", by(|f| grouped(f.instructions)));
-        let failures = format!("failures of {} frames", grouped(frames));
-        line(&failures, by(|f| grouped(f.failures)));
+        line("instructions", by(Figures::cost));
+        line(&failures_of(frames), by(Figures::failed));
     }
     println!();
     Ok(())
