@@ -1,5 +1,6 @@
-/* How many bytes of stack a table decoding touches: a thread with a painted stack decodes frames with eight doubtful places, one wrong
- * place and none near, at both rates, and the paint that is left is counted. */
+/* How many bytes of stack a table decoding touches: a thread with a painted stack decodes frames without doubt and with eight doubtful places,
+ * and by a threshold above all gaps with the maxima 1 and 8, with no wrong place, one and so many that none is near, at both rates, and the
+ * paint that is left is counted. */
 #include <pthread.h>
 #include <stdio.h>
 #include <stdlib.h>
@@ -11,7 +12,7 @@ enum { STACK = 1 << 20, PAINT = 0xa5, ROOM = 1 << 12 };
 
 struct job {
     size_t rate, wrong, doubt;
-    int decode;
+    int below, decode;
     uint8_t answer;
 };
 
@@ -26,7 +27,9 @@ static void cost(size_t place, size_t symbol, unsigned value)
 static void *run(void *given)
 {
     struct job *job = given;
-    if (job->decode)
+    if (job->decode && job->below)
+        job->answer = hermitian_decode_table_below(job->rate, table, sizeof table, UINT16_MAX, job->doubt, message, job->rate, report, sizeof report);
+    else if (job->decode)
         job->answer = hermitian_decode_table(job->rate, table, sizeof table, job->doubt, message, job->rate, report, sizeof report);
     return NULL;
 }
@@ -51,12 +54,12 @@ static size_t touched(struct job *job)
 
 int main(void)
 {
-    const size_t rates[] = {39, 49}, wrongs[] = {0, 1, 12}, doubts[] = {0, 8};
+    const size_t rates[] = {39, 49}, wrongs[] = {0, 1, 12}, doubts[] = {0, 8, 1, 8};
     uint8_t word[HERMITIAN_PLACES] = {0};
     for (size_t r = 0; r < 2; r++)
         for (size_t w = 0; w < 3; w++)
-            for (size_t d = 0; d < 2; d++) {
-                struct job job = {.rate = rates[r], .wrong = wrongs[w], .doubt = doubts[d]};
+            for (size_t d = 0; d < 4; d++) {
+                struct job job = {.rate = rates[r], .wrong = wrongs[w], .doubt = doubts[d], .below = d >= 2};
                 for (size_t t = 0; t < sizeof message; t++)
                     message[t] = (uint8_t)(t * 7 % 16);
                 if (hermitian_encode(job.rate, message, job.rate, word, sizeof word, 0) != 0)
@@ -72,7 +75,7 @@ int main(void)
                 size_t idle = touched(&job);
                 job.decode = 1;
                 size_t used = touched(&job) - idle;
-                printf("rate %zu, %2zu wrong places, doubt %zu: %zu bytes of stack, answer %u\n", job.rate, job.wrong, job.doubt, used, job.answer);
+                printf("rate %zu, %2zu wrong places, %s %zu: %zu bytes of stack, answer %u\n", job.rate, job.wrong, job.below ? "maximum" : "doubt", job.doubt, used, job.answer);
             }
     return 0;
 }
