@@ -89,7 +89,8 @@ uint8_t hermitian_decode_table(size_t rate,
                                uint8_t *report, size_t report_length);
 
 /* Decodes a table of costs with as many doubtful places as its gaps ask for: those whose gap is
- * smaller than the threshold, but one place at least, and no more than most, which is 1 to 8.
+ * smaller than the threshold, but one place at least, and no more than the maximum, most,
+ * which is 1 to 8.
  * They are taken as hermitian_decode_table takes them: by the smallest gap, with gaps counted
  * as there, equal gaps by the lower place, and no blank place. So the answer is that of
  * hermitian_decode_table with a doubt of so many. Every threshold of 16 bits is taken.

@@ -30,7 +30,7 @@ fn by_threshold(call: &BelowCall) -> Decoded {
     })
 }
 
-/// Calls whose table has 2,048 bytes and whose maximum is one, with their columns.
+/// Calls whose table has 2,048 bytes and whose maximum is allowed, with their columns.
 fn calls(seed: u64, count: u64) -> impl Iterator<Item = (BelowCall, Columns)> {
     let calls = (0..count).map(move |number| BelowCall::numbered(seed, number));
     let right = |call: &BelowCall| call.table.len() == TABLE_BYTES && (1..=8).contains(&call.most);
@@ -91,7 +91,7 @@ fn decoding_equals_decoding_with_the_doubt_counted() {
     }
 }
 
-/// The answer is that of a session opened with these places, in whatever order the columns come.
+/// A session that is opened with the places chosen closes with the same answer, in whatever order the columns come.
 #[test]
 fn decoding_equals_closing_a_session() {
     for (call, columns) in calls(148, 800).filter(|(call, _)| call.kind != BelowKind::Refused) {
