@@ -1,5 +1,5 @@
-// What every form of decoding checks before it looks at a cost: the rate, and then the sizes of what is given and of the two lent buffers. It knows of no
-// doubt and of no column.
+// What decoding of a table, by doubt or by threshold, and of bit values checks first: the rate, and then the sizes of what is given and of the two lent
+// buffers. It knows of no doubt and of no column.
 use encoding::known_rate;
 use refusals::ACCEPTED;
 use refusals::UNKNOWN_RATE;
