@@ -8,7 +8,7 @@
 --   below-rate, below-size, below-doubt, below-decoded   the four cases; below-refused: where the checks of rate and sizes refuse, it gives their number
 --   below-too-blank, below-blank-only   of the last: it gives 12 exactly where more places are blank than leave a T; below-zero: so of a table of zero bytes
 --   below-accepted         an accepted call has a maximum from 1 to the largest doubt and answers as decoding does
---   doubtFor table t m     the doubt that is counted: how many places have a gap below t, but 1 at least and m at most; doubt-for-most
+--   doubtFor table t m     the doubt that is counted: how many places have a gap below t, but 1 at least and m at most (doubt-for-some, doubt-for-most)
 --   below-picked           the places picked are those that a doubt so large picks,
 --   below-as-table         so with a maximum that is allowed it is table decoding with that doubt
 --   below-most, below-length   no more than m are picked; exactly that doubt, where no more places are blank than leave a T; below-some: at least one
@@ -29,7 +29,7 @@ use Rattle.refusals.specs.Refusal.{accepted, unknownRate, wrongSize, wrongDoubt
 use Rattle.lists.specs.Distinct.{below, distinct, and-left, and-right, and-both}
 use Rattle.soft.specs.Blank.{openAt, blanksOf}
 use Rattle.soft.specs.Threshold.{closestOf, doubtBelow}
-use Rattle.soft.specs.ThresholdLaws.{closest-doubtful, doubt-below-most, closestOf-most, closestOf-length, closest-open}
+use Rattle.soft.specs.ThresholdLaws.{closest-doubtful, doubt-below-most, doubt-below-some, closestOf-most, closestOf-length, closest-open}
 use Rattle.near.specs.Near.{blankLimit}
 use Rattle.book.specs.Model.{Model, places}
 use Rattle.book.specs.Book.{Entry, newBook, Outcome}
@@ -151,32 +151,35 @@ module _ (𝓓 : Model) where
     unfolding pickedBelow
     below-open = closest-open (places 𝓓) t m (tableColumns 𝓓 table)
 
+    pub below-picked : pickedBelow table t m ≡ pickedOf 𝓓 table (doubtFor table t m)
+    unfolding pickedBelow pickedOf
+    below-picked = closest-doubtful (places 𝓓) t m (tableColumns 𝓓 table)
+
+    pub below-length : {rate : ℕ} → known rate ≡ true → blanksOf (places 𝓓) (tableColumns 𝓓 table) ≤ blankLimit member rate
+        → length (pickedBelow table t m) ≡ doubtFor table t m
+    unfolding pickedBelow
+    below-length {rate} known blanks = closestOf-length (places 𝓓) t m (tableColumns 𝓓 table) (omega (arith, limit-below 𝓓 {rate = rate} known))
+
+    pub doubt-for-most : doubtFor table t m ≤ m
+    doubt-for-most = doubt-below-most (places 𝓓) t m (tableColumns 𝓓 table)
+
+    module _ (few : m ≤ mostDoubt) where
+      pub below-fit : fitDoubt 𝓓 (pickedBelow table t m) ≡ true
+      below-fit = ap (fitDoubt 𝓓) below-picked ∙ picked-fit 𝓓 table (doubtFor table t m) (omega (arith, doubt-for-most))
+
+      pub below-opens : (rate : ℕ) → known rate ≡ true
+          → openOf 𝓓 rate (pickedBelow table t m) ≡ record { number = accepted; book = newBook rate (pickedBelow table t m) }
+      below-opens rate known = open-accepted 𝓓 rate (pickedBelow table t m) known below-fit
+
     module _ (some : 1 ≤ m) where
-      pub doubt-for-most : (1 ≤ doubtFor table t m) × (doubtFor table t m ≤ m)
-      doubt-for-most = doubt-below-most (places 𝓓) t m (tableColumns 𝓓 table) some
-
-      pub below-picked : pickedBelow table t m ≡ pickedOf 𝓓 table (doubtFor table t m)
-      unfolding pickedBelow pickedOf
-      below-picked = closest-doubtful (places 𝓓) t m (tableColumns 𝓓 table) some
-
-      pub below-length : {rate : ℕ} → known rate ≡ true → blanksOf (places 𝓓) (tableColumns 𝓓 table) ≤ blankLimit member rate
-          → length (pickedBelow table t m) ≡ doubtFor table t m
-      unfolding pickedBelow
-      below-length {rate} known blanks =
-          closestOf-length (places 𝓓) t m (tableColumns 𝓓 table) some (omega (arith, limit-below 𝓓 {rate = rate} known))
+      pub doubt-for-some : 1 ≤ doubtFor table t m
+      doubt-for-some = doubt-below-some (places 𝓓) t m (tableColumns 𝓓 table) some
 
       pub below-some : {rate : ℕ} → known rate ≡ true → blanksOf (places 𝓓) (tableColumns 𝓓 table) ≤ blankLimit member rate
           → 1 ≤ length (pickedBelow table t m)
-      below-some {rate} known blanks = omega (arith, doubt-for-most .0, below-length {rate = rate} known blanks)
+      below-some {rate} known blanks = omega (arith, doubt-for-some, below-length {rate = rate} known blanks)
 
       module _ (few : m ≤ mostDoubt) where
-        pub below-fit : fitDoubt 𝓓 (pickedBelow table t m) ≡ true
-        below-fit = ap (fitDoubt 𝓓) below-picked ∙ picked-fit 𝓓 table (doubtFor table t m) (omega (arith, doubt-for-most .1))
-
-        pub below-opens : (rate : ℕ) → known rate ≡ true
-            → openOf 𝓓 rate (pickedBelow table t m) ≡ record { number = accepted; book = newBook rate (pickedBelow table t m) }
-        below-opens rate known = open-accepted 𝓓 rate (pickedBelow table t m) known below-fit
-
         -- ---- as table decoding
 
         pub below-as-table : (rate : ℕ) (message report : List ℕ)
@@ -189,7 +192,7 @@ module _ (𝓓 : Model) where
             (cond b (decodeOf 𝓓 rate (tableColumns 𝓓 table) list message report) (refusedClosing wrongDoubt message report))
             (refusedClosing wrongSize message report))
             (refusedClosing unknownRate message report))
-            (allowed m some few ∙ sym (le-leb (doubtFor table t m) mostDoubt (omega (arith, doubt-for-most .1)))) below-picked
+            (allowed m some few ∙ sym (le-leb (doubtFor table t m) mostDoubt (omega (arith, doubt-for-most)))) below-picked
 
         -- ---- as a session
 
@@ -199,7 +202,7 @@ module _ (𝓓 : Model) where
               ≡ closeOf 𝓓 (record { rate = rate; doubtful = pickedBelow table t m; row = row }) message report
           below-as-session row all =
               below-as-table rate message report
-              ∙ table-as-session 𝓓 rate table (doubtFor table t m) known whole (omega (arith, doubt-for-most .1)) row all message report
+              ∙ table-as-session 𝓓 rate table (doubtFor table t m) known whole (omega (arith, doubt-for-most)) row all message report
               ∙ ap (λ (list : List ℕ). closeOf 𝓓 (record { rate = rate; doubtful = list; row = row }) message report) (sym below-picked)
 
           module _ (order : List ℕ) (apart : distinct order ≡ true) (in-range : below (places 𝓓) order ≡ true)
@@ -212,7 +215,7 @@ module _ (𝓓 : Model) where
                 × (tableBelowOf rate table t m message report ≡ closeOf 𝓓 (delivered .book) message report)
             below-in-order =
                 let row = entriesOf (tableColumns 𝓓 table) order in
-                let opens = below-opens rate known in
+                let opens = below-opens few rate known in
                 let accepts : delivered ≡ record { number = accepted; book = record { rate = rate; doubtful = pickedBelow table t m; row = row } }
                 = ap (λ (o : Outcome). deliverRow 𝓓 (o .book) row) opens ∙ order-accepted 𝓓 table order apart in-range every-place rate (pickedBelow table t m) in (
                   ap (λ (o : Outcome). o .number) opens,
@@ -226,4 +229,4 @@ module _ (𝓓 : Model) where
   below-zero {rate} known t m some few message report long whole-report =
       let table : List ℕ = replicate (tableLength 𝓓) 0 in
       below-as-table table t m some few rate message report
-      ∙ zero-table 𝓓 {rate = rate} known (doubtFor table t m) (omega (arith, doubt-for-most table t m some .1)) message report long whole-report
+      ∙ zero-table 𝓓 {rate = rate} known (doubtFor table t m) (omega (arith, doubt-for-most table t m)) message report long whole-report

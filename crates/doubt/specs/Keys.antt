@@ -96,7 +96,7 @@ module _ {n far : ℕ} {columns : ℕ → List ℕ} {keys : List ℕ} (K : Keyed
           beyond (yes a) = a
           beyond (no a) = absurd (omega (arith, K .at p l .behind e, div-lt-iff-lt-mul {k = n} {x = entryOf keys p} {y = t} (omega arith) .0 (omega arith)))
 
-  pub chosen-closest : (t m c : ℕ) → t * n ≤ far → 1 ≤ m → c ≡ clampOf m (belowBy n t keys) → chosenOf n far c keys ≡ closestOf n t m columns
+  pub chosen-closest : (t m c : ℕ) → t * n ≤ far → c ≡ clampOf m (belowBy n t keys) → chosenOf n far c keys ≡ closestOf n t m columns
   unfolding doubtBelow
-  chosen-closest t m c h room e =
-      chosen-doubtful c ∙ ap (λ d. doubtfulOf n d columns) (e ∙ ap (clampOf m) (below-gaps t h)) ∙ sym (closest-doubtful n t m columns room)
+  chosen-closest t m c h e =
+      chosen-doubtful c ∙ ap (λ d. doubtfulOf n d columns) (e ∙ ap (clampOf m) (below-gaps t h)) ∙ sym (closest-doubtful n t m columns)

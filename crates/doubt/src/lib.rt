@@ -7,7 +7,7 @@ use columns::costs::PLACES;
 use columns::costs::column_of;
 ghost use mathlib.Core.Path.{_≡_};
 ghost use mathlib.Core.Bool.{cond};
-ghost use Prim.Native.Nat.{_<_, _≤_};
+ghost use Prim.Native.Nat.{_<_};
 ghost use lib.ListN.{set};
 ghost use Rattle.lists.specs.Rank.{rankOf};
 ghost use Rattle.soft.specs.Column.{places, symbols, columnOf};
@@ -140,9 +140,8 @@ fn clamp(count: usize, most: usize) -> usize
     count
 }
 
-// The doubtful places by a threshold: the first of the order, and those behind it with a gap below the threshold, up to the most in all.
+// What a threshold makes doubtful: the front of the order, as long as the number of gaps below the threshold, held between one and the most.
 pub fn doubtful_below(costs: &[u16], threshold: u16, most: usize) -> Picked
-    requires { ⌜ 1 ≤ most ⌝ }
     ensures { λ r. ⌜ PickedOf (closestOf places threshold most (columnOf symbols (now (costs .entry)))) r ⌝ }
 {
     let keys = keys_of(costs);

@@ -2,8 +2,9 @@
 --
 --   below-ahead            a place that counts has a gap below the threshold exactly if fewer places are ahead of it than have such a gap
 --   below-count            no more have such a gap than count; none-below: none has, where all gaps are at the threshold or above
---   clamp-few, clamp-none, clamp-many   the three cases of the number chosen; clamp-most: it is 1 at least and the maximum at most
---   closest-smallest       with a maximum of 1 or more the places chosen are the places of smallest gap, as many as that number says
+--   clamp-few, clamp-none, clamp-many   the three cases of the number chosen; clamp-most: it is the maximum at most; clamp-some: and 1 at least,
+--                          if the maximum is
+--   closest-smallest       the places chosen are the places of smallest gap, as many as that number says
 --   Close n t m counts gap q   what is said of a place that is chosen; closest-close, close-closest: it is chosen exactly if that holds
 --   closest-first          the first place is chosen, whatever the threshold
 --   closest-reason         a place that is chosen is the first, or its gap is below the threshold
@@ -14,7 +15,8 @@
 --   closest-rising, closest-below, closest-counts   they rise, and are places that count
 --   closest-ahead          each chosen place is ahead of each place that counts and is not chosen
 --   closest-ext            only the n places matter
---   closest-doubtful       of a table: the doubtful places with a doubt that is counted; doubt-below-most: 1 at least and the maximum at most
+--   closest-doubtful       of a table: the doubtful places with a doubt that is counted; doubt-below-most, doubt-below-some: the maximum at
+--                          most, and 1 at least
 --   closestOf-close, close-closestOf, closestOf-first, closestOf-most, closestOf-length, closestOf-rising, closestOf-below, closestOf-ext   the same of
 --                          a table's places
 --   closest-open           no blank place is chosen
@@ -55,35 +57,38 @@ module _ (m c : ℕ) where
   unfolding clampOf
   clamp-many many = simp (le-ltb c m many)
 
-  module _ (room : 1 ≤ m) where
-    -- it is one of three numbers
-    clamp-cases : ((m ≤ c) × (clampOf m c ≡ m)) ⊎ (((c ≡ 0) × (clampOf m c ≡ 1)) ⊎ ((1 ≤ c) × (c < m) × (clampOf m c ≡ c)))
-    clamp-cases = go (decLe m c) (decLe 1 c)
-      where
-        go : Dec (m ≤ c) → Dec (1 ≤ c) → ((m ≤ c) × (clampOf m c ≡ m)) ⊎ (((c ≡ 0) × (clampOf m c ≡ 1)) ⊎ ((1 ≤ c) × (c < m) × (clampOf m c ≡ c)))
-        go (yes a) b = inl (a, clamp-many a)
-        go (no a) (yes b) = inr (inr (b, omega arith, clamp-few b (omega arith)))
-        go (no a) (no b) = let z : c ≡ 0 = omega arith in inr (inl (z, clamp-none room z))
+  -- it is one of three numbers
+  clamp-cases : ((m ≤ c) × (clampOf m c ≡ m)) ⊎ (((c ≡ 0) × (c < m) × (clampOf m c ≡ 1)) ⊎ ((1 ≤ c) × (c < m) × (clampOf m c ≡ c)))
+  clamp-cases = go (decLe m c) (decLe 1 c)
+    where
+      go : Dec (m ≤ c) → Dec (1 ≤ c)
+          → ((m ≤ c) × (clampOf m c ≡ m)) ⊎ (((c ≡ 0) × (c < m) × (clampOf m c ≡ 1)) ⊎ ((1 ≤ c) × (c < m) × (clampOf m c ≡ c)))
+      go (yes a) b = inl (a, clamp-many a)
+      go (no a) (yes b) = inr (inr (b, omega arith, clamp-few b (omega arith)))
+      go (no a) (no b) = let z : c ≡ 0 = omega arith in inr (inl (z, omega arith, clamp-none (omega arith) z))
 
-    pub clamp-most : (1 ≤ clampOf m c) × (clampOf m c ≤ m)
-    clamp-most = ⊎-elim (λ a. omega arith) (⊎-elim (λ a. omega arith) (λ a. omega arith)) clamp-cases
+  pub clamp-most : clampOf m c ≤ m
+  clamp-most = ⊎-elim (λ a. omega arith) (⊎-elim (λ a. omega arith) (λ a. omega arith)) clamp-cases
 
-    -- the first, or one with fewer ahead of it than c, and than m: fewer than the number are ahead
-    clamp-test : (r : ℕ) → (ltb r m && (eqb r 0 || ltb r c)) ≡ ltb r (clampOf m c)
-    clamp-test r = go (decLe (suc r) m) (ℕ-discrete r 0) (decLe (suc r) c)
-      where
-        within : r < m → r < c → r < clampOf m c
-        within a b = ⊎-elim (λ k. omega arith) (⊎-elim (λ k. omega arith) (λ k. omega arith)) clamp-cases
+  pub clamp-some : 1 ≤ m → 1 ≤ clampOf m c
+  clamp-some room = ⊎-elim (λ a. omega arith) (⊎-elim (λ a. omega arith) (λ a. omega arith)) clamp-cases
 
-        beyond : 1 ≤ r → c ≤ r → r < m → clampOf m c ≤ r
-        beyond a b d = ⊎-elim (λ k. omega arith) (⊎-elim (λ k. omega arith) (λ k. omega arith)) clamp-cases
+  -- the first, or one with fewer ahead of it than c, and than m: fewer than the number are ahead
+  clamp-test : (r : ℕ) → (ltb r m && (eqb r 0 || ltb r c)) ≡ ltb r (clampOf m c)
+  clamp-test r = go (decLe (suc r) m) (ℕ-discrete r 0) (decLe (suc r) c)
+    where
+      within : r < m → r < c → r < clampOf m c
+      within a b = ⊎-elim (λ k. omega arith) (⊎-elim (λ k. omega arith) (λ k. omega arith)) clamp-cases
 
-        go : Dec (r < m) → Dec (r ≡ 0) → Dec (r < c) → (ltb r m && (eqb r 0 || ltb r c)) ≡ ltb r (clampOf m c)
-        go (no a) z b = simp (le-ltb r m (omega arith)) (sym (le-ltb r (clampOf m c) (omega (arith, clamp-most))))
-        go (yes a) (yes z) b = simp (lt-ltb r m a, eq-eqb r 0 z) (sym (lt-ltb r (clampOf m c) (omega (arith, clamp-most))))
-        go (yes a) (no z) (yes b) = simp (lt-ltb r m a, ne-eqb r 0 z, lt-ltb r c b) (sym (lt-ltb r (clampOf m c) (within a b)))
-        go (yes a) (no z) (no b) =
-            simp (lt-ltb r m a, ne-eqb r 0 z, le-ltb r c (omega arith)) (sym (le-ltb r (clampOf m c) (beyond (omega arith) (omega arith) a)))
+      beyond : 1 ≤ r → c ≤ r → r < m → clampOf m c ≤ r
+      beyond a b d = ⊎-elim (λ k. omega arith) (⊎-elim (λ k. omega arith) (λ k. omega arith)) clamp-cases
+
+      go : Dec (r < m) → Dec (r ≡ 0) → Dec (r < c) → (ltb r m && (eqb r 0 || ltb r c)) ≡ ltb r (clampOf m c)
+      go (no a) z b = simp (le-ltb r m (omega arith)) (sym (le-ltb r (clampOf m c) (omega (arith, clamp-most))))
+      go (yes a) (yes z) b = simp (lt-ltb r m a, eq-eqb r 0 z) (sym (lt-ltb r (clampOf m c) (omega (arith, clamp-some (omega arith)))))
+      go (yes a) (no z) (yes b) = simp (lt-ltb r m a, ne-eqb r 0 z, lt-ltb r c b) (sym (lt-ltb r (clampOf m c) (within a b)))
+      go (yes a) (no z) (no b) =
+          simp (lt-ltb r m a, ne-eqb r 0 z, le-ltb r c (omega arith)) (sym (le-ltb r (clampOf m c) (beyond (omega arith) (omega arith) a)))
 
 -- ---- gaps below the threshold
 
@@ -137,7 +142,7 @@ module _ (n t : ℕ) (counts : ℕ → Bool) (gap : ℕ → ℕ) where
       at p l true e = ap₂ (λ (a b : Bool). a && b) e (le-ltb (gap p) t (large p l e))
       at p l false e = ap (λ b. b && ltb (gap p) t) e
 
-module _ (n t m : ℕ) (counts : ℕ → Bool) (gap : ℕ → ℕ) (room : 1 ≤ m) where
+module _ (n t m : ℕ) (counts : ℕ → Bool) (gap : ℕ → ℕ) where
   pub closest-smallest : closest n t m counts gap ≡ smallest n (clampOf m (belowOf n t counts gap)) counts gap
   unfolding closest smallest
   closest-smallest =
@@ -147,7 +152,7 @@ module _ (n t m : ℕ) (counts : ℕ → Bool) (gap : ℕ → ℕ) (room : 1 ≤
       at q l true e =
           ap (λ b. counts q && b)
           (ap (λ b. ltb (aheadOf n counts gap q) m && (eqb (aheadOf n counts gap q) 0 || b)) (below-ahead n t counts gap q l e)
-          ∙ clamp-test m (belowOf n t counts gap) room (aheadOf n counts gap q))
+          ∙ clamp-test m (belowOf n t counts gap) (aheadOf n counts gap q))
       at q l false e =
           ap (λ b. b && (ltb (aheadOf n counts gap q) m && (eqb (aheadOf n counts gap q) 0 || ltb (gap q) t))) e
           ∙ sym (ap (λ b. b && ltb (aheadOf n counts gap q) (clampOf m (belowOf n t counts gap))) e)
@@ -157,10 +162,10 @@ module _ (n t m : ℕ) (counts : ℕ → Bool) (gap : ℕ → ℕ) (room : 1 ≤
       ap length closest-smallest
       ∙ smallest-length n gap counts (clampOf m (belowOf n t counts gap))
       (⊎-elim (λ k. omega (arith, below-count n t counts gap)) (⊎-elim (λ k. omega arith) (λ k. omega (arith, below-count n t counts gap)))
-      (clamp-cases m (belowOf n t counts gap) room))
+      (clamp-cases m (belowOf n t counts gap)))
 
-  pub closest-clear : ((p : ℕ) → p < n → counts p ≡ true → t ≤ gap p) → closest n t m counts gap ≡ smallest n 1 counts gap
-  closest-clear large =
+  pub closest-clear : 1 ≤ m → ((p : ℕ) → p < n → counts p ≡ true → t ≤ gap p) → closest n t m counts gap ≡ smallest n 1 counts gap
+  closest-clear room large =
       closest-smallest ∙ ap (λ d. smallest n d counts gap) (clamp-none m (belowOf n t counts gap) room (none-below n t counts gap large))
 
 pub closest-zero : (n m : ℕ) (counts : ℕ → Bool) (gap : ℕ → ℕ) → 1 ≤ m → closest n 0 m counts gap ≡ smallest n 1 counts gap
@@ -241,7 +246,7 @@ module _ (n t m : ℕ) (counts : ℕ → Bool) (gap : ℕ → ℕ) where
   pub closest-ahead : (p q : ℕ) → List·Memᴰ p (closest n t m counts gap) → q < n → counts q ≡ true
       → (List·Memᴰ q (closest n t m counts gap) → ⊥) → T (ahead gap p q)
   closest-ahead p q s l c out =
-      let same = closest-smallest n t m counts gap (omega (arith, closest-close p s .few)) in
+      let same = closest-smallest n t m counts gap in
       smallest-ahead n gap counts (clampOf m (belowOf n t counts gap)) p q (subst (List·Memᴰ p) same s) l c
       (λ k. out (subst (List·Memᴰ q) (sym same) k))
 
@@ -266,13 +271,17 @@ closest-ext n t m c e g h counts gaps =
 -- ---- the same of a table's places
 
 module _ (n t m : ℕ) (columns : ℕ → List ℕ) where
-  pub closest-doubtful : 1 ≤ m → closestOf n t m columns ≡ doubtfulOf n (doubtBelow n t m columns) columns
+  pub closest-doubtful : closestOf n t m columns ≡ doubtfulOf n (doubtBelow n t m columns) columns
   unfolding closestOf doubtfulOf doubtBelow
-  closest-doubtful room = closest-smallest n t m (openAt columns) (gapAt columns) room
+  closest-doubtful = closest-smallest n t m (openAt columns) (gapAt columns)
 
-  pub doubt-below-most : 1 ≤ m → (1 ≤ doubtBelow n t m columns) × (doubtBelow n t m columns ≤ m)
+  pub doubt-below-most : doubtBelow n t m columns ≤ m
   unfolding doubtBelow
-  doubt-below-most room = clamp-most m (belowOf n t (openAt columns) (gapAt columns)) room
+  doubt-below-most = clamp-most m (belowOf n t (openAt columns) (gapAt columns))
+
+  pub doubt-below-some : 1 ≤ m → 1 ≤ doubtBelow n t m columns
+  unfolding doubtBelow
+  doubt-below-some = clamp-some m (belowOf n t (openAt columns) (gapAt columns))
 
   pub closestOf-close : (q : ℕ) → List·Memᴰ q (closestOf n t m columns) → Close n t m (openAt columns) (gapAt columns) q
   unfolding closestOf
@@ -291,9 +300,9 @@ module _ (n t m : ℕ) (columns : ℕ → List ℕ) where
   unfolding closestOf
   closestOf-most = closest-most n t m (openAt columns) (gapAt columns)
 
-  pub closestOf-length : 1 ≤ m → blanksOf n columns < n → length (closestOf n t m columns) ≡ doubtBelow n t m columns
+  pub closestOf-length : blanksOf n columns < n → length (closestOf n t m columns) ≡ doubtBelow n t m columns
   unfolding closestOf doubtBelow
-  closestOf-length room few = closest-length n t m (openAt columns) (gapAt columns) room (omega (arith, open-count n columns))
+  closestOf-length few = closest-length n t m (openAt columns) (gapAt columns) (omega (arith, open-count n columns))
 
   pub closestOf-rising : Rising (closestOf n t m columns)
   unfolding closestOf

@@ -23,29 +23,29 @@ use Rattle.book.specs.Here.{reportLength, decodeOf, tableLength, tableBelowOf}
 use Rattle.decoding.specs.Asked.{Askable}
 use Rattle.table_decoding.specs.Tabled.{table-askable, table-answers}
 
-module _ (table : List ℕ) (t m : ℕ) (some : 1 ≤ m) (few : m ≤ mostDoubt) {costs : List ℕ} {picked : Picked}
+module _ (table : List ℕ) (t m : ℕ) (few : m ≤ mostDoubt) {costs : List ℕ} {picked : Picked}
     (c : costs ≡ costsFrom (places * symbols) table) (d : PickedOf (closestOf places t m (columnOf symbols costs)) picked)
     (rate : ℕ) (known : knownRate rate ≡ true) where
   abbrev doubt : ℕ
   doubt = doubtFor modem64 table t m
 
   doubt-few : doubt ≤ mostDoubt
-  doubt-few = omega (arith, doubt-for-most modem64 table t m some .1)
+  doubt-few = omega (arith, doubt-for-most modem64 table t m)
 
   counted : PickedOf (doubtfulOf places doubt (columnOf symbols costs)) picked
   unfolding tableColumns
   counted =
       picked-same
-      (closest-doubtful places t m (columnOf symbols costs) some
+      (closest-doubtful places t m (columnOf symbols costs)
       ∙ ap (λ (l : List ℕ). doubtfulOf places (doubtBelow places t m (columnOf symbols l)) (columnOf symbols costs)) c)
       d
 
   pub below-askable : Askable rate costs (picked .places) (picked .count)
   below-askable = table-askable table doubt doubt-few c counted rate known
 
-  pub below-answers : (message report : List ℕ) → length table ≡ tableLength → length message ≡ rate → length report ≡ reportLength
+  pub below-answers : 1 ≤ m → (message report : List ℕ) → length table ≡ tableLength → length message ≡ rate → length report ≡ reportLength
       → {a : Closed} → a ≡ decodeOf rate (columnOf symbols costs) (take (picked .count) (picked .places)) message report
       → a ≡ tableBelowOf rate table t m message report
-  below-answers message report whole long whole-report e =
+  below-answers some message report whole long whole-report e =
       table-answers table doubt doubt-few c counted rate known message report whole long whole-report e
       ∙ sym (below-as-table modem64 table t m some few rate message report)

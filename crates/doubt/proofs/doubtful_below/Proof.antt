@@ -24,7 +24,7 @@ picked-by-requires c κs = search needs
 returns : tie.Need-returns
 returns c =
     picked-same
-    (chosen-closest (c .before .before .before .keys-of .ensures) _ _ _ (omega arith) (omega arith)
+    (chosen-closest (c .before .before .before .keys-of .ensures) _ _ _ (omega arith)
     (c .before .clamp .ensures ∙ ap (clampOf _) (c .before .before .count-below .ensures)))
     (c .picked-by .ensures)
 

@@ -36,7 +36,7 @@ slice-aggregate-doubtful-below : tie.Need-slice-aggregate-doubtful-below
 slice-aggregate-doubtful-below c = search needs
 
 doubtful-below-requires : tie.Need-doubtful-below-requires
-doubtful-below-requires c κs = omega arith
+doubtful-below-requires c κs = search needs
 
 slice-aggregate-decode : tie.Need-slice-aggregate-decode
 slice-aggregate-decode c = search needs
@@ -47,7 +47,7 @@ decode-requires c κs =
     let k = passed _ _ _ _ _ (past .before .before .before .checks .ensures) (omega arith) in
     record {
       askable =
-          below-askable _ _ _ (past .before .if2 .left) (past .if3 .left) (c .before .before .before .before .before .before .table-from .ensures)
+          below-askable _ _ _ (omega arith) (c .before .before .before .before .before .before .table-from .ensures)
           (c .before .before .before .before .doubtful-below .ensures) _ (k .rated);
       message-long = k .long;
       report-long = k .whole-report;
@@ -63,9 +63,9 @@ returns-4 : tie.Need-returns-4
 returns-4 c =
     let past = c .before .before .before .before .before .before .before .before .before .before .before .before in
     let k = passed _ _ _ _ _ (past .before .before .before .checks .ensures) (omega arith) in
-    below-answers _ _ _ (past .before .if2 .left) (past .if3 .left)
+    below-answers _ _ _ (omega arith)
     (c .before .before .before .before .before .before .before .before .before .before .before .table-from .ensures)
-    (c .before .before .before .before .before .before .before .before .before .doubtful-below .ensures) _ (k .rated) _ _ (k .whole) (k .long)
+    (c .before .before .before .before .before .before .before .before .before .doubtful-below .ensures) _ (k .rated) (omega arith) _ _ (k .whole) (k .long)
     (k .whole-report) (c .before .before .before .before .decode .ensures)
 
 pub decode-table-below-spec : {M : Type 1} → statement M
