@@ -6,7 +6,7 @@
 --                          if the maximum is
 --   closest-smallest       the places chosen are the places of smallest gap, as many as that number says
 --   Close n t m counts gap q   what is said of a place that is chosen; closest-close, close-closest: it is chosen exactly if that holds
---   closest-first          the first place is chosen, whatever the threshold
+--   first-exists           where a place counts there is a first, one with none ahead of it; closest-first: it is chosen, whatever the threshold
 --   closest-reason         a place that is chosen is the first, or its gap is below the threshold
 --   closest-member         a place with a gap below the threshold is chosen, unless as many as the maximum are ahead of it
 --   closest-most           no more than the maximum are chosen; closest-length: and exactly the number above, where a place counts
@@ -30,16 +30,17 @@ use Prim.Native.Nat.{ℕ, suc, _<_, _≤_}
 use native.Mathlib.Decide.{decLe, ℕ-discrete}
 use native.Mathlib.Omega.{arith}
 use lib.Dec.{T, ltb, eqb, ltb→lt, lt→ltb, eqb→eq}
-use lib.ListN.{length}
+use lib.ListN.{length, getD}
 use borrow.Author.Tests.{lt-ltb, le-ltb, eq-eqb, ne-eqb}
 use Rattle.lists.specs.Count.{count, count-mono, count-strict, count-none, kept-ext, kept-length, kept-member, kept-passes, kept-rising, Rising}
+use Rattle.lists.specs.Member.{member-at}
 use Rattle.lists.specs.Every.{both-left, both-right, both-intro, T-true, true-T}
 use Rattle.soft.specs.Column.{ceiling, costOf, secondOf, doubtGapOf, isBlank}
 use Rattle.soft.specs.ColumnLaws.{PinnedSecond, doubt-gap-pinned}
 use Rattle.soft.specs.Blank.{openAt, blanksOf}
 use Rattle.soft.specs.BlankLaws.{open-count}
 use Rattle.soft.specs.Doubt.{ahead, aheadOf, fewAhead, smallest, gapAt, doubtfulOf}
-use Rattle.soft.specs.DoubtLaws.{ahead-cases, smaller-ahead, ahead-none, aheadOf-ext, smallest-length, smallest-most, smallest-ahead, pinned-behind}
+use Rattle.soft.specs.DoubtLaws.{ahead-cases, smaller-ahead, ahead-none, aheadOf-ext, smallest-length, smallest-most, smallest-below, smallest-counts, smallest-few, smallest-ahead, pinned-behind}
 use Rattle.soft.specs.Threshold.{isClose, closest, closestOf, belowOf, clampOf, doubtBelow}
 
 -- ---- the number chosen
@@ -172,6 +173,20 @@ pub closest-zero : (n m : ℕ) (counts : ℕ → Bool) (gap : ℕ → ℕ) → 1
 closest-zero n m counts gap room = closest-clear n 0 m counts gap room (λ p l e. omega arith)
 
 -- ---- the places chosen, one by one
+
+-- of the places that count one is the first
+pub first-exists : (n : ℕ) (counts : ℕ → Bool) (gap : ℕ → ℕ) (p : ℕ) → p < n → counts p ≡ true
+    → (q : ℕ) × (q < n) × (counts q ≡ true) × (aheadOf n counts gap q ≡ 0)
+first-exists n counts gap p l c =
+    let one : List ℕ = smallest n 1 counts gap in
+    let q : ℕ = getD one 0 0 in
+    let s : List·Memᴰ q one = member-at one 0 0 (omega (arith, smallest-length n gap counts 1 (omega (arith, some)))) in
+    (q, smallest-below n gap counts 1 q s, smallest-counts n gap counts 1 q s, omega (arith, smallest-few n gap counts 1 q s))
+  where
+    some : 0 < count n counts
+    some =
+        subst (λ x. x < count n counts) (count-none n (λ k. false) (λ k h. refl))
+        (count-strict n p (λ k. false) counts (λ k h u. absurd u) l (λ u. u) (true-T (counts p) c))
 
 pub record Close (n t m : ℕ) (counts : ℕ → Bool) (gap : ℕ → ℕ) (q : ℕ) : Type 0 where
   pub in-range : q < n
