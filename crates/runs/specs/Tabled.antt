@@ -1,4 +1,5 @@
--- Demand 2's last sentence, of calls: 'Table decoding … answers as a session opened with them does', with the doubtful places that it picks.
+-- Demand 2's last sentence, of calls: 'Table decoding … answers as a session opened with them does', with the doubtful places that it picks by doubt or by
+-- threshold.
 --
 --   HoldsTable table row   each of the 64 places is in the row, with its column of the table
 --   picked-accepted      opening with the places picked accepts
@@ -11,13 +12,15 @@
 --   brought-since        a place holds the one column that was delivered since it was last withdrawn, whatever came before, in between and after
 --   brings-holds         such calls leave the table's columns in the row
 --   table-as-calls       so closing after them answers as table decoding does
+--   picked-below-accepted, below-as-run, below-as-calls   the same three of table decoding by a threshold, with the places that the threshold picks
 use mathlib.Core.Bool.{Bool, true, false, cond}
-use mathlib.Core.Path.{_≡_, refl, sym, ap, ap₂, _∙_}
+use mathlib.Core.Path.{_≡_, refl, sym, ap, ap₂, _∙_, subst}
 use mathlib.Core.List.{List, [], _∷_, _++_, List·Memᴰ, List·Memᴰ·head, List·Memᴰ·tail, List·Memᴰ·cases-cons, List·Memᴰ·not-nil}
 use mathlib.Core.Logic.{_⊎_, inl, inr, ⊎-elim}
 use mathlib.Core.Option.{Option, none, some, Option·none-ne-some}
 use Prim.Native.Nat.{ℕ, _<_, _≤_}
 use native.Mathlib.Decide.{ℕ-discrete}
+use native.Mathlib.Omega.{arith}
 use lib.Dec.{eqb}
 use lib.ListN.{length}
 use borrow.Author.Tests.{eqb-true, eq-eqb}
@@ -38,7 +41,8 @@ use Rattle.book.specs.CallLaws.{Changes, only-changes, rate-held, list-held}
 use Rattle.book.specs.Undone.{Spares}
 use Rattle.book.specs.Sentences.{closing-alike}
 use Rattle.book.specs.Table.{picked-fit, table-as-session}
-use Rattle.book.specs.Here.{places, openOf, withdrawOf, closeOf, tableLength, tableColumns, pickedOf, tableOf, Delivered}
+use Rattle.book.specs.Below.{doubtFor, doubt-for-most, below-picked, below-as-table}
+use Rattle.book.specs.Here.{places, openOf, withdrawOf, closeOf, tableLength, tableColumns, pickedOf, tableOf, pickedBelow, tableBelowOf, Delivered}
 use Rattle.session.specs.declared.Session.{Session}
 use Rattle.session.specs.declared.Opened.{Opened}
 use Rattle.session.specs.View.{bookOf, Good}
@@ -210,3 +214,34 @@ module _ {rate : ℕ} (known : Rate rate) (table : List ℕ) (whole : length tab
       → {message report : List ℕ} {a : Answer} {u : Session} → Step t (closing message report) a u
       → closedBy a ≡ tableOf rate table doubt message report
   table-as-calls run brings step = table-as-run run (brings-holds brings rate (pickedOf table doubt)) step
+
+-- ---- the same by a threshold: with the doubt that is counted the places picked are the same, and so is the answer
+
+module _ {rate : ℕ} (known : Rate rate) (table : List ℕ) (whole : length table ≡ tableLength) (t m : ℕ) (few : m ≤ mostDoubt) {r : Opened}
+    (opened : Opening (openOf rate (pickedBelow table t m)) r) where
+  abbrev counted : ℕ
+  counted = doubtFor modem64 table t m
+
+  counted-few : counted ≤ mostDoubt
+  counted-few = omega (arith, doubt-for-most modem64 table t m)
+
+  counted-opened : Opening (openOf rate (pickedOf table counted)) r
+  counted-opened = subst (λ (list : List ℕ). Opening (openOf rate list) r) (below-picked modem64 table t m) opened
+
+  pub picked-below-accepted : r .refusal ≡ accepted
+  picked-below-accepted = picked-accepted known table whole counted counted-few counted-opened
+
+  module _ (room : 1 ≤ m) where
+    pub below-as-run : {calls : List Call} {given : List Answer} {s : Session} → Run (r .session) calls given s
+        → HoldsTable table (afterAll (newBook rate (pickedBelow table t m)) calls .row)
+        → {message report : List ℕ} {a : Answer} {u : Session} → Step s (closing message report) a u
+        → closedBy a ≡ tableBelowOf rate table t m message report
+    below-as-run {calls} run holds {message} {report} step =
+        table-as-run known table whole counted counted-few counted-opened run
+        (subst (λ (list : List ℕ). HoldsTable table (afterAll (newBook rate list) calls .row)) (below-picked modem64 table t m) holds) step
+        ∙ sym (below-as-table modem64 table t m room few rate message report)
+
+    pub below-as-calls : {calls : List Call} {given : List Answer} {s : Session} → Run (r .session) calls given s → BringsTable table calls
+        → {message report : List ℕ} {a : Answer} {u : Session} → Step s (closing message report) a u
+        → closedBy a ≡ tableBelowOf rate table t m message report
+    below-as-calls run brings step = below-as-run run (brings-holds brings rate (pickedBelow table t m)) step
