@@ -4,6 +4,7 @@
 --   least-unique         a space has at most one
 --   least-same           it depends on the elements of W alone
 --   held-least           of a basis, the row of smallest lead among the classes that are not spent, divided by its leading coefficient, is least
+--   class-lead           the row of an element's class has no larger lead than the element
 --   held-exists          where an element of W has a lead up to the limit, such a row exists,
 --   least-exists         and so does the least element
 --   all-spent            where every class is spent, every lead is above the limit
@@ -69,7 +70,7 @@ module _ {F : Type 0} (K : Field F) where
 
     module _ (positive : 0 < s) where
       -- the class of an element is spent only if its lead is above the limit
-      class-lead : {c : ℕ → F} {m : ℕ} → W c → Lead K c m → (m % s < s) × (l (m % s) ≤ m)
+      pub class-lead : {c : ℕ → F} {m : ℕ} → W c → Lead K c m → (m % s < s) × (l (m % s) ≤ m)
       class-lead {c} {m} h e =
           let q : m % s < s = mod-lt m positive in
           (q, B .least (m % s) q c m (record { member = h; leads = e; class = refl }))

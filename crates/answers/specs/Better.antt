@@ -177,5 +177,5 @@ sound-better {k} {columns} {a} {b} s r = sound-counted (a .tests + b .tests) (go
     go NoneNear y e f = r
     go (Near t d) NoneNear e f = s
     go (Near t d) (Near u g) e f =
-        one (isBetter k t (a .message) u (b .message)) (isBetter k u (b .message) t (a .message)) (sound-answering _ (total-near e) s)
-        (sound-answering _ (total-near f) r) (sound-answering _ (total-near f) r)
+        one (isBetter k t (a .message) u (b .message)) (isBetter k u (b .message) t (a .message)) (sound-answering _ (s .cost _ (total-near e)) s)
+        (sound-answering _ (r .cost _ (total-near f)) r) (sound-answering _ (r .cost _ (total-near f)) r)

@@ -3,7 +3,7 @@
 --   Nearest k columns tests f          how many test words have a codeword within T, and document 01's result of them
 --   nearest-nobody, nearest-somebody   what it says of the near codewords, by the answer found
 --   nearest-margin                     and of the runner-up
---   nearest-nothing, nearest-some      what is to be known for it, by the answer found
+--   nearest-none, nearest-some         what is to be known for it, by the answer found
 use mathlib.Core.Path.{_≡_, refl, sym, ap, ap₂, _∙_}
 use mathlib.Core.List.{List}
 use mathlib.Core.Option.{Option, some, none}
@@ -20,7 +20,7 @@ use Rattle.answers.specs.declared.Answer.the-variants.{NoneNear, Near}
 use Rattle.answers.specs.declared.Found.{Found}
 use Rattle.near.specs.Result.{Result, refusedResult}
 use Rattle.near.specs.Result as Family
-use Rattle.answers.specs.Result.{resultIn, resultFor, resultOf, totalIs, nothingFound}
+use Rattle.answers.specs.Result.{resultIn, resultFor, resultOf, totalIs, total-none}
 use Rattle.family.specs.Member.{m16}
 use Rattle.soft.specs.Blank.{openAt}
 
@@ -68,16 +68,19 @@ module _ {k : ℕ} {columns : ℕ → List ℕ} {ts : List (List ℕ)} where
       where
         go : (a : Answer) → f .answer ≡ a → totalIs a ≡ some t
             → (answerOf k columns ts ≡ some (take k (f .message))) × (t ≡ messageCost k columns (take k (f .message)))
-        go NoneNear q h = let z : _≡_ {A = ℕ} 0 1 = cc in absurd (omega arith)
+        go NoneNear q h = absurd (total-none refl h)
         go (Near u d) q h = let s : t ≡ u = cc in let r = told u d q in (r .0, s ∙ r .1)
 
     pub nearest-margin : (t : ℕ) (d : Margin) → f .answer ≡ Near t d → marginIs d ≡ marginOf k columns ts (take k (f .message))
     nearest-margin t d e = told t d e .2
 
-  pub nearest-nothing : answerOf k columns ts ≡ none → Nearest k columns ts nothingFound
-  unfolding nothingFound resultIn Family.resultOf Family.resultFor
-  nearest-nothing e =
-      record { count = sym (tests-answerless m16 (openAt columns) (reachIn k columns) k columns ts e); result = sym (ap (resultFor k columns ts) e) }
+  pub nearest-none : {f : Found} → f .answer ≡ NoneNear → f .tests ≡ 0 → answerOf k columns ts ≡ none → Nearest k columns ts f
+  unfolding resultIn Family.resultOf Family.resultFor
+  nearest-none {f} a z e =
+      record {
+        count = z ∙ sym (tests-answerless m16 (openAt columns) (reachIn k columns) k columns ts e);
+        result = ap (λ x. resultIn k x (f .message)) a ∙ sym (ap (resultFor k columns ts) e);
+      }
 
   pub nearest-some : (f : Found) (t : ℕ) (d : Margin) → f .answer ≡ Near t d → testsNear k columns ts ≡ f .tests
       → answerOf k columns ts ≡ some (take k (f .message)) → t ≡ messageCost k columns (take k (f .message))

@@ -2,7 +2,7 @@
 --
 --   resultIn k answer message  the result of an answer with the message beside it: 9 where none is near; else 0, the first k symbols, the total
 --                              and the margin
---   totalIs answer             the total, if a codeword is near; total-near: where one is
+--   totalIs answer             the total, if a codeword is near; total-near: where one is; total-none: where none is, there is none
 --   resultFor, resultOf        the result of an answer's message and of a list of test words, as the family has them
 --   nothingFound               none near, and zeros beside it
 --   foundOf k columns tests    the answer with its total and its margin, its message with zeros behind it, its codeword, and how many test words
@@ -12,6 +12,7 @@ use mathlib.Core.Path.{_≡_, ap}
 use mathlib.Core.List.{List}
 use mathlib.Core.Option.{Option, none, some}
 use Prim.Native.Nat.{ℕ}
+use native.Mathlib.Omega.{arith}
 use lib.ListN.{take, replicate}
 use Rattle.refusals.specs.Refusal.{accepted, noneNear}
 use Rattle.lists.specs.Padded.{padded}
@@ -40,6 +41,10 @@ totalIs (Near t d) = some t
 pub total-near : {a : Answer} {t : ℕ} {d : Margin} → a ≡ Near t d → totalIs a ≡ some t
 unfolding totalIs
 total-near e = ap totalIs e
+
+pub total-none : {a : Answer} {t : ℕ} → a ≡ NoneNear → totalIs a ≡ some t → ⊥
+unfolding totalIs
+total-none e h = let z : _≡_ {A = ℕ} 0 1 = cc in omega arith
 
 abbrev pub resultFor : ℕ → (ℕ → List ℕ) → List (List ℕ) → Option (List ℕ) → Result
 resultFor k columns tests o = Family.resultFor m16 (openAt columns) (reachIn k columns) k columns tests o

@@ -8,6 +8,7 @@ ghost use Rattle.lists.specs.Words.{isBefore};
 ghost use Rattle.totals.specs.Margin.{marginIs};
 ghost use Rattle.code.specs.Rates.{mostRate};
 ghost use Rattle.answers.specs.Result.{nothingFound};
+ghost use Rattle.answers.specs.Answered.{missedOf, toldOf};
 ghost use Rattle.answers.specs.Better.{betterOf};
 use candidate::Message;
 use candidate::Word;
@@ -22,7 +23,8 @@ pub enum Answer {
     Near { total: u32, margin: Margin },
 }
 
-// The message in the first k entries, where k is the rate, and its codeword; and how many test words have a codeword within T.
+// The message in the first k entries, where k is the rate, and its codeword; and how many test words have a codeword within T. In a search a
+// codeword stands beside 'none near' too: one that is known, near or not.
 pub struct Found {
     pub answer: Answer,
     pub message: Message,
@@ -39,6 +41,31 @@ pub fn none_near() -> Found
         codeword: [0u8; PLACES],
         tests: 0,
     }
+}
+
+// What is found where no codeword is near: the known one still stands beside it.
+pub fn missed(known: Found) -> Found
+    ensures { λ r. ⌜ r ≡ missedOf known ⌝ }
+{
+    let message = known.message;
+    let codeword = known.codeword;
+    Found {
+        answer: Answer::NoneNear,
+        message,
+        codeword,
+        tests: 0,
+    }
+}
+
+// What a search tells of its finding: beside 'none near' stand zeros.
+pub fn told(found: Found) -> Found
+    ensures { λ r. ⌜ r ≡ toldOf found ⌝ }
+{
+    let answer = found.answer;
+    if let Answer::NoneNear = answer {
+        return none_near();
+    }
+    found
 }
 
 // Compared from symbol 0 on.

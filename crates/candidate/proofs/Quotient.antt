@@ -2,7 +2,7 @@
 use mathlib.Core.Bool.{Bool}
 use mathlib.Core.Path.{_≡_, sym, ap, ap₂, _∙_, subst, subst₂, fun-ext}
 use mathlib.Core.List.{List}
-use Prim.Native.Nat.{ℕ}
+use Prim.Native.Nat.{ℕ, _+_, _<_}
 use native.Mathlib.Nat.{zero-add}
 use native.Mathlib.Decide.{decLt}
 use native.Mathlib.Omega.{arith}
@@ -24,10 +24,9 @@ use Rattle.interpolation.specs.Polynomial.{part, polynomial, polynomial-plain, 
 use Rattle.code.specs.Encoding.{encodeOf}
 use Rattle.code.specs.Rates.{mostRate}
 use Rattle.soft.specs.Column.{places, symbols}
-use Rattle.near.specs.Here.{mOf, Workable, genus-4}
+use Rattle.near.specs.Here.{mOf, Workable}
 use Rattle.family.specs.Member.{m16}
 use Rattle.near.specs.Near.{nearTo}
-use Rattle.near.specs.Reach.{Repairable}
 use Rattle.near.specs.Codeword.{symbolsOf-at, messageFrom, messageFrom-word}
 use Rattle.near.specs.Held.{message-in, held-lead, held-divides}
 use Rattle.candidate.specs.declared.Candidate.{Candidate}
@@ -52,21 +51,22 @@ module _ {k : ℕ} (rate : Ranged k) (row function : List ℕ) (divided : Divide
   candidate-word : Word symbols k (listed k (symbolIn function))
   candidate-word = subst (Word symbols k) (sym candidate-is) (messageFrom-word m16 k (coef function))
 
-  only : (counts : ℕ → Bool) (reach : ℕ) → Repairable m16 counts reach k → (word : List ℕ) → HeldIn counts reach k word row → (m : List ℕ)
+  only : (counts : ℕ → Bool) (reach : ℕ) (word : List ℕ) → HeldIn counts reach k word row → (m : List ℕ)
       → Found symbols k (nearTo m16 counts reach k word) m → listed k (symbolIn function) ≡ m
-  only counts reach repairs word h m f =
+  only counts reach word h m f =
       let w : Workable k = workable rate in
-      let j = held-lead m16 counts reach w repairs h f in
+      let j = held-lead m16 counts reach w h f in
+      let fits : j .0 + mOf k < places = omega (arith, j .1, h .decides, count-le places counts) in
       candidate-is
       ∙ ap (messageFrom m16 k)
       (divided .exact (j .0)
       (record {
         leads = subst (λ g. Lead K16 g (j .0)) (sym (z-is row (mOf k))) (j .2);
-        powers-fit = omega (arith, j .1, repairs, count-le places counts, genus-4, top-small rate);
-        terms-fit = omega (arith, j .1, repairs, count-le places counts, genus-4);
+        powers-fit = omega (arith, fits, top-small rate);
+        terms-fit = fits;
       })
       ∙ ap₂ (λ r q. quotient K16 xOrder (j .0) r (mOf k) q) (z-is row (mOf k)) (plain-is row (mOf k)))
-      ∙ held-divides m16 counts reach w repairs h f (j .2)
+      ∙ held-divides m16 counts reach w h f (j .2)
 
 -- from the steps of the code
 pub candidate-made : {k : ℕ} → Ranged k → (row function q0 q1 : List ℕ) (m : ℕ) (r : Candidate) → q0 ≡ listed plainWidth (plainAt row) → q1 ≡ listed plainWidth (zAt row)
@@ -83,5 +83,5 @@ candidate-made {k} rate row function q0 q1 m r q0-is q1-is m-is quotient-is mess
       word = subst (Word symbols k) (sym front) (candidate-word rate row function divided);
       behind = message-is ∙ ap (padded mostRate) (sym front);
       encoded = encoded;
-      only = λ counts reach repairs word h n f. sym (only rate row function divided counts reach repairs word h n f) ∙ sym front;
+      only = λ counts reach word h n f. sym (only rate row function divided counts reach word h n f) ∙ sym front;
     }

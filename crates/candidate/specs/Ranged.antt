@@ -8,7 +8,9 @@
 --   limit-small     the limit of keys is at most 127, the largest key that a row has room for
 use Prim.Native.Nat.{ℕ, _≤_}
 use native.Mathlib.Omega.{arith}
+use Rattle.hermitian.specs.Orders.{orderOf-most}
 use Rattle.hermitian.specs.Repair.{limit}
+use Rattle.rows.specs.Rows.{xOrder}
 use Rattle.code.specs.Rates.{mostRate}
 use Rattle.near.specs.Here.{mOf, reachOf, Workable, genus-4, limitOf, workable as within}
 use Rattle.near.specs.Interpolated as Interpolated
@@ -35,4 +37,4 @@ reach-small k b = omega arith
 
 pub limit-small : {k : ℕ} → Ranged k → (b : ℕ) → limitOf k b ≤ 127
 unfolding Interpolated.limitOf limit Near.reachOf Near.blankLimit genus Near.mOf
-limit-small h b = omega (arith, genus-4)
+limit-small {k} h b = omega (arith, orderOf-most xOrder (omega arith) (reachOf k b), genus-4)

@@ -1,4 +1,4 @@
-// The candidate of one test word: the message that a row holds, by division, and its codeword. It knows of no costs, no tree and no answer.
+// The candidate of a row: the message that it holds, by division, and its codeword. It knows of no costs, no tree and no answer.
 pub mod rate;
 
 ghost use mathlib.Core.Path.{_≡_};
@@ -57,7 +57,7 @@ fn encoded(message: Message, k: usize) -> Word
     codeword_of(&message[0..k])
 }
 
-// What a row holds: the only message whose codeword can be within T of a word that the row passes through.
+// What a row holds: the only message whose codeword can be within T of a word that the row decides.
 pub fn candidate_of(row: Row, k: usize) -> Candidate
     requires { ⌜ Ranged k ⌝ }
     ensures { λ r. ⌜ CandidateOf k row r ⌝ }

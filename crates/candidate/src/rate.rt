@@ -5,6 +5,7 @@ ghost use Prim.Native.Nat.{_-_, _≤_};
 ghost use Rattle.soft.specs.Column.{places};
 ghost use Rattle.near.specs.Here.{mOf, blankLimit, reachOf, limitOf};
 ghost use Rattle.candidate.specs.Ranged.{Ranged};
+use encoding::order;
 use interpolation::PLACES;
 
 // The rates that rows have room for.
@@ -47,10 +48,10 @@ pub fn reach(k: usize, blanks: usize) -> usize
     (blank_limit(k) - blanks) / 2
 }
 
-// 2(T + g + M) + 1: the largest key that decoding needs.
+// 2(o + M) + 1, where o is the order of message symbol T: T places have a locator up to it. The largest key that decoding needs.
 pub fn largest_key(k: usize, blanks: usize) -> usize
     requires { ⌜ Ranged k × (blanks ≤ blankLimit k) ⌝ }
     ensures { λ r. ⌜ r ≡ limitOf k blanks ⌝ }
 {
-    2 * (reach(k, blanks) + GENUS + top_order(k)) + 1
+    2 * (order(reach(k, blanks)) + top_order(k)) + 1
 }

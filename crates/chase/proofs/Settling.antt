@@ -40,7 +40,7 @@ use Rattle.answers.specs.Nearest.{Nearest}
 use Rattle.candidate.specs.Ranged.{Ranged}
 use Rattle.candidate.specs.Marked.{Marked, limit-marked}
 use Rattle.tree.specs.Searching.{SearchOf}
-use Rattle.answers.specs.Answered.{Sound, found-is}
+use Rattle.answers.specs.Answered.{Sound, toldOf, told-is}
 
 -- ---- known rates
 
@@ -144,7 +144,7 @@ module _ (k : ℕ) (costs doubtful : List ℕ) (doubt : ℕ) (f : Found) (counts
       → (Places places (take (picked .count) (picked .places)) → Flagged places (flagAt counts) (take (picked .count) (picked .places)) flags) → m ≡ mOf k
       → L ≡ limitOf k b → Basis K16 classes L (ThroughNodes m (settled word flags places)) (polynomials m rows) (leadAt leads)
       → SearchOf k columns word (drop (picked .count - picked .count) (take (picked .count) (picked .places))) rows leads (picked .count) f
-      → Sound k columns f → f ≡ nearestOf k costs doubtful doubt
+      → Sound k columns f → toldOf f ≡ nearestOf k costs doubtful doubt
   unfolding testWords
   root word flags rows leads m L picked A M w-is D flagged m-is L-is B S sound =
       let z : picked .count - picked .count ≡ 0 = omega arith in
@@ -167,4 +167,4 @@ module _ (k : ℕ) (costs doubtful : List ℕ) (doubt : ℕ) (f : Found) (counts
             (L-is ∙ limit-marked M) B;
       })
       P) in
-      found-is N sound ∙ sym (nearest-asked k costs doubtful doubt A)
+      told-is N sound ∙ sym (nearest-asked k costs doubtful doubt A)

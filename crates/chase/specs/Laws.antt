@@ -7,12 +7,13 @@
 use mathlib.Core.Bool.{Bool, true, false, cond, _&&_, false≢true}
 use mathlib.Core.Path.{_≡_, refl, sym, ap, _∙_, subst}
 use mathlib.Core.List.{List}
+use mathlib.Core.Option.{some}
 use Prim.Native.Nat.{ℕ, _*_, _≤_}
 use lib.Dec.{leb, eqb}
 use lib.ListN.{length, take}
 use borrow.Author.Tests.{eq-eqb, eqb-true, le-leb, leb-true}
 use Rattle.lists.specs.Distinct.{below, distinct, and-left, and-right, and-both}
-use Rattle.code.specs.Encoding.{knownRate}
+use Rattle.code.specs.Encoding.{encodeOf, knownRate}
 use Rattle.code.specs.Rates.{known-bounds}
 use Rattle.soft.specs.Column.{places, symbols, columnOf}
 use Rattle.soft.specs.Doubt.{mostDoubt}
@@ -21,9 +22,9 @@ use Rattle.near.specs.Here.{blankLimit, blanksIn}
 use Rattle.near.specs.Tree.{places-of, places-test}
 use Rattle.near.specs.Flags as Family
 use Rattle.answers.specs.declared.Found.{Found}
-use Rattle.answers.specs.Result.{nothingFound, foundOf}
+use Rattle.answers.specs.Result.{totalIs, total-none, nothingFound, foundOf}
 use Rattle.answers.specs.Nearest.{Nearest}
-use Rattle.answers.specs.Answered.{Sound, sound-nothing, found-nearest, found-sound}
+use Rattle.answers.specs.Answered.{Sound, found-nearest, found-sound}
 use Rattle.chase.specs.Call.{Asked, wellFormed, askedOf, nearestOf, NearestCall}
 
 module _ (rate : ℕ) (costs doubtful : List ℕ) (doubt : ℕ) where
@@ -82,19 +83,21 @@ module _ (rate : ℕ) (costs doubtful : List ℕ) (doubt : ℕ) where
       go false e = refl
 
   pub nearest-call : (f : Found) → f ≡ nearestOf rate costs doubtful doubt → NearestCall rate costs doubtful doubt f
+  unfolding nothingFound
   nearest-call f e =
       record {
         asked = λ A.
             subst (Nearest rate (columnOf symbols costs) (testWords places (columnOf symbols costs) (take doubt doubtful))) (sym (e ∙ nearest-asked A))
             (found-nearest rate (columnOf symbols costs) (testWords places (columnOf symbols costs) (take doubt doubtful)) (known-bounds rate (A .known) .1));
         refused = λ n. e ∙ nearest-unasked n;
-        encoded = go (askedOf rate costs doubtful doubt) refl .encoded;
+        encoded = go (askedOf rate costs doubtful doubt) refl;
       }
     where
-      go : (b : Bool) → askedOf rate costs doubtful doubt ≡ b → Sound rate (columnOf symbols costs) f
-      go true q =
+      go : (b : Bool) → askedOf rate costs doubtful doubt ≡ b → (t : ℕ) → totalIs (f .answer) ≡ some t → f .codeword ≡ encodeOf rate (take rate (f .message))
+      go true q t h =
           let A = asked-yes q in
           subst (Sound rate (columnOf symbols costs)) (sym (e ∙ nearest-asked A))
-          (found-sound rate (columnOf symbols costs) (testWords places (columnOf symbols costs) (take doubt doubtful)) (known-bounds rate (A .known) .1))
-      go false q =
-          subst (Sound rate (columnOf symbols costs)) (sym (e ∙ nearest-unasked (λ A. false≢true (sym q ∙ asked-is A)))) sound-nothing
+          (found-sound rate (columnOf symbols costs) (testWords places (columnOf symbols costs) (take doubt doubtful)) (known-bounds rate (A .known) .1)) .encoded
+      go false q t h =
+          let z = e ∙ nearest-unasked (λ A. false≢true (sym q ∙ asked-is A)) in
+          absurd (total-none (ap (λ (g : Found). g .answer) z) h)

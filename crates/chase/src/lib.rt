@@ -11,6 +11,7 @@ ghost use Rattle.chase.specs.Places.{arePlaces, Flagged};
 ghost use Rattle.chase.specs.Call.{wellFormed, nearestOf};
 use answers::Found;
 use answers::none_near;
+use answers::told;
 use basis::CLASSES;
 use candidate::rate::LEAST_RATE;
 use candidate::rate::MOST_RATE;
@@ -149,7 +150,7 @@ pub fn nearest(rate: usize, costs: &[u16], doubtful: [u8; MOST_DOUBT], doubt: us
         doubt: count,
         left: count,
     };
-    search(
+    told(search(
         rows,
         leads,
         word,
@@ -159,5 +160,5 @@ pub fn nearest(rate: usize, costs: &[u16], doubtful: [u8; MOST_DOUBT], doubt: us
         none_near(),
         counts,
         blank,
-    )
+    ))
 }

@@ -1,79 +1,73 @@
 -- Single steps of the functions, over plain lists and numbers, for any number of symbols.
 --
---   bestBut-turn, bestBut-small   the best symbol so far, one symbol more; of n symbols it is one of them
---   best-of, second-of, gap-fits, gap-of, doubt-gap-of   best, second and gap of a column of n costs, and the gap as it counts
+--   least-number, next-number   the least number of a column of n costs is the best symbol's, and the next is the second's
+--   number-fits            which is below a bound that all are below
 --   pair-missing           two bytes past the end
---   column-missing, cost-missing   a place past the last costs
+--   column-part, column-missing, cost-missing   a place that has its first costs, or none
 --   open-missing           a place that lacks all its costs is blank
 --   open-start, open-differs, open-none   its costs compared with the first: before the second one, where one differs, where none does
 --   columns-start, columns-turn, columns-end   the columns of a frame's places stored one after the other: before the first, at each, after the last
 use mathlib.Core.Bool.{Bool, true, false, not}
-use mathlib.Core.Path.{_≡_, refl, sym, ap, ap₂, _∙_, subst, subst₂}
+use mathlib.Core.Path.{_≡_, refl, sym, ap, ap₂, _∙_}
 use mathlib.Core.List.{List, _++_, append-nil}
 use mathlib.Core.Logic.{_≢_}
 use Prim.Native.Nat.{ℕ, _+_, _-_, _*_, _^_, _≤_, _<_}
 use native.Mathlib.Nat.{mul-zero, mul-suc, mul-comm}
+use native.Mathlib.Decide.{decLt}
 use native.Mathlib.Numerals.{add-one}
 use native.Mathlib.Omega.{arith}
 use lib.ListN.{length, getD, take, drop, length-drop, replicate, getD-replicate, length-replicate, List·getD-eq-default, drop-of-length-le}
 use lib.Seq.{length-take-le}
 use borrow.Rule.Slice.PartMut.{putMid}
+use Rattle.lists.specs.Least.{leastOf, nextOf}
 use Rattle.lists.specs.Listed.{listed, listed-by}
+use Rattle.lists.specs.Passed.{Passed, passed-start}
 use Rattle.lists.specs.Stored.{stored-part}
-use Rattle.soft.specs.Column.{costOf, pairAt, costAt, columnOf, bestBut, betterIn, bestOf, secondOf, gapOf, countedGap, doubtGapOf, isBlank}
-use Rattle.soft.specs.ColumnLaws.{bestBut-suc, bestBut-below, best-least, second-below, column-length, cost-column}
+use Rattle.soft.specs.Column.{costOf, pairAt, costAt, columnOf, bestOf, secondOf, numberOf, isBlank}
+use Rattle.soft.specs.ColumnLaws.{second-below, best-number, second-number, column-length, cost-column}
 use Rattle.soft.specs.Blank.{openAt}
 use Rattle.soft.specs.BlankLaws.{blank-same, column-none}
 use Rattle.soft.specs.Bits.{symbolCost, bitColumn, valuesAt, bitColumns, bitCosts}
 use Rattle.soft.specs.BitsLaws.{bit-costs-suc, bit-costs-length}
 
-pub bestBut-turn : (column : List ℕ) (b n held r : ℕ) → held ≡ bestBut column b n → r ≡ betterIn column b held n → r ≡ bestBut column b (n + 1)
-bestBut-turn column b n held r e f =
-    f ∙ ap (λ h. betterIn column b h n) e ∙ sym (bestBut-suc column b n) ∙ ap (λ k. bestBut column b k) (sym (add-one n))
+-- in a column of n costs, n at least two: the least number, and the next
+module _ {n : ℕ} (column : List ℕ) (l : length column ≡ n) (two : 1 < n) where
+  module _ (above : ℕ) (most : (s : ℕ) → s < n → numberOf n column s < above) where
+    pub least-number : (r : ℕ) → r ≡ leastOf above n (numberOf n column) → r ≡ numberOf n column (bestOf column)
+    least-number r e =
+        e ∙ ap (λ k. leastOf above k (numberOf n column)) (sym l)
+        ∙ best-number column (omega arith) n (omega arith) above (λ s h. omega (arith, most s (omega arith)))
 
-pub bestBut-small : {n : ℕ} (column : List ℕ) (b r : ℕ) → 1 < n → r ≡ bestBut column b n → r < n
-bestBut-small {n} column b r two e = subst (λ s. s < n) (sym e) (bestBut-below column b n n (omega arith) two)
+    pub next-number : (r : ℕ) → r ≡ nextOf above n (numberOf n column) → r ≡ numberOf n column (secondOf column)
+    next-number r e =
+        e ∙ ap (λ k. nextOf above k (numberOf n column)) (sym l)
+        ∙ second-number column (omega arith) n (omega arith) above (λ s h. omega (arith, most s (omega arith)))
 
--- in a column of n costs
-module _ {n : ℕ} (column : List ℕ) (r : ℕ) (l : length column ≡ n) where
-  pub best-of : r ≡ bestBut column n n → r ≡ bestOf column
-  unfolding bestOf
-  best-of e = e ∙ ap (λ k. bestBut column k k) (sym l)
-
-  pub second-of : (b : ℕ) → b ≡ bestOf column → r ≡ bestBut column b n → r ≡ secondOf column
-  unfolding secondOf
-  second-of b f e = e ∙ ap₂ (λ x k. bestBut column x k) f (sym l)
-
-module _ {n : ℕ} (column : List ℕ) (r s : ℕ) (l : length column ≡ n) (best : r ≡ bestBut column n n) (second : s ≡ bestBut column r n) where
-  pub gap-fits : 1 < n → costOf column r ≤ costOf column s
-  gap-fits two =
-      subst₂ (λ x y. costOf column x ≤ costOf column y) (sym (best-of column r l best)) (sym (second-of column s l r (best-of column r l best) second))
-      (best-least column (omega arith) (secondOf column) (second-below column (omega arith)))
-
-  pub gap-of : costOf column s - costOf column r ≡ gapOf column
-  unfolding gapOf
-  gap-of =
-      ap₂ (λ x y. costOf column x - costOf column y) (second-of column s l r (best-of column r l best) second) (best-of column r l best)
-
-  pub doubt-gap-of : countedGap (costOf column r) (costOf column s) ≡ doubtGapOf column
-  unfolding doubtGapOf
-  doubt-gap-of =
-      ap₂ (λ x y. countedGap (costOf column x) (costOf column y)) (best-of column r l best) (second-of column s l r (best-of column r l best) second)
+    pub number-fits : numberOf n column (secondOf column) < above
+    number-fits = most (secondOf column) (omega (arith, second-below column (omega arith)))
 
 -- a pair of bytes: both missing, or the first present
 pub pair-missing : (bytes : List ℕ) (i : ℕ) → length bytes ≤ i → 0 ≡ pairAt bytes i
 pair-missing bytes i h =
     sym (ap₂ (λ x y. x * 256 + y) (List·getD-eq-default bytes 0 h) (List·getD-eq-default bytes 0 (omega arith)))
 
--- a place past the last costs
-module _ (q : ℕ) (costs : List ℕ) (p : ℕ) (h : length costs < p * q) where
-  pub column-missing : replicate q 0 ≡ columnOf q costs p
+-- a place of a list of costs that has its first n, and past the last costs none
+module _ (q : ℕ) (costs : List ℕ) (p : ℕ) where
+  pub column-part : (n : ℕ) (out : List ℕ) → length costs ≤ p * q + n → Passed 0 (λ s c. c ≡ costAt q costs p s) 0 n (replicate q 0) out
+      → out ≡ columnOf q costs p
   unfolding columnOf
-  column-missing =
-      listed-by 0 q _ (costAt q costs p) (length-replicate q 0) (λ s l. getD-replicate q s 0 0 l ∙ sym (List·getD-eq-default costs 0 (omega arith)))
+  column-part n out h t =
+      listed-by 0 q out (costAt q costs p) (t .as-long ∙ length-replicate q 0) (λ s l. at s l (decLt s n))
+    where
+      at : (s : ℕ) → s < q → Dec (s < n) → getD out s 0 ≡ costAt q costs p s
+      at s l (yes k) = t .stored s (omega arith) k
+      at s l (no k) = t .later s (omega arith) ∙ getD-replicate q s 0 0 l ∙ sym (List·getD-eq-default costs 0 (omega arith))
 
-  pub cost-missing : (s : ℕ) → s < q → 0 ≡ costOf (columnOf q costs p) s
-  cost-missing s l = sym (cost-column q costs p s l ∙ List·getD-eq-default costs 0 (omega arith))
+  pub column-missing : length costs < p * q → replicate q 0 ≡ columnOf q costs p
+  column-missing h = column-part 0 (replicate q 0) (omega arith) (passed-start 0 _ 0 (replicate q 0))
+
+  pub cost-missing : length costs < p * q → (s : ℕ) → s < q → 0 ≡ costOf (columnOf q costs p) s
+  cost-missing h s l = sym (cost-column q costs p s l ∙ List·getD-eq-default costs 0 (omega arith))
 
 -- at a place of a list of costs: it lacks them all, or a loop compares those from the second on with the first
 module _ (q : ℕ) (costs : List ℕ) (p : ℕ) where

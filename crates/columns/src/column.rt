@@ -1,61 +1,86 @@
-// A column's best symbol, second symbol and gap, and the gap as it counts for choosing doubtful places.
+// A column's best symbol, second symbol and gap, and the gap as it counts for choosing doubtful places. All are read off the symbols' numbers, the
+// cost sixteen times and the symbol: the least of them is the best symbol's, and the next is the second's.
 use crate::costs::CEILING;
 use crate::costs::SYMBOLS;
+use crate::least::larger;
+use crate::least::lesser;
 ghost use mathlib.Core.Path.{_≡_};
-ghost use Prim.Native.Nat.{_≤_};
-ghost use Rattle.soft.specs.Column.{firstBut, betterOf, bestBut, symbols, bestOf, secondOf, gapOf, countedGap, doubtGapOf};
+ghost use Prim.Native.Nat.{_+_, _*_, _/_, _%_, _≤_, _<_, min, max};
+ghost use Rattle.soft.specs.Column.{symbols, bestOf, secondOf, gapOf, countedGap, doubtGapOf};
+ghost use Rattle.columns.specs.Two.{above, TwoOf};
 
-fn first_but(but: usize) -> usize
-    ensures { λ r. ⌜ r ≡ firstBut but ⌝ }
-{
-    if but == 0 {
-        return 1;
-    }
-    0
+// Above the numbers of all symbols: 65,536 costs times the symbols.
+const ABOVE: u32 = 65536 * SYMBOLS as u32;
+
+// The numbers of the best and of the second symbol.
+struct Two {
+    best: u32,
+    second: u32,
 }
 
-// Equal costs keep the symbol held, which is the smaller one.
-fn better(but: usize, held: usize, least: u16, next: usize, cost: u16) -> usize
-    ensures { λ r. ⌜ r ≡ betterOf but held least next cost ⌝ }
+// Equal costs are in the order of the symbols.
+fn number(cost: u16, symbol: usize) -> u32
+    requires { ⌜ symbol < symbols ⌝ }
+    ensures { λ r. ⌜ (r ≡ cost * symbols + symbol) × (r < above) ⌝ }
 {
-    if next == but {
-        return held;
-    }
-    if cost < least {
-        return next;
-    }
-    held
+    cost as u32 * SYMBOLS as u32 + symbol as u32
 }
 
-// The best symbol, one left out.
-fn best_but(column: [u16; SYMBOLS], but: usize) -> usize
-    ensures { λ r. ⌜ r ≡ bestBut column but symbols ⌝ }
+// The next of some numbers, with one more: of it and the least, the larger one stands behind the other.
+fn next_with(next: u32, least: u32, number: u32) -> u32
+    ensures { λ r. ⌜ r ≡ min next (max least number) ⌝ }
 {
-    let mut held = first_but(but);
-    for next in 0..SYMBOLS {
-        held = better(but, held, column[held], next, column[next]);
+    lesser(next, larger(least, number))
+}
+
+fn two_least(column: [u16; SYMBOLS]) -> Two
+    ensures { λ r. ⌜ TwoOf column r ⌝ }
+{
+    let mut least = ABOVE;
+    let mut next = ABOVE;
+    for symbol in 0..SYMBOLS {
+        let number = number(column[symbol], symbol);
+        next = next_with(next, least, number);
+        least = lesser(least, number);
     }
-    held
+    Two {
+        best: least,
+        second: next,
+    }
+}
+
+// The symbol of a number.
+fn symbol_in(number: u32) -> u8
+    ensures { λ r. ⌜ r ≡ number % symbols ⌝ }
+{
+    (number % SYMBOLS as u32) as u8
+}
+
+// The cost of a number.
+fn cost_in(number: u32) -> u16
+    requires { ⌜ number < above ⌝ }
+    ensures { λ r. ⌜ r ≡ number / symbols ⌝ }
+{
+    (number / SYMBOLS as u32) as u16
 }
 
 pub fn best(column: [u16; SYMBOLS]) -> u8
     ensures { λ r. ⌜ r ≡ bestOf column ⌝ }
 {
-    best_but(column, SYMBOLS) as u8
+    symbol_in(two_least(column).best)
 }
 
 pub fn second(column: [u16; SYMBOLS]) -> u8
     ensures { λ r. ⌜ r ≡ secondOf column ⌝ }
 {
-    best_but(column, best(column) as usize) as u8
+    symbol_in(two_least(column).second)
 }
 
 pub fn gap(column: [u16; SYMBOLS]) -> u16
     ensures { λ r. ⌜ r ≡ gapOf column ⌝ }
 {
-    let first = best_but(column, SYMBOLS);
-    let second = best_but(column, first);
-    column[second] - column[first]
+    let found = two_least(column);
+    cost_in(found.second) - cost_in(found.best)
 }
 
 // A second cost at the ceiling reads 'at least', so that the difference from a lower best only bounds the gap.
@@ -76,7 +101,6 @@ fn counted(best: u16, second: u16) -> u16
 pub fn doubt_gap(column: [u16; SYMBOLS]) -> u16
     ensures { λ r. ⌜ r ≡ doubtGapOf column ⌝ }
 {
-    let first = best_but(column, SYMBOLS);
-    let second = best_but(column, first);
-    counted(column[first], column[second])
+    let found = two_least(column);
+    counted(cost_in(found.best), cost_in(found.second))
 }

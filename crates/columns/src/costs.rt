@@ -1,6 +1,6 @@
 // Costs as bytes, two each and high first, and as a table of sixteen to a place.
 ghost use mathlib.Core.Path.{_≡_};
-ghost use Prim.Native.Nat.{_*_};
+ghost use Prim.Native.Nat.{_+_, _*_, _<_, _≤_};
 ghost use lib.ListN.{length, getD};
 ghost use Rattle.soft.specs.Column.{places, symbols, pairAt, costsFrom, columnOf, costOf};
 
@@ -68,18 +68,41 @@ pub fn table_from(bytes: &[u8]) -> [u16; COSTS]
     out
 }
 
-// The column of a place. Past the last costs there are none, and `place * SYMBOLS` is not asked for.
-pub fn column_of(costs: &[u16], place: usize) -> [u16; SYMBOLS]
+// The column of a place that has all its costs: they are copied, with no test for each.
+fn whole_column(costs: &[u16], place: usize) -> [u16; SYMBOLS]
+    requires { ⌜ place * symbols + symbols ≤ length (now costs) ⌝ }
+    ensures { λ r. ⌜ r ≡ columnOf symbols (now (costs .entry)) place ⌝ }
+{
+    let mut out = [0u16; SYMBOLS];
+    for s in 0..SYMBOLS {
+        out[s] = costs[place * SYMBOLS + s];
+    }
+    out
+}
+
+// The column of a place that lacks costs: those that it has, and zeros. Past the last costs it has none, and `place * SYMBOLS` is not asked for.
+fn part_column(costs: &[u16], place: usize) -> [u16; SYMBOLS]
+    requires { ⌜ length (now costs) < place * symbols + symbols ⌝ }
     ensures { λ r. ⌜ r ≡ columnOf symbols (now (costs .entry)) place ⌝ }
 {
     let mut out = [0u16; SYMBOLS];
     if costs.len() / SYMBOLS < place {
         return out;
     }
-    for s in 0..SYMBOLS {
-        out[s] = number_at(costs, place * SYMBOLS + s);
+    for s in 0..costs.len() % SYMBOLS {
+        out[s] = costs[place * SYMBOLS + s];
     }
     out
+}
+
+// The column of a place.
+pub fn column_of(costs: &[u16], place: usize) -> [u16; SYMBOLS]
+    ensures { λ r. ⌜ r ≡ columnOf symbols (now (costs .entry)) place ⌝ }
+{
+    if place < costs.len() / SYMBOLS {
+        return whole_column(costs, place);
+    }
+    part_column(costs, place)
 }
 
 // What a symbol costs at a place; there is none above 15, and its cost reads as 0.

@@ -5,4 +5,5 @@ pub mod bits;
 pub mod blank;
 pub mod column;
 pub mod costs;
+pub mod least;
 pub mod word;

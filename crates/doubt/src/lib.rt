@@ -5,15 +5,17 @@ use columns::blank::is_open;
 use columns::column::doubt_gap;
 use columns::costs::PLACES;
 use columns::costs::column_of;
+use columns::least::lesser;
 ghost use mathlib.Core.Path.{_≡_};
 ghost use mathlib.Core.Bool.{cond};
 ghost use Prim.Native.Nat.{_<_};
 ghost use lib.ListN.{set};
-ghost use Rattle.lists.specs.Rank.{rankOf};
+ghost use Rattle.lists.specs.Least.{leastOf};
 ghost use Rattle.soft.specs.Column.{places, symbols, columnOf};
 ghost use Rattle.soft.specs.Doubt.{doubtfulOf};
 ghost use Rattle.soft.specs.Threshold.{closestOf, clampOf};
-ghost use Rattle.doubt.specs.Keys.{far, entryOf, KeyOf, Keyed, chosenWith, chosenOf, belowBy};
+ghost use Rattle.doubt.specs.Keys.{far, KeyOf, Keyed, Apart, chosenOf, belowBy};
+ghost use Rattle.doubt.specs.Bound.{fromBound, keyFrom, pastOf, Bound};
 ghost use Rattle.doubt.specs.Picked.{PickedOf};
 
 pub const MOST_DOUBT: usize = 8;
@@ -48,26 +50,50 @@ fn keys_of(costs: &[u16]) -> [u32; PLACES]
     out
 }
 
-// How many places are ahead of one.
-fn ahead_of(keys: [u32; PLACES], other: usize) -> u32
-    requires { ⌜ other < places ⌝ }
-    ensures { λ r. ⌜ r ≡ rankOf (entryOf keys) places other ⌝ }
+// A key, but that of a blank place where it is below a bound.
+fn from_bound(bound: u32, key: u32) -> u32
+    ensures { λ r. ⌜ r ≡ fromBound far bound key ⌝ }
 {
-    let mut n = 0u32;
-    for place in 0..PLACES {
-        n += bit(keys[place] < keys[other]) as u32;
+    if key < bound {
+        return FAR;
     }
-    n
+    key
 }
 
-// Whether a place with this key and so many ahead of it is doubtful.
-fn chosen(key: u32, rank: usize, doubt: usize) -> bool
-    ensures { λ r. ⌜ r ≡ chosenWith far doubt key rank ⌝ }
+// The least key that is not below a bound.
+fn least_from(keys: [u32; PLACES], bound: u32) -> u32
+    ensures { λ r. ⌜ r ≡ leastOf far places (keyFrom far bound keys) ⌝ }
+{
+    let mut least = FAR;
+    for place in 0..PLACES {
+        least = lesser(least, from_bound(bound, keys[place]));
+    }
+    least
+}
+
+// The bound behind a key.
+fn past(key: u32) -> u32
+    ensures { λ r. ⌜ r ≡ pastOf far key ⌝ }
 {
     if FAR <= key {
-        return false;
+        return FAR;
     }
-    rank < doubt
+    key + 1
+}
+
+// A bound above as many of the least keys as there are doubtful places, by a round for each that puts it behind the next key.
+fn bound_of(keys: [u32; PLACES], doubt: usize) -> u32
+    requires { ⌜ Apart places far keys ⌝ }
+    ensures { λ r. ⌜ Bound places far keys doubt r ⌝ }
+{
+    let mut bound = 0u32;
+    for round in 0..doubt {
+        if bound == FAR {
+            return bound;
+        }
+        bound = past(least_from(keys, bound));
+    }
+    bound
 }
 
 // One place more, if it is chosen and there is room.
@@ -85,13 +111,14 @@ pub fn with_place(list: [u8; MOST_DOUBT], at: usize, place: u8, chosen: bool) ->
 
 // The places with fewer than so many ahead of them, rising; the most doubt allowed finds room for all.
 fn picked_by(keys: [u32; PLACES], doubt: usize) -> Picked
+    requires { ⌜ Apart places far keys ⌝ }
     ensures { λ r. ⌜ PickedOf (chosenOf places far doubt keys) r ⌝ }
 {
+    let bound = bound_of(keys, doubt);
     let mut out = [0u8; MOST_DOUBT];
     let mut found = 0;
     for place in 0..PLACES {
-        let rank = ahead_of(keys, place) as usize;
-        let taken = chosen(keys[place], rank, doubt);
+        let taken = keys[place] < bound;
         let longer = with_place(out, found, place as u8, taken);
         out = longer;
         found += bit(taken) as usize;

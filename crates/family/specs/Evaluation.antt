@@ -16,18 +16,19 @@
 --   encode-at, encode-symbols   and an element at each
 --   encode-beyond        symbols that a message does not have add nothing: the codeword is the same for every k from its length on
 --   encode-over          and of a list of n bytes that it is written over nothing is left
+--   encode-zeros         a message of zeros encodes to zeros
 use mathlib.Core.Bool.{Bool, true, false}
 use mathlib.Core.Path.{_≡_, sym, ap, ap₂, _∙_, subst}
 use mathlib.Core.List.{List}
 use Prim.Native.Nat.{ℕ, _-_, _/_, _%_, _<_, _≤_}
 use native.Mathlib.Omega.{arith}
-use lib.ListN.{length, getD, List·getD-eq-default}
+use lib.ListN.{length, getD, replicate, length-replicate, getD-replicate, List·getD-eq-default}
 use borrow.Author.Tests.{le-leb, lt-leb}
-use Rattle.lists.specs.Listed.{listed, listed-length, listed-at, listed-ext}
+use Rattle.lists.specs.Listed.{listed, listed-length, listed-at, listed-ext, listed-by}
 use Rattle.lists.specs.Every.{T-true}
 use Rattle.lists.specs.Over.{over, over-same}
 use Rattle.lists.specs.Words.{allBelow, allBelow-from}
-use Rattle.lists.specs.XorSum.{xorSum, xorSum-ext, xorSum-more, xorSum-below}
+use Rattle.lists.specs.XorSum.{xorSum, xorSum-nil, xorSum-ext, xorSum-more, xorSum-below}
 use Rattle.algebra.specs.Field.{Field, zero-mul}
 use Rattle.algebra.specs.Sum.{sum, sum-ext}
 use Rattle.galois.specs.BinaryField.{GF, K, size, times, times-comm, times-zero, times-lt, toF, toF-times, toF-zero, toF-injective, toF-xorSum}
@@ -149,10 +150,14 @@ module _ (𝓜 : Member) where
   encode-symbols k m =
       T-true (allBelow (size gf) (encodeOf 𝓜 k m)) (allBelow-from (size gf) (encodeOf 𝓜 k m) (λ p h. encode-at k m p (omega (arith, encode-length k m))))
 
+  -- ---- a symbol that is zero adds nothing
+  term-zero : (m : List ℕ) (p t : ℕ) → getD m t 0 ≡ 0 → term 𝓜 m p t ≡ 0
+  unfolding term
+  term-zero m p t e = ap (λ x. times gf x (monomial 𝓜 (orderOf w t) p)) e ∙ times-comm gf 0 _ ∙ times-zero gf _
+
   -- ---- a message that is shorter than the code takes
   term-beyond : (m : List ℕ) (p t : ℕ) → length m ≤ t → term 𝓜 m p t ≡ 0
-  unfolding term
-  term-beyond m p t h = ap (λ x. times gf x (monomial 𝓜 (orderOf w t) p)) (List·getD-eq-default m 0 h) ∙ times-comm gf 0 _ ∙ times-zero gf _
+  term-beyond m p t h = term-zero m p t (List·getD-eq-default m 0 h)
 
   value-beyond : (k : ℕ) (m : List ℕ) (p : ℕ) → length m ≤ k → valueAt 𝓜 k m p ≡ valueAt 𝓜 (length m) m p
   unfolding valueAt
@@ -164,3 +169,15 @@ module _ (𝓜 : Member) where
 
   pub encode-over : (k n : ℕ) (m l : List ℕ) → length m ≤ k → length m ≤ n → length l ≡ places 𝓜 → over (encodeOf 𝓜 k m) l ≡ encodeOf 𝓜 n m
   encode-over k n m l h g e = over-same _ l (e ∙ sym (encode-length k m)) ∙ encode-beyond k n m h g
+
+  -- ---- the zero word is a codeword
+  value-zero : (k : ℕ) (m : List ℕ) (p : ℕ) → ((t : ℕ) → t < k → getD m t 0 ≡ 0) → valueAt 𝓜 k m p ≡ 0
+  unfolding valueAt
+  value-zero k m p h = xorSum-more 0 k (term 𝓜 m p) (omega arith) (λ t a b. term-zero m p t (h t b)) ∙ xorSum-nil (term 𝓜 m p)
+
+  pub encode-zeros : (k : ℕ) (m : List ℕ) → ((t : ℕ) → t < k → getD m t 0 ≡ 0) → encodeOf 𝓜 k m ≡ replicate (places 𝓜) 0
+  unfolding encodeOf
+  encode-zeros k m h =
+      sym
+      (listed-by 0 (places 𝓜) (replicate (places 𝓜) 0) (valueAt 𝓜 k m) (length-replicate (places 𝓜) 0)
+      (λ p b. getD-replicate (places 𝓜) p 0 0 b ∙ sym (value-zero k m p h)))

@@ -5,18 +5,15 @@
 --   quotient l r M q         the function found
 --   remainder-step           where q = f·r, each step takes off the highest term of f
 --   division                 so what is found is f, for every f of order at most M
---   repaired                 the function near a word is found from every small Q through it
 use mathlib.Core.Path.{_≡_, refl, sym, ap, ap₂, _∙_, fun-ext}
 use Prim.Native.Nat.{ℕ, zero, suc, _+_, _-_, _≤_}
 use native.Mathlib.Decide.{decLe}
 use native.Mathlib.Omega.{arith}
 use Rattle.algebra.specs.Field.{Field, add-zero, zero-add, add-self, add-assoc, mul-assoc, mul-inv, mul-one}
 use Rattle.algebra.specs.Coefficients.{choose, choose-yes, choose-no, plus, scale, Below, Lead}
-use Rattle.hermitian.specs.Present.{Present, decPresent, genus}
+use Rattle.hermitian.specs.Present.{Present, decPresent}
 use Rattle.hermitian.specs.Ring.{Fn, timesMonomial, timesMonomial-lead}
 use Rattle.hermitian.specs.Product.{product, product-suc, below-product}
-use Rattle.hermitian.specs.Points.{Points}
-use Rattle.hermitian.specs.Decoding.{Radius, Near, Small, PassesThrough, decoding}
 
 module _ {F : Type 0} (K : Field F) (w l : ℕ) (r : ℕ → F) where
   open Field K using (_⊕_, _⊗_, 𝟘, inv)
@@ -94,10 +91,3 @@ module _ {F : Type 0} (K : Field F) (w l : ℕ) (r : ℕ → F) where
             ∙ ap (quotientAt o) (remaining M e (M - o) (omega arith) ∙ ap (λ k. product K w k f r) a)
             ∙ quotient-top o
         go o (no h) = choose-no (decLe o M) _ 𝟘 h ∙ sym (b .zero-from o (omega arith))
-
-module _ {F : Type 0} (K : Field F) (w : ℕ) where
-  -- 4.7 and 4.8 together: what the decoder finds
-  pub repaired : 2 ≤ w → {M T n : ℕ} {x y t f : ℕ → F} → Points K w n x y → Near K w M T n x y t f → Radius w M T n
-      → {q r : ℕ → F} {l : ℕ} → Small K w M (T + genus w) q r → PassesThrough K w n x y t q r → Lead K r l → quotient K w l r M q ≡ f
-  repaired two p near radius {q} {r} {l} s h lead =
-      division K w l r lead (near .fn) (near .order) (decoding K w two p near radius s h)

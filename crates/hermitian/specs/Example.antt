@@ -250,7 +250,7 @@ radius = omega arith
 
 pub f-repaired : {c : ℕ → Four} {l m : ℕ} → Least four (Through four 2 2 samples places) c l → Lead four (withZ four 2 c) m
     → quotient four 2 m (withZ four 2 c) 2 (withoutZ four c) ≡ f
-f-repaired = least-repairs four 2 2 samples 0 places (omega arith) points f-near radius
+f-repaired h lead = least-repairs four 2 2 samples 0 places (omega arith) points f-near radius h lead
 
 pub f-found : (c : ℕ → Four) × (l : ℕ) × (m : ℕ) × Least four (Through four 2 2 samples places) c l × Lead four (withZ four 2 c) m
 f-found =

@@ -7,6 +7,7 @@
 --   joined-plus, joined-scale, joined-shift   sums, multiples and multiplication by x, part by part
 --   fn-withoutZ, fn-withZ, interpolant-joined   the parts are functions on the curve, and two such make a Q
 --   below-withoutZ, below-withZ, below-joined   where the parts end, and where Q ends
+--   lead-joined           where Q0 ends M above the lead of Q1, that term with z is the lead of Q
 --   interpolant-space     the Qs are a space, closed under the shift by 2w
 --   interpolant-lead      the lead of a Q is the key of a term
 --   interpolant-unit      the Q of one term
@@ -134,6 +135,13 @@ module _ {F : Type 0} (K : Field F) where
         go k l (yes z) h = joined-even a b k z ∙ p .zero-from (k / 2) (omega arith)
         go k l (no z) (yes h) = joined-odd a b k z h ∙ q .zero-from (k / 2 - M) (omega arith)
         go k l (no z) (no h) = joined-low a b k z h
+
+    pub lead-joined : {a b : ℕ → F} {l : ℕ} → Below K a (suc (l + M)) → Lead K b l → Lead K (joined M a b) (2 * (l + M) + 1)
+    lead-joined {a} {b} {l} p q =
+        record {
+          ne = λ e. q .ne (ap (λ f. f l) (sym (with-joined a b)) ∙ e);
+          above = below-joined (suc (2 * (l + M) + 1)) (omega arith) (omega arith) p (q .above);
+        }
 
   module _ (w M : ℕ) where
     pub record Interpolant (c : ℕ → F) : Type 0 where

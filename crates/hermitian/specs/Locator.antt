@@ -1,50 +1,42 @@
--- Locators: any t points have a function of order at most t + g, not zero, that vanishes on them.
+-- Locators: any t points have a function of order at most the t-th present order, not zero, that vanishes on them.
 --
---   absentRank w o       the number of an absent order among the absent ones: below the genus, and no two have the same
---   Locator K w t x y    a function, not zero, of order at most t + genus w, that vanishes at (x i, y i) for each i < t
---   locator              there is one
+--   absentRank w o       how many absent orders lie below o
+--   absent-below         it counts an absent order from the next one on,
+--   absent-unique        so no two absent orders have the same number
+--   Locator K w t x y    a function, not zero, of order at most orderOf w t, that vanishes at (x i, y i) for each i < t
+--   locator              there is one: the orders up to orderOf w t are one more than the absent ones among them and the points
 use mathlib.Core.Path.{_≡_, refl, sym, ap, _∙_}
 use mathlib.Core.Logic.{_≢_, ⊎-elim}
-use Prim.Native.Nat.{ℕ, suc, _+_, _*_, _/_, _%_, _<_, _≤_}
-use native.Mathlib.Nat.{div-add-mod'}
+use Prim.Native.Nat.{ℕ, suc, _+_, _-_, _<_, _≤_}
 use native.Mathlib.Decide.{decLe, decLt, ℕ-discrete}
 use native.Mathlib.Omega.{arith}
 use Rattle.algebra.specs.Field.{Field, mul-zero, mul-one}
 use Rattle.algebra.specs.Sum.{sum-ext, sum-single}
-use Rattle.algebra.specs.Coefficients.{choose, choose-yes, choose-no, Below, below-mono}
+use Rattle.algebra.specs.Coefficients.{choose, choose-yes, choose-no, Below}
 use Rattle.algebra.specs.Elimination.{Dependence, dependent}
 use Rattle.lists.specs.Chosen.{lt-or-le}
-use Rattle.hermitian.specs.Present.{Present, decPresent, mod-below, genus, genus-suc, genus-mono}
+use Rattle.hermitian.specs.Present.{Present, decPresent}
+use Rattle.hermitian.specs.Orders.{rank, rank-nil, rank-yes, rank-no, rank-gap, orderOf, orderOf-present, rank-orderOf}
 use Rattle.hermitian.specs.Ring.{Fn}
 use Rattle.hermitian.specs.Value.{monomial, Val}
 
--- absent orders by residue r = 1, 2, …, each with the quotients 0 … r − 1
+-- the number of an absent order among the absent ones, upwards
 unfoldable pub absentRank : ℕ → ℕ → ℕ
-absentRank w o = genus (o % w) + o / w
+absentRank w o = o - rank w o
 
-module _ (w : ℕ) (two : 2 ≤ w) where
-  pub absent-below : (o : ℕ) → ¬ Present w o → absentRank w o < genus w
+module _ (w : ℕ) where
+  pub absent-below : (o n : ℕ) → ¬ Present w o → o < n → absentRank w o < absentRank w n
   unfolding absentRank
-  absent-below o h =
-      let l : o % w < w = mod-below w two o in
-      omega (arith, genus-suc (o % w), genus-mono l)
-
-  -- of two absent orders the one of smaller residue has the smaller number
-  absent-less : (a b : ℕ) → ¬ Present w a → a % w < b % w → absentRank w a < absentRank w b
-  unfolding absentRank
-  absent-less a b h l = omega (arith, genus-suc (a % w), genus-mono l)
+  absent-below o n h l = omega (arith, rank-no w o h, rank-gap w (suc o) n l, rank-gap w 0 o (omega arith), rank-nil w)
 
   pub absent-unique : (a b : ℕ) → ¬ Present w a → ¬ Present w b → absentRank w a ≡ absentRank w b → a ≡ b
-  unfolding absentRank
-  absent-unique a b ha hb e = go (ℕ-discrete (a % w) (b % w))
+  absent-unique a b ha hb e = go (ℕ-discrete a b)
     where
-      go : Dec (a % w ≡ b % w) → a ≡ b
-      go (yes r) =
-          let q : a / w ≡ b / w = omega (arith, e, ap genus r) in
-          omega (arith, div-add-mod' a w, div-add-mod' b w, ap (λ x. x * w) q)
+      go : Dec (a ≡ b) → a ≡ b
+      go (yes r) = r
       go (no r) =
-          ⊎-elim (λ (l : a % w < b % w). absurd (omega (arith, e, absent-less a b ha l)))
-          (λ (l : b % w ≤ a % w). absurd (omega (arith, e, absent-less b a hb (omega arith)))) (lt-or-le (a % w) (b % w))
+          ⊎-elim (λ (l : a < b). absurd (omega (arith, e, absent-below a b ha l)))
+          (λ (l : b ≤ a). absurd (omega (arith, e, absent-below b a hb (omega arith)))) (lt-or-le a b)
 
 module _ {F : Type 0} (K : Field F) (w : ℕ) where
   open Field K using (_⊕_, _⊗_, 𝟘, 𝟙)
@@ -52,12 +44,18 @@ module _ {F : Type 0} (K : Field F) (w : ℕ) where
   pub record Locator (t : ℕ) (x y : ℕ → F) : Type 0 where
     pub function : ℕ → F
     pub fn : Fn K w function
-    pub order : Below K function (suc (t + genus w))
+    pub order : Below K function (suc (orderOf w t))
     pub at : ℕ
     pub ne : function at ≢ 𝟘
     pub vanishes : (i : ℕ) → i < t → Val K w (x i) (y i) function 𝟘
 
   module _ (two : 2 ≤ w) (t : ℕ) (x y : ℕ → F) where
+    -- one for each point and one for each absent order, as many as there are orders below orderOf w t
+    equations : t + absentRank w (suc (orderOf w t)) ≡ orderOf w t
+    unfolding absentRank
+    equations =
+        omega (arith, rank-yes w (orderOf w t) (orderOf-present w two t), rank-orderOf w two t, rank-gap w 0 (orderOf w t) (omega arith), rank-nil w)
+
     -- the equation t + absentRank o says that the coefficient at the absent order o is zero
     zeroAt : (s o : ℕ) → Dec (Present w o) → F
     zeroAt s o (yes p) = 𝟘
@@ -70,7 +68,7 @@ module _ {F : Type 0} (K : Field F) (w : ℕ) where
     unfolding zeroAt
     zero-off o i h n (yes p) = refl
     zero-off o i h n (no p) =
-        choose-no (ℕ-discrete (t + absentRank w i) (t + absentRank w o)) 𝟙 𝟘 (λ e. n (absent-unique w two i o p h (omega arith)))
+        choose-no (ℕ-discrete (t + absentRank w i) (t + absentRank w o)) 𝟙 𝟘 (λ e. n (absent-unique w i o p h (omega arith)))
 
     zero-on : (o : ℕ) → ¬ Present w o → (d : Dec (Present w o)) → zeroAt (t + absentRank w o) o d ≡ 𝟙
     unfolding zeroAt
@@ -90,19 +88,19 @@ module _ {F : Type 0} (K : Field F) (w : ℕ) where
         record {
           function = c;
           fn = record { bound = suc n; ends = d .ends; absent = λ o h. gone o h (decLe o n) };
-          order = below-mono K (omega arith) (d .ends);
+          order = d .ends;
           at = d .at;
           ne = d .ne;
           vanishes = λ i l.
               record {
                 bound = suc n;
                 ends = d .ends;
-                total = sum-ext K (suc n) _ _ (λ o h. ap (λ m. c o ⊗ m) (sym (equation-low o i l))) ∙ d .solves i (omega arith);
+                total = sum-ext K (suc n) _ _ (λ o h. ap (λ m. c o ⊗ m) (sym (equation-low o i l))) ∙ d .solves i (omega (arith, equations));
               };
         }
       where
         n : ℕ
-        n = t + genus w
+        n = orderOf w t
 
         d : Dependence K n equation
         d = dependent K n equation
@@ -116,5 +114,5 @@ module _ {F : Type 0} (K : Field F) (w : ℕ) where
             sym (mul-one K (c o)) ∙ ap (λ m. c o ⊗ m) (sym (equation-high o o ∙ zero-on o h (decPresent w o)))
             ∙ sym (sum-single K (suc n) o (λ i. c i ⊗ equation i s) (omega arith)
             (λ i b e. ap (λ m. c i ⊗ m) (equation-high o i ∙ zero-off o i h e (decPresent w i)) ∙ mul-zero K (c i)))
-            ∙ d .solves s (omega (arith, absent-below w two o h))
+            ∙ d .solves s (omega (arith, absent-below w o (suc n) h (omega arith), equations))
         gone o h (no l) = d .ends .zero-from o (omega arith)

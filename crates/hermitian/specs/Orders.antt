@@ -9,9 +9,11 @@
 --   rank-least          at most genus w orders below n are absent, for every n
 --   orderOf w t         the t-th present order, counted from 0: message symbol t multiplies its monomial
 --   orderOf-present, orderOf-rising, orderOf-injective, rank-orderOf, orderOf-rank   it lists the present orders, and each once, upwards
+--   orderOf-mono        it does not fall
 --   orderOf-below       orderOf w t is below n exactly if t is below rank w n
 --   orderOf-up-to       for M ≥ 2g − 1: orderOf w t ≤ M exactly if t < M + 1 − g
---   orderOf-large       from t = g on it is t + g
+--   orderOf-most        it is at most t + g,
+--   orderOf-large       and from t = g on it is t + g
 use mathlib.Core.Path.{_≡_, refl, sym, ap, _∙_, subst}
 use mathlib.Core.Bool.{Bool, true, false}
 use mathlib.Core.List.{List, [], _∷_, _++_}
@@ -241,6 +243,9 @@ module _ (w : ℕ) (two : 2 ≤ w) where
   pub orderOf-rising : (s t : ℕ) → s < t → orderOf w s < orderOf w t
   orderOf-rising s t h = orderOf-below s (orderOf w t) .1 (rw rank-orderOf h)
 
+  pub orderOf-mono : {s t : ℕ} → s ≤ t → orderOf w s ≤ orderOf w t
+  orderOf-mono {s} {t} h = ⊎-elim (λ e. omega (arith, ap (orderOf w) e)) (λ l. omega (arith, orderOf-rising s t l)) (eq-or-lt-of-le h)
+
   -- k = M + 1 − g present orders up to M, once M ≥ 2g − 1
   pub orderOf-up-to : (M t : ℕ) → 2 * genus w ≤ M + 1 → (orderOf w t ≤ M) ↔ (t < M + 1 - genus w)
   orderOf-up-to M t h = (
@@ -250,6 +255,9 @@ module _ (w : ℕ) (two : 2 ≤ w) where
     where
       all : rank w (M + 1) + genus w ≡ M + 1
       all = rank-large (M + 1) (omega (arith, genus-double w))
+
+  pub orderOf-most : (t : ℕ) → orderOf w t ≤ t + genus w
+  orderOf-most t = omega (arith, rank-least (orderOf w t), rank-orderOf t)
 
   pub orderOf-large : (t : ℕ) → genus w ≤ t → orderOf w t ≡ t + genus w
   orderOf-large t h =

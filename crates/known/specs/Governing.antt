@@ -1,156 +1,119 @@
--- A known codeword that is close enough to every test word below a node is the only one that can be near them: they are only counted.
+-- A known codeword that is the only one that can be near the test words below a node: they are only counted, and it is the answer if it is near
+-- one. It is the only one where it is close enough to them all.
 --
---   governs-all              a codeword that passes the test governs
---   below-none, below-some, below-tests   what is found below a node that is governed, by the count, and with it
---   sound-later, sound-below   it is sound, and so is what later branches know
---   governed-nearest         and it is what the search would find there
-use mathlib.Core.Bool.{Bool, true, false, cond, false≢true}
+--   below-none, below-some, below-tests   what is found below the node, by the count, and with it
+--   known-total              the total of the known codeword
+--   sound-below              what is found is sound
+--   governs-only             a codeword that passes the test is the only one
+--   governed-nearest         where it is the only one, what is found is what the search would find
+use mathlib.Core.Bool.{Bool, true, false, cond}
 use mathlib.Core.Path.{_≡_, refl, sym, ap, ap₂, _∙_, subst}
 use mathlib.Core.List.{List, List·Memᴰ}
-use mathlib.Core.Option.{some}
 use Prim.Native.Nat.{ℕ, _+_, _-_, _<_}
 use native.Mathlib.Decide.{ℕ-discrete}
 use native.Mathlib.Omega.{arith}
-use lib.Dec.{eqb, ltb}
+use lib.Dec.{eqb}
 use lib.ListN.{length, take}
 use borrow.Author.Tests.{eq-eqb, ne-eqb, ltb-true}
-use Rattle.lists.specs.Distinct.{and-left, and-right}
-use Rattle.lists.specs.Words.{Word}
 use Rattle.code.specs.Encoding.{encodeOf}
 use Rattle.soft.specs.Blank.{openAt, flagAt}
 use Rattle.soft.specs.BlankLaws.{open-count}
-use Rattle.soft.specs.Column.{places, symbols}
-use Rattle.soft.specs.Total.{differingIn}
+use Rattle.soft.specs.Column.{places}
+use Rattle.soft.specs.Total.{totalOf, differingIn}
 use Rattle.soft.specs.TestWord.{expand}
 use Rattle.totals.specs.declared.margin.Margin.the-variants.{Absent}
 use Rattle.totals.specs.Margin.{marginIs}
 use Rattle.family.specs.Member.{m16}
-use Rattle.near.specs.Here.{mOf, reachOf, reachIn, Workable, Places}
+use Rattle.near.specs.Here.{mOf, reachOf, reachIn, messageCost, Workable, Places}
+use Rattle.near.specs.Near as Near
 use Rattle.near.specs.Runner.{margin-governed}
 use Rattle.near.specs.Within as Within
-use Rattle.near.specs.Governing.{Governed, expand-outside, governed-outside, governed-only, within-tests, within-some, within-none}
+use Rattle.near.specs.Governing.{Governed, Only, expand-outside, governed-outside, governed-only, within-tests, within-some, within-none}
 use Rattle.candidate.specs.Marked.{Marked, reach-marked, differing-marked}
 use Rattle.answers.specs.declared.Answer.{Answer}
 use Rattle.answers.specs.declared.Answer.the-variants.{NoneNear, Near}
 use Rattle.answers.specs.declared.Found.{Found as Answered}
-use Rattle.answers.specs.Result.{totalIs, total-near, nothingFound}
-use Rattle.answers.specs.Nearest.{Nearest, nearest-nothing, nearest-some}
-use Rattle.answers.specs.Answered.{counted, answering, Sound, sound-nothing, sound-counted, sound-answering}
-use Rattle.known.specs.Known.{isNear, laterOf, filledOf, Governs, governsOf, testsWithin, aloneOf, belowOf}
+use Rattle.answers.specs.Result.{total-near}
+use Rattle.answers.specs.Nearest.{Nearest, nearest-some}
+use Rattle.answers.specs.Answered.{counted, answering, missedOf, Sound, sound-counted, sound-missed, sound-answering, nearest-missed}
+use Rattle.known.specs.Known.{filledOf, governsOf, testsWithin, totalFor, knownTotal, belowOf}
 
--- ---- the test of the known codeword
+module _ (columns : ℕ → List ℕ) (known : Answered) (tests : ℕ) where
+  -- the known codeword is the answer, without a runner-up
+  abbrev alone : Answered
+  alone = counted tests (answering (Near (knownTotal columns known) Absent) known)
 
-near-total : (a : Answer) → isNear a ≡ true → (t : ℕ) × (totalIs a ≡ some t)
-unfolding isNear totalIs
-near-total NoneNear e = absurd (false≢true e)
-near-total (Near t d) e = (t, refl)
-
--- a codeword that passes the test governs
-module _ {k : ℕ} {columns : ℕ → List ℕ} {counts : List ℕ} {b : ℕ} (marked : Marked k columns counts b) (known : Answered) (word ps : List ℕ) where
-  pub governs-all : length word ≡ places → governsOf k counts b known word ps ≡ true → Places ps → Governs k columns known word ps
-  unfolding governsOf
-  governs-all size e P =
-      let c = known .codeword in
-      let near = isNear (known .answer) in
-      let test = ltb (differingIn (flagAt counts) places c (filledOf c word ps) + length ps + reachOf k b) (places - mOf k - b) in
-      let n = near-total (known .answer) (and-left near test e) in
-      let close : differingIn (flagAt counts) places c (filledOf c word ps) + length ps + reachOf k b < places - mOf k - b =
-      ltb-true _ _ (and-right near test e) in
-      record {
-        total = n .0;
-        near = n .1;
-        apart =
-            governed-outside m16 (openAt columns) (reachIn k columns) k c word P size
-            (omega
-            (arith, close, differing-marked marked c (filledOf c word ps), reach-marked marked, marked .number, open-count places columns));
-      }
-
--- ---- what is known
-
--- what is known, without a runner-up
-abbrev alone : Answered → Answered
-alone known = answering (aloneOf (known .answer)) known
-
-alone-near : (a : Answer) {t : ℕ} → totalIs a ≡ some t → aloneOf a ≡ Near t Absent
-unfolding aloneOf totalIs
-alone-near NoneNear e = let z : _≡_ {A = ℕ} 0 1 = cc in absurd (omega arith)
-alone-near (Near u d) {t} e = let s : u ≡ t = cc in ap (λ v. Near v Absent) s
-
-module _ (known : Answered) (tests : ℕ) where
-  pub below-none : tests ≡ 0 → belowOf known tests ≡ nothingFound
+  pub below-none : tests ≡ 0 → belowOf columns known tests ≡ missedOf known
   unfolding belowOf
-  below-none z = ap (λ b. cond b nothingFound (counted tests (alone known))) (eq-eqb tests 0 z)
+  below-none z = ap (λ b. cond b (missedOf known) alone) (eq-eqb tests 0 z)
 
-  pub below-some : (tests ≡ 0 → ⊥) → belowOf known tests ≡ counted tests (alone known)
+  pub below-some : (tests ≡ 0 → ⊥) → belowOf columns known tests ≡ alone
   unfolding belowOf
-  below-some n = ap (λ b. cond b nothingFound (counted tests (alone known))) (ne-eqb tests 0 n)
+  below-some n = ap (λ b. cond b (missedOf known) alone) (ne-eqb tests 0 n)
 
-  pub below-tests : belowOf known tests .tests ≡ tests
-  unfolding nothingFound counted answering
+  pub below-tests : belowOf columns known tests .tests ≡ tests
+  unfolding missedOf counted answering
   below-tests = go (ℕ-discrete tests 0)
     where
-      go : Dec (tests ≡ 0) → belowOf known tests .tests ≡ tests
+      go : Dec (tests ≡ 0) → belowOf columns known tests .tests ≡ tests
       go (yes z) = ap (λ (f : Answered). f .tests) (below-none z) ∙ sym z
       go (no n) = ap (λ (f : Answered). f .tests) (below-some n)
 
 module _ {k : ℕ} {columns : ℕ → List ℕ} {known : Answered} (s : Sound k columns known) where
-  pub sound-later : {first : Answered} → Sound k columns first → Sound k columns (laterOf first known)
-  unfolding laterOf
-  sound-later {first} r = go (isNear (first .answer))
+  pub known-total : knownTotal columns known ≡ messageCost k columns (take k (known .message))
+  unfolding knownTotal totalFor Near.messageCost
+  known-total = go (known .answer) refl
     where
-      go : (b : Bool) → Sound k columns (cond b first known)
-      go true = r
-      go false = s
+      go : (a : Answer) → known .answer ≡ a → totalFor columns (known .codeword) a ≡ messageCost k columns (take k (known .message))
+      go NoneNear e = ap (totalOf places columns) (s .encoded)
+      go (Near t d) e = s .cost t (total-near e)
 
-  pub sound-below : (tests : ℕ) → Sound k columns (belowOf known tests)
-  unfolding belowOf aloneOf answering
+  pub sound-below : (tests : ℕ) → Sound k columns (belowOf columns known tests)
+  unfolding belowOf
   sound-below tests = go (eqb tests 0)
     where
-      sound-alone : (a : Answer) → known .answer ≡ a → Sound k columns (answering (aloneOf a) known)
-      sound-alone NoneNear e = subst (λ a. Sound k columns (answering a known)) e s
-      sound-alone (Near t d) e = sound-answering Absent (total-near e) s
+      go : (b : Bool) → Sound k columns (cond b (missedOf known) (alone columns known tests))
+      go true = sound-missed s
+      go false = sound-counted tests (sound-answering Absent known-total s)
 
-      go : (b : Bool) → Sound k columns (cond b nothingFound (counted tests (alone known)))
-      go true = sound-nothing
-      go false = sound-counted tests (sound-alone (known .answer) refl)
+  module _ (rate : Workable k) {counts : List ℕ} {b : ℕ} (marked : Marked k columns counts b) where
+    abbrev on : ℕ → Bool
+    on = openAt columns
 
-module _ {k : ℕ} (rate : Workable k) {columns : ℕ → List ℕ} {counts : List ℕ} {b : ℕ} (marked : Marked k columns counts b) (known : Answered) (word ps : List ℕ)
-    (size : length word ≡ places) (s : Sound k columns known) (g : Governs k columns known word ps) where
-  abbrev tests-below : List (List ℕ)
-  tests-below = expand columns word ps
+    abbrev T : ℕ
+    T = reachIn k columns
 
-  abbrev on : ℕ → Bool
-  on = openAt columns
+    abbrev m : List ℕ
+    m = take k (known .message)
 
-  abbrev T : ℕ
-  T = reachIn k columns
+    pub governs-only : (word ps : List ℕ) → length word ≡ places → governsOf k counts b known word ps ≡ true → Places ps → (t : List ℕ)
+        → List·Memᴰ t (expand columns word ps) → Only m16 on T k m t
+    unfolding governsOf
+    governs-only word ps size e P t i n f =
+        let c = known .codeword in
+        let close : differingIn (flagAt counts) places c (filledOf c word ps) + length ps + reachOf k b < places - mOf k - b = ltb-true _ _ e in
+        let g : Governed m16 on T k c t =
+        governed-outside m16 on T k c word P size
+        (omega (arith, close, differing-marked marked c (filledOf c word ps), reach-marked marked, marked .number, open-count places columns)) t
+        (expand-outside places columns word ps size t i) in
+        governed-only m16 on T rate (s .word) t n (subst (λ u. Governed m16 on T k u t) (s .encoded) g) f
 
-  -- the known codeword is that of the known message
-  encoded : known .codeword ≡ encodeOf k (take k (known .message))
-  encoded = s .encoded (g .total) (g .near)
+    pub governed-nearest : (ts : List (List ℕ)) → ((t : List ℕ) → List·Memᴰ t ts → Only m16 on T k m t) → (tests : ℕ)
+        → tests ≡ testsWithin k counts b (known .codeword) ts → Nearest k columns ts (belowOf columns known tests)
+    unfolding counted answering marginIs
+    governed-nearest ts only tests within = go (ℕ-discrete tests 0)
+      where
+        count : tests ≡ Within.testsWithin m16 on T (encodeOf k m) ts
+        count =
+            within ∙ ap₂ (λ f r. Within.testsWithin m16 f r (known .codeword) ts) (marked .flags) (reach-marked marked)
+            ∙ ap (λ u. Within.testsWithin m16 on T u ts) (s .encoded)
 
-  governed : (t : List ℕ) → List·Memᴰ t tests-below → Governed m16 on T k (encodeOf k (take k (known .message))) t
-  governed t i = subst (λ u. Governed m16 on T k u t) encoded (g .apart t (expand-outside places columns word ps size t i))
-
-  pub governed-nearest : (tests : ℕ) → tests ≡ testsWithin k counts b (known .codeword) tests-below → Nearest k columns tests-below (belowOf known tests)
-  unfolding counted answering marginIs
-  governed-nearest tests within = go (ℕ-discrete tests 0)
-    where
-      count : tests ≡ Within.testsWithin m16 on T (encodeOf k (take k (known .message))) tests-below
-      count =
-          within ∙ ap₂ (λ f r. Within.testsWithin m16 f r (known .codeword) tests-below) (marked .flags) (reach-marked marked)
-          ∙ ap (λ u. Within.testsWithin m16 on T u tests-below) encoded
-
-      known-word : Word symbols k (take k (known .message))
-      known-word = s .word (g .total) (g .near)
-
-      go : Dec (tests ≡ 0) → Nearest k columns tests-below (belowOf known tests)
-      go (yes z) =
-          subst (Nearest k columns tests-below) (sym (below-none known tests z))
-          (nearest-nothing (within-none m16 on T rate known-word columns tests-below governed (sym count ∙ z)))
-      go (no n) =
-          subst (Nearest k columns tests-below) (sym (below-some known tests n))
-          (nearest-some (counted tests (alone known)) (g .total) Absent (alone-near (known .answer) (g .near))
-          (within-tests m16 on T rate known-word tests-below governed ∙ sym count)
-          (within-some m16 on T rate known-word columns tests-below governed (omega (arith, count))) (s .cost (g .total) (g .near))
-          (sym (margin-governed m16 on T k columns tests-below (λ t i n f. governed-only m16 on T rate known-word t n (governed t i) f))))
+        go : Dec (tests ≡ 0) → Nearest k columns ts (belowOf columns known tests)
+        go (yes z) =
+            subst (Nearest k columns ts) (sym (below-none columns known tests z))
+            (nearest-missed known (within-none m16 on T rate (s .word) columns ts only (sym count ∙ z)))
+        go (no n) =
+            subst (Nearest k columns ts) (sym (below-some columns known tests n))
+            (nearest-some (alone columns known tests) (knownTotal columns known) Absent refl
+            (within-tests m16 on T rate (s .word) ts only ∙ sym count) (within-some m16 on T rate (s .word) columns ts only (omega (arith, count)))
+            known-total (sym (margin-governed m16 on T k columns ts only)))

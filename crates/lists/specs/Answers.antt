@@ -6,7 +6,6 @@
 --   answers-unique        there is one answer
 --   answers-some, answers-none  what it says of the word answered, and where there is none
 --   answers-iff, answers-cost   it depends on P and on the cost only by what they say of words
---   answers-single        where one word at most has P, it does not depend on the cost at all
 --   better cost o o′      the better of two answers; better-answers: it answers 'P or Q' where they answer P and Q
 --   firstThat test ws     the first word of ws that passes: an answer where all cost the same (free)
 --   cheapest cost test ws the cheapest of those that pass, the first of them where costs are equal
@@ -86,10 +85,6 @@ module _ {cost : List ℕ → ℕ} {P : List ℕ → Type 0} where
       go n q (inl e) = inl e
       go n q (inr (cheaper h)) = inr (cheaper (omega (arith, i m p, i n q)))
       go n q (inr (earlier e h)) = inr (earlier (sym (i m p) ∙ e ∙ i n q) h)
-
-  pub answers-single : {dues : List ℕ → ℕ} {o : Option (List ℕ)} → ((m n : List ℕ) → P m → P n → n ≡ m) → Answers cost P o → Answers dues P o
-  answers-single i (nobody f) = nobody f
-  answers-single i (best {m = m} p f) = best p (λ n q. inl (i m n p q))
 
 -- one of two answers, by a test
 abbrev pub pick : Bool → Option (List ℕ) → Option (List ℕ) → Option (List ℕ)

@@ -7,12 +7,14 @@
 --   Rising l         each entry of l is below every later one; rising-steps: so it is if each is below the next
 --   sumOf-ext, sumOf-mono, sumOf-strict, sumOf-bound, sumOf-plus   equal, smaller, bounded and added terms
 --   count-ext, count-le, count-none, count-zero, count-mono, count-strict   the same of tests
+--   count-split      those that pass pass another test too, or do not
+--   count-but        tests that are equal at all numbers but one
 --   sumOf-turn, count-turn   one turn of a loop that adds up
 --   kept-length, kept-member, kept-passes, kept-rising, kept-none, kept-ext   how many are kept, which, and in which order
-use mathlib.Core.Bool.{Bool, true, false, cond}
+use mathlib.Core.Bool.{Bool, true, false, cond, not, _&&_}
 use mathlib.Core.Path.{_≡_, refl, sym, ap, ap₂, _∙_, subst, subst₂}
 use mathlib.Core.List.{List, [], _∷_, _++_, append-nil, List·Memᴰ, List·Memᴰ·head, List·Memᴰ·append-cases, Memᴰ·append-left, Memᴰ·append-right, List·Memᴰ·eq-of-singleton, List·Memᴰ·not-nil}
-use mathlib.Core.Logic.{⊎-elim}
+use mathlib.Core.Logic.{_≢_, ⊎-elim}
 use Prim.Native.Nat.{ℕ, zero, suc, _+_, _*_, _<_, _≤_}
 use native.Mathlib.Nat.{le-step, lt-suc-self, eq-or-lt-of-le, le-of-suc-le-suc, le-refl, suc-mul}
 use native.Mathlib.Numerals.{add-one}
@@ -127,6 +129,42 @@ pub count-strict : (n i : ℕ) (f g : ℕ → Bool) → ((k : ℕ) → k < n →
 unfolding count
 count-strict n i f g h l a b =
     sumOf-strict n i (λ k. bit (f k)) (λ k. bit (g k)) (λ k l. bit-of (f k) (g k) (h k l)) l (bit-below (f i) (g i) a b)
+
+-- a number that passes passes another test too, or does not
+pub count-split : (n : ℕ) (f g : ℕ → Bool) → count n (λ k. f k && g k) + count n (λ k. f k && not (g k)) ≡ count n f
+unfolding count
+count-split n f g =
+    sym (sumOf-plus n (λ k. bit (f k && g k)) (λ k. bit (f k && not (g k))))
+    ∙ sumOf-ext n (λ k. bit (f k && g k) + bit (f k && not (g k))) (λ k. bit (f k)) (λ k h. parts (f k) (g k))
+  where
+    parts : (a b : Bool) → bit (a && b) + bit (a && not b) ≡ bit a
+    parts true true = refl
+    parts true false = refl
+    parts false b = refl
+
+-- tests that are equal at all numbers but one are passed equally often, but for that one
+pub count-but : (n i : ℕ) (f g : ℕ → Bool) → i < n → ((k : ℕ) → k < n → k ≢ i → f k ≡ g k) → count n f + bit (g i) ≡ count n g + bit (f i)
+count-but zero i f g l h = absurd (omega arith)
+count-but (suc n) i f g l h =
+    ⊎-elim
+    (λ (e : i ≡ n).
+    omega (
+      arith,
+      count-suc n f,
+      count-suc n g,
+      count-ext n f g (λ k b. h k (le-step b) (λ q. omega arith)),
+      ap (λ j. bit (f j)) e,
+      ap (λ j. bit (g j)) e,
+    ))
+    (λ b.
+    omega (
+      arith,
+      count-suc n f,
+      count-suc n g,
+      count-but n i f g b (λ k c. h k (le-step c)),
+      ap bit (h n (lt-suc-self n) (λ q. omega arith)),
+    ))
+    (eq-or-lt-of-le (le-of-suc-le-suc l))
 
 unfoldable pub kept : ℕ → (ℕ → Bool) → List ℕ
 kept zero f = []

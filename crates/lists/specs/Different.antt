@@ -6,6 +6,7 @@
 --   rising-different     a rising list is such a list
 --   different-distinct   such a list of numbers is distinct
 --   count-among          numbers that pass a test only if they are among others are no more than those
+--   among-count          distinct numbers that pass a test are no more than all that do
 use mathlib.Core.Bool.{Bool, true, not}
 use mathlib.Core.Path.{_≡_, refl, sym, ap, subst}
 use mathlib.Core.List.{List, [], _∷_, _++_, List·Memᴰ, List·Memᴰ·head, List·Memᴰ·tail, List·Memᴰ·append-cases}
@@ -16,8 +17,8 @@ use native.Mathlib.Omega.{arith}
 use lib.Dec.{T}
 use lib.ListN.{length, getD}
 use Rattle.lists.specs.Member.{member-at, at-member}
-use Rattle.lists.specs.Count.{Rising, count, kept, kept-length, kept-passes, kept-rising}
-use Rattle.lists.specs.Distinct.{among, distinct, and-both, not-among, member-among, distinct-le}
+use Rattle.lists.specs.Count.{Rising, count, kept, kept-length, kept-member, kept-passes, kept-rising}
+use Rattle.lists.specs.Distinct.{among, distinct, and-both, not-among, among-member, member-among, distinct-le}
 
 module _ {A : Type 0} where
   pub data Different : List A → Type 0 where
@@ -59,4 +60,12 @@ count-among l n f h =
       kept-length n f,
       distinct-le (kept n f) l (different-distinct (rising-different (kept n f) (kept-rising n f)))
           (λ k a. let r = kept-passes n f k (member-among k (kept n f) a) in h k (r .0) (r .1)),
+    )
+
+pub among-count : (l : List ℕ) (n : ℕ) (f : ℕ → Bool) → distinct l ≡ true → ((k : ℕ) → among k l ≡ true → (k < n) × T (f k)) → length l ≤ count n f
+among-count l n f d h =
+    omega (
+      arith,
+      kept-length n f,
+      distinct-le l (kept n f) d (λ k a. let r = h k a in among-member (kept-member n f k (r .0) (r .1))),
     )

@@ -18,7 +18,9 @@ pub mod Summed
 pub mod Count
 pub mod Different
 pub mod Rank
+pub mod Least
 pub mod Padded
 pub mod Falling
 pub mod Filled
 pub mod Over
+pub mod Choices

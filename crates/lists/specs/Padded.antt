@@ -2,7 +2,7 @@
 --
 --   padded w l       the first w entries of l, and zeros up to w entries
 --   padded-length    it has w entries
---   padded-nil       the empty list is all zeros
+--   padded-nil       the empty list is all zeros, and so is one of zeros: padded-zeros
 --   padded-snoc, padded-full   one entry more is one store, while there is room; without room nothing changes
 --   padded-if        one entry more or none, by a test
 --   padded-take      a list with room is read back from the front
@@ -36,6 +36,12 @@ pub padded-nil : (w : ℕ) → padded w [] ≡ replicate w 0
 unfolding padded
 padded-nil zero = refl
 padded-nil (suc w) = ap (λ (r : List ℕ). 0 ∷ r) (padded-nil w)
+
+pub padded-zeros : (w n : ℕ) → padded w (replicate n 0) ≡ replicate w 0
+unfolding padded
+padded-zeros w zero = padded-nil w
+padded-zeros zero (suc n) = refl
+padded-zeros (suc w) (suc n) = ap (λ (r : List ℕ). 0 ∷ r) (padded-zeros w n)
 
 pub padded-full : (w : ℕ) (l m : List ℕ) → w ≤ length l → padded w (l ++ m) ≡ padded w l
 unfolding padded

@@ -1,15 +1,16 @@
--- A codeword that is close enough to a word is the only one that can be within T of it, for every member, any T and any places that count.
+-- Words that one codeword alone can be within T of: a codeword that is close enough to a word is so, and the test words are then only counted. For
+-- every member, any T and any places that count.
 --
 --   Outside n ps u v          v is a word of n places that has the symbols of u at all places but ps
---   outside-differing         two such words differ in no more places than ps has
 --   expand-outside            the test words of a tree are such words
---   filledOf n c word ps      the word with the symbols of c at the places ps, each taken below n; filled-outside: it is such a word
---   filled-turn, filled-end   a loop that writes one place after the other
+--   written-outside           so is a word that is written at the places ps
+--   filledOf n c word ps      the word with the symbols of c at the places ps, each taken below n
 --   Governed k c t            so few of the places that count are places where c and t differ that no other codeword than c is within T of t
 --   governed-outside          where c and the filled word differ in few enough places, it is so for every word outside ps
---   governed-only             a message whose codeword is within T of a governed word is the one that governs it
---   governed-here             whether there is one is whether the codeword that governs is within T
---   within-tests, within-some, within-none   so the test words that it governs are only counted: how many are near, and the answer
+--   Only k m t                no message but m has its codeword within T of t
+--   governed-only             so it is where the codeword of m governs t
+--   governed-here             whether there is one is then whether the codeword of m is within T
+--   within-tests, within-some, within-none   so test words that m alone can be near are only counted: how many are near, and the answer
 use mathlib.Core.Bool.{Bool, true, false, not, _&&_, _||_, false≢true}
 use mathlib.Core.Path.{_≡_, refl, sym, ap, _∙_, subst}
 use mathlib.Core.List.{List, [], _∷_, List·Memᴰ, List·Memᴰ·head, List·Memᴰ·tail, List·Memᴰ·cases-cons, List·Memᴰ·not-nil}
@@ -19,7 +20,7 @@ use Prim.Native.Nat.{ℕ, _+_, _%_, _<_, _≤_}
 use native.Mathlib.Nat.{mod-eq-of-lt}
 use native.Mathlib.Omega.{arith}
 use lib.Dec.{T, leb, leb→le}
-use lib.ListN.{length, getD, take, drop, set, length-set}
+use lib.ListN.{length, getD, set, length-set}
 use lib.Seq.{getD-set-other}
 use borrow.Author.Tests.{le-leb}
 use Rattle.lists.specs.Count.{bit, count}
@@ -27,7 +28,7 @@ use Rattle.lists.specs.Distinct.{among, among-member}
 use Rattle.lists.specs.Different.{count-among}
 use Rattle.lists.specs.Words.{Word, Lex, lex-asym, lex-or}
 use Rattle.lists.specs.Answers.{Found, best, answers-unique}
-use Rattle.soft.specs.Total.{differingIn, differAt}
+use Rattle.soft.specs.Total.{symbolAt, differingIn, differAt}
 use Rattle.soft.specs.TotalLaws.{agree-true, differing-triangle, differing-comm}
 use Rattle.soft.specs.TestWord.{expand}
 use Rattle.soft.specs.TestWordLaws.{expand-length, expand-settled}
@@ -38,7 +39,7 @@ use Rattle.near.specs.Reach.{Workable}
 use Rattle.near.specs.Distance.{codewords-apart}
 use Rattle.near.specs.Laws.{near-member, near-answers, word-answers, answer-none, codeword-none, tests-nil, tests-cons}
 use Rattle.near.specs.Tree.{Places, places-nil, places-cons}
-use Rattle.near.specs.Left.{left-cons, left-none}
+use Rattle.near.specs.Written.{writtenOf}
 use Rattle.near.specs.Within.{testsWithin, within-nil, within-cons}
 
 -- ---- words that have the same symbols but at some places differ in no more than these
@@ -52,7 +53,7 @@ module _ (n : ℕ) where
     pub size : length v ≡ n
     pub same : (p : ℕ) → ¬ List·Memᴰ p ps → getD v p 0 ≡ getD u p 0
 
-  pub outside-differing : (counts : ℕ → Bool) {ps word u v : List ℕ} → Outside ps word u → Outside ps word v → differingIn counts n u v ≤ length ps
+  outside-differing : (counts : ℕ → Bool) {ps word u v : List ℕ} → Outside ps word u → Outside ps word v → differingIn counts n u v ≤ length ps
   unfolding differingIn
   outside-differing counts {ps} {word} {u} {v} a b =
       count-among ps n (λ p. counts p && differAt u v p) (λ p l t. go p l (second (counts p) (differAt u v p) t) (among p ps) refl)
@@ -67,36 +68,27 @@ module _ (n : ℕ) where
   expand-outside columns word ps l t i =
       record { size = expand-length columns word ps t i ∙ l; same = λ p out. expand-settled columns word ps t i p out }
 
-  unfoldable pub filledOf : List ℕ → List ℕ → List ℕ → List ℕ
-  filledOf c word [] = word
-  filledOf c word (p ∷ ps) = filledOf c (set word (p % n) (getD c (p % n) 0)) ps
-
-  pub filled-outside : (c : List ℕ) {ps : List ℕ} → Places n ps → (word : List ℕ) → length word ≡ n → Outside ps word (filledOf c word ps)
-  unfolding filledOf
-  filled-outside c places-nil word l = record { size = l; same = λ p o. refl }
-  filled-outside c (places-cons {p} {ps} h fresh P) word l =
-      let s = getD c (p % n) 0 in
-      let r = filled-outside c P (set word (p % n) s) (length-set word (p % n) s ∙ l) in
+  pub written-outside : (symbol : ℕ → ℕ) {ps : List ℕ} → Places n ps → (word : List ℕ) → length word ≡ n → Outside ps word (writtenOf n symbol word ps)
+  unfolding writtenOf
+  written-outside symbol places-nil word l = record { size = l; same = λ p o. refl }
+  written-outside symbol (places-cons {p} {ps} h fresh P) word l =
+      let s = symbol (p % n) in
+      let r = written-outside symbol P (set word (p % n) s) (length-set word (p % n) s ∙ l) in
       record {
         size = r .size;
         same = λ q o.
             r .same q (λ m. o (List·Memᴰ·tail m)) ∙ getD-set-other word (p % n) q s 0 (λ e. o (List·Memᴰ·head (e ∙ mod-eq-of-lt h)));
       }
 
-  module _ (c doubtful out : List ℕ) (doubt i : ℕ) where
-    pub filled-turn : {size : ℕ} → length doubtful ≡ size → doubt ≤ size → i < doubt
-        → filledOf c out (drop i (take doubt doubtful))
-        ≡ filledOf c (set out (getD doubtful i 0 % n) (getD c (getD doubtful i 0 % n) 0)) (drop (i + 1) (take doubt doubtful))
-    unfolding filledOf
-    filled-turn long few h = ap (filledOf c out) (left-cons doubtful doubt i long few h)
-
-    pub filled-end : doubt ≤ i → filledOf c out (drop i (take doubt doubtful)) ≡ out
-    unfolding filledOf
-    filled-end h = ap (filledOf c out) (left-none doubtful doubt i h)
+  abbrev pub filledOf : List ℕ → List ℕ → List ℕ → List ℕ
+  filledOf c word ps = writtenOf n (symbolAt c) word ps
 
 module _ (𝓜 : Member) (counts : ℕ → Bool) (reach : ℕ) where
   abbrev pub Governed : ℕ → List ℕ → List ℕ → Type 0
   Governed k c t = differingIn counts (places 𝓜) c t + reach + mOf 𝓜 k < count (places 𝓜) counts
+
+  abbrev pub Only : ℕ → List ℕ → List ℕ → Type 0
+  Only k m t = (n : List ℕ) → Found (symbols 𝓜) k (nearTo 𝓜 counts reach k t) n → n ≡ m
 
   pub governed-outside : (k : ℕ) (c word : List ℕ) {ps : List ℕ} → Places (places 𝓜) ps → length word ≡ places 𝓜
       → differingIn counts (places 𝓜) c (filledOf (places 𝓜) c word ps) + length ps + reach + mOf 𝓜 k < count (places 𝓜) counts
@@ -106,7 +98,7 @@ module _ (𝓜 : Member) (counts : ℕ → Bool) (reach : ℕ) where
         arith,
         close,
         differing-triangle counts (places 𝓜) c (filledOf (places 𝓜) c word ps) t,
-        outside-differing (places 𝓜) counts (filled-outside (places 𝓜) c P word size) o,
+        outside-differing (places 𝓜) counts (written-outside (places 𝓜) (symbolAt c) P word size) o,
       )
 
   -- ---- near one codeword there is no other
@@ -128,29 +120,29 @@ module _ (𝓜 : Member) (counts : ℕ → Bool) (reach : ℕ) where
               leb→le (differingIn counts (places 𝓜) (encodeOf 𝓜 k n) t) reach (f .passed),
             )
 
-    pub governed-here : (t : List ℕ) → Governed k (encodeOf 𝓜 k m) t → isSome (codewordNear 𝓜 counts reach k t) ≡ nearTo 𝓜 counts reach k t m
-    governed-here t close = go (nearTo 𝓜 counts reach k t m) refl
+    pub governed-here : (t : List ℕ) → Only k m t → isSome (codewordNear 𝓜 counts reach k t) ≡ nearTo 𝓜 counts reach k t m
+    governed-here t only = go (nearTo 𝓜 counts reach k t m) refl
       where
         go : (b : Bool) → nearTo 𝓜 counts reach k t m ≡ b → isSome (codewordNear 𝓜 counts reach k t) ≡ b
         go true e =
             ap isSome
             (answers-unique (word-answers 𝓜 counts reach k t)
-            (best (record { word = w; passed = subst T (sym e) tt }) (λ n f. inl (governed-only t n close f))))
+            (best (record { word = w; passed = subst T (sym e) tt }) (λ n f. inl (only n f))))
         go false e =
             ap isSome
-            (codeword-none 𝓜 counts reach k t (λ n f. subst T (ap (nearTo 𝓜 counts reach k t) (governed-only t n close f) ∙ e) (f .passed)))
+            (codeword-none 𝓜 counts reach k t (λ n f. subst T (ap (nearTo 𝓜 counts reach k t) (only n f) ∙ e) (f .passed)))
 
-    pub within-tests : (ts : List (List ℕ)) → ((t : List ℕ) → List·Memᴰ t ts → Governed k (encodeOf 𝓜 k m) t)
+    pub within-tests : (ts : List (List ℕ)) → ((t : List ℕ) → List·Memᴰ t ts → Only k m t)
         → testsNear 𝓜 counts reach k ts ≡ testsWithin 𝓜 counts reach (encodeOf 𝓜 k m) ts
     unfolding nearTo
-    within-tests [] h = tests-nil 𝓜 counts reach k ∙ sym (within-nil 𝓜 counts reach (encodeOf 𝓜 k m))
-    within-tests (t ∷ ts) h =
+    within-tests [] only = tests-nil 𝓜 counts reach k ∙ sym (within-nil 𝓜 counts reach (encodeOf 𝓜 k m))
+    within-tests (t ∷ ts) only =
         omega (
           arith,
           tests-cons 𝓜 counts reach k t ts,
           within-cons 𝓜 counts reach (encodeOf 𝓜 k m) t ts,
-          ap bit (governed-here t (h t (List·Memᴰ·head refl))),
-          within-tests ts (λ u i. h u (List·Memᴰ·tail i)),
+          ap bit (governed-here t (only t (List·Memᴰ·head refl))),
+          within-tests ts (λ u i. only u (List·Memᴰ·tail i)),
         )
 
     within-near : (ts : List (List ℕ)) → 0 < testsWithin 𝓜 counts reach (encodeOf 𝓜 k m) ts → T (near 𝓜 counts reach k ts m)
@@ -179,19 +171,19 @@ module _ (𝓜 : Member) (counts : ℕ → Bool) (reach : ℕ) where
         ))
         (λ j. omega (arith, within-cons 𝓜 counts reach (encodeOf 𝓜 k m) u ts, near-within ts t j h)) (List·Memᴰ·cases-cons i)
 
-    module _ (columns : ℕ → List ℕ) (ts : List (List ℕ)) (h : (t : List ℕ) → List·Memᴰ t ts → Governed k (encodeOf 𝓜 k m) t) where
+    module _ (columns : ℕ → List ℕ) (ts : List (List ℕ)) (only : (t : List ℕ) → List·Memᴰ t ts → Only k m t) where
       pub within-some : 0 < testsWithin 𝓜 counts reach (encodeOf 𝓜 k m) ts → answerOf 𝓜 counts reach k columns ts ≡ some m
       within-some some-one =
           answers-unique (near-answers 𝓜 counts reach k columns ts)
           (best (record { word = w; passed = within-near ts some-one })
           (λ n f.
           let r = near-member 𝓜 counts reach k ts n (f .passed) in
-          inl (governed-only (r .0) n (h (r .0) (r .1)) (record { word = f .word; passed = r .2 }))))
+          inl (only (r .0) (r .1) n (record { word = f .word; passed = r .2 }))))
 
       pub within-none : testsWithin 𝓜 counts reach (encodeOf 𝓜 k m) ts ≡ 0 → answerOf 𝓜 counts reach k columns ts ≡ none
       within-none e =
           answer-none 𝓜 counts reach k columns ts
           (λ n f.
           let r = near-member 𝓜 counts reach k ts n (f .passed) in
-          let q = governed-only (r .0) n (h (r .0) (r .1)) (record { word = f .word; passed = r .2 }) in
+          let q = only (r .0) (r .1) n (record { word = f .word; passed = r .2 }) in
           omega (arith, near-within ts (r .0) (r .1) (subst (λ x. T (nearTo 𝓜 counts reach k (r .0) x)) q (r .2))))

@@ -3,33 +3,44 @@
 --
 --   symbolIn f t       symbol t of the message of the function whose coefficients are the numbers f, by order
 --   message-in         the message of these symbols is the function's
---   Held k word c      c is a Q through the word, with its lead up to the limit
---   held-lead          where a codeword is within T of the word, its part with z has a lead, of order at most T + g,
+--   Held k word c      c is a Q through the word whose weight, half its lead, and T are less than the places that count
+--   limit-decides      so is every Q with its lead up to the limit, where so many wrong places can be repaired
+--   held-lead          where a codeword is within T of the word, its lead is that of its part with z,
+--   near-odd           an odd key,
 --   held-divides       and the quotient's message is that codeword's
-use mathlib.Core.Bool.{Bool}
+--   node-held          a Q through the nodes decided so far whose weight, the places that are left and T are less than the places that count holds the
+--                      word at the places that are decided, and what is near a test word of the tree is near it there
+--   node-even          so where its lead is even, no test word of the tree has a codeword within T, and there is no answer
+use mathlib.Core.Bool.{Bool, true}
 use mathlib.Core.Path.{_≡_, sym, ap, _∙_}
-use mathlib.Core.List.{List}
-use Prim.Native.Nat.{ℕ, suc, _+_, _<_, _≤_}
+use mathlib.Core.List.{List, List·Memᴰ}
+use mathlib.Core.Option.{none}
+use Prim.Native.Nat.{ℕ, _+_, _*_, _/_, _%_, _<_, _≤_}
 use native.Mathlib.Nat.{mod-eq-of-lt}
 use native.Mathlib.Decide.{decLt}
 use native.Mathlib.Omega.{arith}
 use lib.Dec.{T}
 use lib.ListN.{length, getD, List·getD-eq-default}
+use Rattle.lists.specs.Count.{count}
 use Rattle.lists.specs.Listed.{listed, listed-ext}
 use Rattle.lists.specs.Words.{allBelow, allBelow-at}
 use Rattle.lists.specs.Answers.{Found}
-use Rattle.algebra.specs.Coefficients.{Lead, lead-below}
+use Rattle.algebra.specs.Coefficients.{Lead}
 use Rattle.galois.specs.BinaryField.{GF, K, value, value-toF, one-lt}
-use Rattle.hermitian.specs.Present.{genus}
+use Rattle.hermitian.specs.Decoding.{radius-decides}
 use Rattle.hermitian.specs.Interpolant.{withoutZ, withZ}
 use Rattle.hermitian.specs.Division.{quotient}
 use Rattle.hermitian.specs.Orders.{orderOf}
-use Rattle.family.specs.Member.{Member, symbols}
-use Rattle.family.specs.Nodes.{ThroughNodes}
-use Rattle.near.specs.Near.{mOf, nearTo}
+use Rattle.hermitian.specs.Repair.{limit}
+use Rattle.soft.specs.TestWord.{expand}
+use Rattle.family.specs.Member.{Member, symbols, places}
+use Rattle.family.specs.Nodes.{Node, ThroughNodes}
+use Rattle.near.specs.Near.{mOf, nearTo, testsNear, answerOf}
 use Rattle.near.specs.Reach.{Workable, Repairable}
 use Rattle.near.specs.Codeword.{symbolsOf, symbolsOf-at, symbolFrom, messageFrom}
-use Rattle.near.specs.Interpolated.{limitOf, nodesOf, held-small, near-lead, near-divides}
+use Rattle.near.specs.Laws.{none-near}
+use Rattle.near.specs.Interpolated.{limitOf, nodesOf, near-lead, near-divides}
+use Rattle.near.specs.Tree.{Places, Decided, decided-through, without, count-without, decided-without, near-without}
 
 module _ (𝓜 : Member) where
   open Member 𝓜 using (gf, w)
@@ -53,21 +64,59 @@ module _ (𝓜 : Member) where
           go (no h) = let b : length function ≤ o = omega arith in omega (arith, List·getD-eq-default function 0 b, one-lt gf)
 
 module _ (𝓜 : Member) (counts : ℕ → Bool) (reach : ℕ) where
-  open Member 𝓜 using (gf, w)
+  open Member 𝓜 using (gf, w, wide)
 
   pub record Held (k : ℕ) (word : List ℕ) (c : ℕ → GF gf) : Type 0 where
     pub lead : ℕ
     pub through : ThroughNodes 𝓜 (mOf 𝓜 k) (nodesOf 𝓜 counts word) c
     pub leads : Lead (K gf) c lead
-    pub unspent : lead ≤ limitOf 𝓜 reach k
+    pub decides : lead / 2 + reach < count (places 𝓜) counts
 
-  module _ {k : ℕ} (rate : Workable 𝓜 k) (repairs : Repairable 𝓜 counts reach k) {word : List ℕ} {c : ℕ → GF gf} (h : Held k word c) {m : List ℕ}
-      (f : Found (symbols 𝓜) k (nearTo 𝓜 counts reach k word) m) where
-    pub held-lead : (j : ℕ) × (j < suc (reach + genus w)) × Lead (K gf) (withZ (K gf) (mOf 𝓜 k) c) j
-    held-lead =
-        let j = near-lead 𝓜 counts reach word rate repairs (h .through) (h .leads) (h .unspent) m (f .passed) in
-        (j .0, lead-below (K gf) (j .1) (held-small 𝓜 counts reach k (h .through .member) (h .leads) (h .unspent) .order-withZ), j .1)
+  pub limit-decides : (k : ℕ) {lead : ℕ} → lead ≤ limitOf 𝓜 reach k → Repairable 𝓜 counts reach k → lead / 2 + reach < count (places 𝓜) counts
+  unfolding limitOf limit
+  limit-decides k unspent repairs = omega (arith, radius-decides wide (mOf 𝓜 k) reach repairs)
+
+  module _ {k : ℕ} (rate : Workable 𝓜 k) {word : List ℕ} {c : ℕ → GF gf} (h : Held k word c) {m : List ℕ} (f : Found (symbols 𝓜) k (nearTo 𝓜 counts reach k word) m) where
+    pub held-lead : (j : ℕ) × (h .lead ≡ 2 * (j + mOf 𝓜 k) + 1) × Lead (K gf) (withZ (K gf) (mOf 𝓜 k) c) j
+    held-lead = near-lead 𝓜 counts reach word rate (h .through) (h .leads) (h .decides) m (f .passed)
+
+    pub near-odd : h .lead % 2 ≡ 1
+    near-odd = omega (arith, held-lead .1)
 
     pub held-divides : {j : ℕ} → Lead (K gf) (withZ (K gf) (mOf 𝓜 k) c) j
         → messageFrom 𝓜 k (quotient (K gf) w j (withZ (K gf) (mOf 𝓜 k) c) (mOf 𝓜 k) (withoutZ (K gf) c)) ≡ m
-    held-divides lead = near-divides 𝓜 counts reach word rate repairs (h .through) (h .leads) (h .unspent) m lead f
+    held-divides lead = near-divides 𝓜 counts reach word rate (h .through) (h .leads) (h .decides) m lead f
+
+-- ---- at a node of the tree
+
+module _ (𝓜 : Member) (counts : ℕ → Bool) (reach k : ℕ) (columns : ℕ → List ℕ) {word ps : List ℕ} {ns : List Node} (D : Decided 𝓜 counts word ps ns)
+    (P : Places (places 𝓜) ps) (all : (p : ℕ) → List·Memᴰ p ps → counts p ≡ true) where
+  open Member 𝓜 using (gf)
+
+  module _ {c : ℕ → GF gf} {l : ℕ} (through : ThroughNodes 𝓜 (mOf 𝓜 k) ns c) (leads : Lead (K gf) c l)
+      (decides : l / 2 + length ps + reach < count (places 𝓜) counts) where
+    -- at the places that are decided
+    held : Held 𝓜 (without counts ps) reach k word c
+    held =
+        record {
+          lead = l;
+          through = decided-through 𝓜 (without counts ps) (mOf 𝓜 k) (decided-without 𝓜 counts D) .0 c through;
+          leads = leads;
+          decides = omega (arith, decides, count-without counts P all);
+        }
+
+    found : (t : List ℕ) → List·Memᴰ t (expand columns word ps) → (m : List ℕ) → Found (symbols 𝓜) k (nearTo 𝓜 counts reach k t) m
+        → Found (symbols 𝓜) k (nearTo 𝓜 (without counts ps) reach k word) m
+    found t i m f = record { word = f .word; passed = near-without 𝓜 counts reach k columns word ps t i m (f .passed) }
+
+    pub node-held : Held 𝓜 (without counts ps) reach k word c
+        × ((t : List ℕ) → List·Memᴰ t (expand columns word ps) → (m : List ℕ) → Found (symbols 𝓜) k (nearTo 𝓜 counts reach k t) m
+        → Found (symbols 𝓜) k (nearTo 𝓜 (without counts ps) reach k word) m)
+    node-held = (held, found)
+
+    pub node-even : Workable 𝓜 k → l % 2 ≡ 0
+        → (testsNear 𝓜 counts reach k (expand columns word ps) ≡ 0) × (answerOf 𝓜 counts reach k columns (expand columns word ps) ≡ none)
+    unfolding held
+    node-even rate even =
+        none-near 𝓜 counts reach k columns (expand columns word ps)
+        (λ t i m f. omega (arith, even, near-odd 𝓜 (without counts ps) reach rate held (found t i m f)))

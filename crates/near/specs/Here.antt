@@ -4,7 +4,7 @@
 --   blankLimit k              57 − M, the most blank places (blank-limit-is): 13 at rate 39 and 3 at rate 49 (blank-limits)
 --   reachOf k b               T with b blank places, the largest with 2T + b < 64 − M − 6 (IsReach, t-is); reach-table: T for every b at both rates
 --   reachIn k columns         T where the blank places are those of the columns
---   nearTo, codewordNear, near, testsNear k columns …   as the family has them, of the places that are not blank in these columns
+--   nearTo, near, testsNear k columns …   as the family has them, of the places that are not blank in these columns
 --   messageCost, answerOf, marginOf, limitOf, nodesOf   the same
 --   Workable k                k from 6 to 52 (workable)
 --   reaches                   without blank places T = 6 at rate 39 and T = 1 at rate 49, with M = 44 and M = 54
@@ -52,9 +52,6 @@ reachIn k columns = Reach.reachIn m16 k columns
 
 abbrev pub nearTo : ℕ → (ℕ → List ℕ) → List ℕ → List ℕ → Bool
 nearTo k columns word m = Near.nearTo m16 (openAt columns) (reachIn k columns) k word m
-
-abbrev pub codewordNear : ℕ → (ℕ → List ℕ) → List ℕ → Option (List ℕ)
-codewordNear k columns word = Near.codewordNear m16 (openAt columns) (reachIn k columns) k word
 
 abbrev pub near : ℕ → (ℕ → List ℕ) → List (List ℕ) → List ℕ → Bool
 near k columns tests m = Near.near m16 (openAt columns) (reachIn k columns) k tests m

@@ -1,41 +1,39 @@
--- Why a basis up to the limit decides a test word: what is near it is found by division, and a basis without a row means that nothing is.
+-- Why a basis up to the limit decides a test word: what is near it is found by division, and a basis without a row with z means that nothing is.
 -- For every member, any T and any places that count.
 --
---   limitOf T k          2(T + g + M) + 1: the largest key that decoding needs
+--   limitOf T k          2(o + M) + 1, where T points have a locator up to the order o = orderOf w T: the largest key that decoding needs
 --   nodesOf word         the nodes of a word: each place that counts, with the word's symbol
---   near-spent           where every class is spent, at some nodes of the word only, no codeword is within T of it
---   held-small           the orders of a row that is not spent: up to T + g + M without z, and up to T + g with z
---   near-lead            where a codeword is within T of the word, a row through it that is not spent has terms with z,
+--   near-spent           where every odd class is spent, at some nodes of the word only, no codeword is within T of it
+--   near-lead            a row through the word whose weight, half its lead, and T are less than the places that count has its lead with z where a
+--                        codeword is within T of the word,
 --   near-divides         and gives that codeword's message by division
 use mathlib.Core.Bool.{Bool}
 use mathlib.Core.Path.{_≡_, refl, sym, ap, _∙_, subst, subst₂}
 use mathlib.Core.List.{List, List·Memᴰ}
-use Prim.Native.Nat.{ℕ, suc, _+_, _<_, _≤_}
+use Prim.Native.Nat.{ℕ, _+_, _*_, _/_, _%_, _<_}
+use native.Mathlib.Nat.{dvd-mul-right, mod-mod-of-dvd}
 use native.Mathlib.Omega.{arith}
 use lib.Dec.{T}
 use lib.ListN.{length, getD}
 use Rattle.lists.specs.Answers.{Found}
 use Rattle.lists.specs.Count.{count}
 use Rattle.lists.specs.Listed.{listed, listed-length, listed-at}
-use Rattle.algebra.specs.Field.{Field}
 use Rattle.algebra.specs.Coefficients.{Lead}
 use Rattle.algebra.specs.Subspace.{common-fewer}
 use Rattle.algebra.specs.Koetter.{Basis}
-use Rattle.algebra.specs.Least.{all-spent}
+use Rattle.algebra.specs.Least.{class-lead}
 use Rattle.algebra.specs.Distance as Distance
 use Rattle.galois.specs.BinaryField.{GF, K}
-use Rattle.hermitian.specs.Present.{genus}
 use Rattle.hermitian.specs.Value.{Curve, Val}
 use Rattle.hermitian.specs.Points.{Points}
-use Rattle.hermitian.specs.Decoding.{Radius, Near, Small, decoding-lead}
-use Rattle.hermitian.specs.Division.{quotient, repaired}
-use Rattle.hermitian.specs.Keys.{plain, timesZ, IsKey, isKey}
-use Rattle.hermitian.specs.Interpolant.{Interpolant, withoutZ, withZ, fn-withoutZ, fn-withZ, below-withoutZ, below-withZ, interpolant-lead}
-use Rattle.hermitian.specs.Repair.{limit, xAt, yAt, zAt, through-passes, near-held}
+use Rattle.hermitian.specs.Decoding.{Near}
+use Rattle.hermitian.specs.Division.{quotient}
+use Rattle.hermitian.specs.Interpolant.{withoutZ, withZ}
+use Rattle.hermitian.specs.Repair.{limit, xAt, yAt, zAt, near-held, decided-withZ, decided-repairs}
 use Rattle.family.specs.Member.{Member, symbols, places, px, py}
 use Rattle.family.specs.Nodes.{Node, node, sampleAt, ThroughNodes}
 use Rattle.near.specs.Near.{mOf, nearTo}
-use Rattle.near.specs.Reach.{Workable, Repairable}
+use Rattle.near.specs.Reach.{Workable}
 use Rattle.near.specs.Codeword.{symbolsOf, messageFunction, messageFrom, messageFrom-function, placeAt, counted-points, near-function}
 
 unfoldable pub nodeOf : List ℕ → ℕ → Node
@@ -50,18 +48,6 @@ module _ (𝓜 : Member) where
 
 module _ (𝓜 : Member) (counts : ℕ → Bool) (reach : ℕ) where
   open Member 𝓜 using (gf, w, wide)
-  open Field (K gf) using (𝟘)
-
-  pub held-small : (k : ℕ) {c : ℕ → GF gf} {l : ℕ} → Interpolant (K gf) w (mOf 𝓜 k) c → Lead (K gf) c l → l ≤ limitOf 𝓜 reach k
-      → Small (K gf) w (mOf 𝓜 k) (reach + genus w) (withoutZ (K gf) c) (withZ (K gf) (mOf 𝓜 k) c)
-  unfolding limitOf limit
-  held-small k q leads unspent =
-      record {
-        fn-plain = fn-withoutZ (K gf) w (mOf 𝓜 k) q;
-        fn-withZ = fn-withZ (K gf) w (mOf 𝓜 k) q;
-        order-plain = below-withoutZ (K gf) w (mOf 𝓜 k) (suc (reach + genus w + mOf 𝓜 k)) (omega arith) (leads .above);
-        order-withZ = below-withZ (K gf) w (mOf 𝓜 k) (suc (reach + genus w)) (omega arith) (leads .above);
-      }
 
   module _ (word : List ℕ) where
     size : length (nodesOf 𝓜 counts word) ≡ count (places 𝓜) counts
@@ -131,34 +117,32 @@ module _ (𝓜 : Member) (counts : ℕ → Bool) (reach : ℕ) where
           })
 
       -- at some nodes of the word only, since what vanishes at all of them vanishes there
-      pub near-spent : {classes : ℕ} → 0 < classes → {G : ℕ → ℕ → GF gf} {l : ℕ → ℕ} (ns : List Node) → ((n : Node) → List·Memᴰ n ns → List·Memᴰ n (nodesOf 𝓜 counts word))
-          → Basis (K gf) classes (limitOf 𝓜 reach k) (ThroughNodes 𝓜 (mOf 𝓜 k) ns) G l → ((r : ℕ) → r < classes → limitOf 𝓜 reach k < l r)
+      pub near-spent : {classes : ℕ} → classes ≡ 2 * w → {G : ℕ → ℕ → GF gf} {l : ℕ → ℕ} (ns : List Node) → ((n : Node) → List·Memᴰ n ns → List·Memᴰ n (nodesOf 𝓜 counts word))
+          → Basis (K gf) classes (limitOf 𝓜 reach k) (ThroughNodes 𝓜 (mOf 𝓜 k) ns) G l → ((r : ℕ) → r < classes → r % 2 ≡ 1 → limitOf 𝓜 reach k < l r)
           → (m : List ℕ) → T (nearTo 𝓜 counts reach k word m) → ⊥
       unfolding limitOf X Y Z d
-      near-spent positive ns some B spent m t =
+      near-spent {classes} twice ns some B spent m t =
           let h = near-held (K gf) w (mOf 𝓜 k) (sampleAt 𝓜) d (nodesOf 𝓜 counts word) wide word-points (word-near m t) in
-          omega (arith, h .4, all-spent (K gf) B positive spent (common-fewer (K gf) some (h .0) (h .2)) (h .3))
+          let r = class-lead (K gf) B (omega (arith, wide)) (common-fewer (K gf) some (h .0) (h .2)) (h .3) in
+          let odd : h .1 % classes % 2 ≡ 1 = ap (λ s. h .1 % s % 2) twice ∙ mod-mod-of-dvd 2 (h .1) (dvd-mul-right 2 w) ∙ h .5 in
+          omega (arith, h .4, r .1, spent (h .1 % classes) (r .0) odd)
 
-      module _ (repairs : Repairable 𝓜 counts reach k) {c : ℕ → GF gf} {l : ℕ} (through : ThroughNodes 𝓜 (mOf 𝓜 k) (nodesOf 𝓜 counts word) c) (leads : Lead (K gf) c l) (unspent : l ≤ limitOf 𝓜 reach k)
+      module _ {c : ℕ → GF gf} {l : ℕ} (through : ThroughNodes 𝓜 (mOf 𝓜 k) (nodesOf 𝓜 counts word) c) (leads : Lead (K gf) c l) (decides : l / 2 + reach < count (places 𝓜) counts)
           (m : List ℕ) where
-        pub near-lead : T (nearTo 𝓜 counts reach k word m) → (j : ℕ) × Lead (K gf) (withZ (K gf) (mOf 𝓜 k) c) j
+        -- of as many nodes as places count
+        enough : l / 2 + reach < length (nodesOf 𝓜 counts word)
+        enough = omega (arith, decides, size)
+
+        pub near-lead : T (nearTo 𝓜 counts reach k word m) → (j : ℕ) × (l ≡ 2 * (j + mOf 𝓜 k) + 1) × Lead (K gf) (withZ (K gf) (mOf 𝓜 k) c) j
         unfolding X Y Z d
         near-lead t =
-            let h =
-            decoding-lead (K gf) w wide word-points (word-near m t) (subst (Radius w (mOf 𝓜 k) reach) (sym size) repairs)
-            (held-small k (through .member) leads unspent) (through-passes (K gf) w (mOf 𝓜 k) (sampleAt 𝓜) d (nodesOf 𝓜 counts word) through)
-            (λ z. leads .ne (zero-at z (interpolant-lead (K gf) w (mOf 𝓜 k) (through .member) leads))) in
-            (h .0, h .2)
-          where
-            zero-at : ((o : ℕ) → (withoutZ (K gf) c o ≡ 𝟘) × (withZ (K gf) (mOf 𝓜 k) c o ≡ 𝟘)) → IsKey w (mOf 𝓜 k) l → c l ≡ 𝟘
-            zero-at z (isKey (plain o) q e) = ap c e ∙ z o .0
-            zero-at z (isKey (timesZ o) q e) = ap c e ∙ z o .1
+            decided-withZ (K gf) w (mOf 𝓜 k) (sampleAt 𝓜) d (nodesOf 𝓜 counts word) wide word-points (word-near m t) through leads enough
 
         pub near-divides : {j : ℕ} → Lead (K gf) (withZ (K gf) (mOf 𝓜 k) c) j → Found (symbols 𝓜) k (nearTo 𝓜 counts reach k word) m
             → messageFrom 𝓜 k (quotient (K gf) w j (withZ (K gf) (mOf 𝓜 k) c) (mOf 𝓜 k) (withoutZ (K gf) c)) ≡ m
         unfolding X Y Z d
-        near-divides {j} lead f =
+        near-divides lead f =
             ap (messageFrom 𝓜 k)
-            (repaired (K gf) w wide word-points (word-near m (f .passed)) (subst (Radius w (mOf 𝓜 k) reach) (sym size) repairs)
-            (held-small k (through .member) leads unspent) (through-passes (K gf) w (mOf 𝓜 k) (sampleAt 𝓜) d (nodesOf 𝓜 counts word) through) lead)
+            (decided-repairs (K gf) w (mOf 𝓜 k) (sampleAt 𝓜) d (nodesOf 𝓜 counts word) wide word-points (word-near m (f .passed)) through leads
+            enough lead)
             ∙ messageFrom-function 𝓜 (f .word)

@@ -1,39 +1,34 @@
 -- The laws of nearness, of the count of test words and of the answer, for every member, any T and any places that count.
 --
 --   near-answers        the answer in the sense of `lists`: it has a near codeword and beats every other such message; or there is none
---   near-nil, near-cons, near-append, near-member, member-near     near some test word of a list
---   tests-nil, tests-cons, tests-one, tests-append, tests-none   the count of a list of test words
+--   near-append, near-member, member-near     near some test word of a list
+--   tests-nil, tests-cons, tests-append, tests-none   the count of a list of test words
+--   none-near           where no codeword is within T of any test word of a list, it is 0, and there is no answer
 --   tests-answerless    where there is no answer, it is 0
 --   tests-le            it is at most their number; tests-doubled: d doubtful places that are not blank have at most 2 ^ d; tests-tree: so d doubtful ones
 --   found-append        near two lists is near one of them
 --   answer-append       the answer of two lists is the better of their answers
---   answer-one          the answer of one test word is the message within T of it, whatever the costs, where so many wrong places can be repaired
 --   answer-none, codeword-none   where no codeword is near
 --   answer-word         an answer is a message
---   single-near, single-far   where only one message can have its codeword within T of a word: it is that one if its codeword is, and none if not
 use mathlib.Core.Bool.{Bool, true, false, _||_}
 use mathlib.Core.Path.{_≡_, refl, sym, ap, _∙_, subst}
 use mathlib.Core.List.{List, [], _∷_, _++_, List·Memᴰ, List·Memᴰ·head, List·Memᴰ·tail, List·Memᴰ·cases-cons, List·Memᴰ·not-nil}
 use mathlib.Core.Logic.{_↔_, _⊎_, inl, inr, ⊎-elim}
 use mathlib.Core.Option.{some, none}
-use Prim.Native.Nat.{ℕ, _+_, _^_, _<_, _≤_}
+use Prim.Native.Nat.{ℕ, _+_, _^_, _≤_}
 use native.Mathlib.Omega.{arith}
-use lib.Dec.{T, le→leb, leb→le}
+use lib.Dec.{T}
 use lib.ListN.{length}
 use lib.Pow.{pow-mono}
 use Rattle.lists.specs.Count.{bit, bit-le}
 use Rattle.lists.specs.Words.{Word}
-use Rattle.lists.specs.Answers.{Answers, Found, firstThat-only, answers-some, answers-unique, answers-none, answers-iff, answers-single, nobody, better, better-answers, free, firstThat-words, cheapest-words}
+use Rattle.lists.specs.Answers.{Answers, Found, answers-some, answers-unique, answers-none, answers-iff, nobody, better, better-answers, free, firstThat-words, cheapest-words}
 use Rattle.soft.specs.Blank.{openAt, unblanked}
 use Rattle.soft.specs.BlankLaws.{unblanked-length}
-use Rattle.soft.specs.Total.{differingIn}
 use Rattle.soft.specs.TestWord.{testWords}
 use Rattle.soft.specs.TestWordLaws.{testWords-count}
-use Rattle.family.specs.Member.{Member, symbols, places}
-use Rattle.family.specs.Encoding.{encodeOf}
+use Rattle.family.specs.Member.{Member, symbols}
 use Rattle.near.specs.Near.{nearTo, codewordNear, near, isSome, testsNear, messageCost, answerOf}
-use Rattle.near.specs.Reach.{Workable, Repairable}
-use Rattle.near.specs.Codeword.{near-one}
 
 either : (a b : Bool) → T (a || b) → T a ⊎ T b
 either true b t = inl tt
@@ -51,20 +46,8 @@ or-assoc : (a b c : Bool) → (a || b || c) ≡ (a || (b || c))
 or-assoc true b c = refl
 or-assoc false b c = refl
 
-or-false : (b : Bool) → (b || false) ≡ b
-or-false true = refl
-or-false false = refl
-
 module _ (𝓜 : Member) (counts : ℕ → Bool) (reach : ℕ) where
   -- ---- near some test word
-
-  pub near-nil : (k : ℕ) (m : List ℕ) → near 𝓜 counts reach k [] m ≡ false
-  unfolding near
-  near-nil k m = refl
-
-  pub near-cons : (k : ℕ) (t : List ℕ) (ts : List (List ℕ)) (m : List ℕ) → near 𝓜 counts reach k (t ∷ ts) m ≡ (nearTo 𝓜 counts reach k t m || near 𝓜 counts reach k ts m)
-  unfolding near
-  near-cons k t ts m = refl
 
   pub near-append : (k : ℕ) (ts us : List (List ℕ)) (m : List ℕ) → near 𝓜 counts reach k (ts ++ us) m ≡ (near 𝓜 counts reach k ts m || near 𝓜 counts reach k us m)
   unfolding near
@@ -117,18 +100,6 @@ module _ (𝓜 : Member) (counts : ℕ → Bool) (reach : ℕ) where
       answers-unique (near-answers k columns (ts ++ us))
       (answers-iff (found-append k ts us) (better-answers (near-answers k columns ts) (near-answers k columns us)))
 
-  found-one : (k : ℕ) (t : List ℕ) (m : List ℕ) → Found (symbols 𝓜) k (nearTo 𝓜 counts reach k t) m ↔ Found (symbols 𝓜) k (near 𝓜 counts reach k (t ∷ [])) m
-  found-one k t m =
-      let e : near 𝓜 counts reach k (t ∷ []) m ≡ nearTo 𝓜 counts reach k t m = near-cons k t [] m ∙ ap (λ b. nearTo 𝓜 counts reach k t m || b) (near-nil k m) ∙ or-false (nearTo 𝓜 counts reach k t m) in (
-        λ f. record { word = f .word; passed = subst T (sym e) (f .passed) },
-        λ f. record { word = f .word; passed = subst T e (f .passed) },
-      )
-
-  pub answer-one : {k : ℕ} → Workable 𝓜 k → Repairable 𝓜 counts reach k → (columns : ℕ → List ℕ) (t : List ℕ) → answerOf 𝓜 counts reach k columns (t ∷ []) ≡ codewordNear 𝓜 counts reach k t
-  answer-one {k} rate repairs columns t =
-      answers-unique (near-answers k columns (t ∷ []))
-      (answers-iff (found-one k t) (answers-single (λ m n p q. near-one 𝓜 counts reach rate t repairs q p) (word-answers k t)))
-
   pub answer-none : (k : ℕ) (columns : ℕ → List ℕ) (ts : List (List ℕ)) → ((m : List ℕ) → Found (symbols 𝓜) k (near 𝓜 counts reach k ts) m → ⊥) → answerOf 𝓜 counts reach k columns ts ≡ none
   answer-none k columns ts f = answers-unique (near-answers k columns ts) (nobody f)
 
@@ -138,23 +109,6 @@ module _ (𝓜 : Member) (counts : ℕ → Bool) (reach : ℕ) where
   pub answer-word : (k : ℕ) (columns : ℕ → List ℕ) (ts : List (List ℕ)) {m : List ℕ} → answerOf 𝓜 counts reach k columns ts ≡ some m → Word (symbols 𝓜) k m
   answer-word k columns ts e =
       answers-some (subst (Answers (messageCost 𝓜 k columns) (Found (symbols 𝓜) k (near 𝓜 counts reach k ts))) e (near-answers k columns ts)) .word
-
-  module _ (k : ℕ) (word : List ℕ) {m : List ℕ} (u : Word (symbols 𝓜) k m)
-      (only : (n : List ℕ) → Found (symbols 𝓜) k (nearTo 𝓜 counts reach k word) n → n ≡ m) where
-    pub single-near : differingIn counts (places 𝓜) (encodeOf 𝓜 k m) word ≤ reach → codewordNear 𝓜 counts reach k word ≡ some m
-    unfolding codewordNear nearTo
-    single-near close = firstThat-only (symbols 𝓜) k (nearTo 𝓜 counts reach k word) m (record { word = u; passed = le→leb _ _ close }) only
-
-    pub single-far : reach < differingIn counts (places 𝓜) (encodeOf 𝓜 k m) word → codewordNear 𝓜 counts reach k word ≡ none
-    unfolding nearTo
-    single-far far =
-        codeword-none k word
-        (λ n f.
-        omega (
-          arith,
-          leb→le (differingIn counts (places 𝓜) (encodeOf 𝓜 k n) word) reach (f .passed),
-          ap (λ x. differingIn counts (places 𝓜) (encodeOf 𝓜 k x) word) (only n f),
-        ))
 
   -- ---- the count
 
@@ -166,9 +120,6 @@ module _ (𝓜 : Member) (counts : ℕ → Bool) (reach : ℕ) where
   unfolding testsNear
   tests-cons k t ts = refl
 
-  pub tests-one : (k : ℕ) (t : List ℕ) → testsNear 𝓜 counts reach k (t ∷ []) ≡ bit (isSome (codewordNear 𝓜 counts reach k t))
-  tests-one k t = omega (arith, tests-cons k t [], tests-nil k)
-
   pub tests-append : (k : ℕ) (ts us : List (List ℕ)) → testsNear 𝓜 counts reach k (ts ++ us) ≡ testsNear 𝓜 counts reach k ts + testsNear 𝓜 counts reach k us
   tests-append k [] us = omega (arith, tests-nil k)
   tests-append k (t ∷ ts) us = omega (arith, tests-cons k t (ts ++ us), tests-cons k t ts, tests-append k ts us)
@@ -178,6 +129,14 @@ module _ (𝓜 : Member) (counts : ℕ → Bool) (reach : ℕ) where
   tests-none k (t ∷ ts) h =
       omega
       (arith, tests-cons k t ts, ap (λ o. bit (isSome o)) (h t (List·Memᴰ·head refl)), tests-none k ts (λ u m. h u (List·Memᴰ·tail m)))
+
+  pub none-near : (k : ℕ) (columns : ℕ → List ℕ) (ts : List (List ℕ)) → ((t : List ℕ) → List·Memᴰ t ts → (m : List ℕ) → Found (symbols 𝓜) k (nearTo 𝓜 counts reach k t) m → ⊥)
+      → (testsNear 𝓜 counts reach k ts ≡ 0) × (answerOf 𝓜 counts reach k columns ts ≡ none)
+  none-near k columns ts far = (
+    tests-none k ts (λ t i. codeword-none k t (far t i)),
+    answer-none k columns ts
+        (λ m f. let r = near-member k ts m (f .passed) in far (r .0) (r .1) m (record { word = f .word; passed = r .2 })),
+  )
 
   pub tests-answerless : (k : ℕ) (columns : ℕ → List ℕ) (ts : List (List ℕ)) → answerOf 𝓜 counts reach k columns ts ≡ none → testsNear 𝓜 counts reach k ts ≡ 0
   tests-answerless k columns ts e =

@@ -9,8 +9,10 @@ pub mod Tree
 pub mod Result
 pub mod Held
 pub mod Left
+pub mod Written
 pub mod Flags
 pub mod Within
+pub mod Choices
 pub mod Governing
 pub mod Rivals
 pub mod Here

@@ -8,27 +8,24 @@
 --   margin-columns               only the columns of the places matter
 --   margin-le                    it is no larger than what every codeword costs at most
 --   margin-governed              where no codeword but that of m is within T of a test word, there is none
---   margin-one                   one test word gives none, where so many wrong places can be repaired
 --   margin-append                the margin of two lists is the smaller of theirs
 --   margin-first, margin-second  where the first or the second list has the better answer, the other's answer is a rival
 --   margin-left, margin-right    where the other list has none
 use mathlib.Core.Bool.{Bool}
 use mathlib.Core.Path.{_≡_, ap, _∙_, subst, fun-ext}
-use mathlib.Core.List.{List, [], _∷_, _++_, List·Memᴰ, List·Memᴰ·eq-of-singleton}
+use mathlib.Core.List.{List, _++_, List·Memᴰ}
 use mathlib.Core.Logic.{_↔_}
 use mathlib.Core.Option.{Option, some, none}
 use Prim.Native.Nat.{ℕ, _-_, _<_, _≤_}
 use Rattle.lists.specs.Words.{words}
-use Rattle.lists.specs.Answers.{Answers, Beats, Found, free, answers-some}
+use Rattle.lists.specs.Answers.{Answers, Beats, Found}
 use Rattle.lists.specs.Margin as Margin
 use Rattle.lists.specs.Margin.{marginIn, RunnerUp, lesser, lesser-none, lesser-comm}
 use Rattle.soft.specs.TotalLaws.{totalOf-ext}
 use Rattle.family.specs.Member.{Member, symbols, places}
 use Rattle.family.specs.Encoding.{encodeOf}
-use Rattle.near.specs.Near.{nearTo, codewordNear, near, messageCost, answerOf}
-use Rattle.near.specs.Reach.{Workable, Repairable}
-use Rattle.near.specs.Codeword.{near-one}
-use Rattle.near.specs.Laws.{near-member, near-answers, word-answers, found-append}
+use Rattle.near.specs.Near.{nearTo, near, messageCost, answerOf}
+use Rattle.near.specs.Laws.{near-member, near-answers, found-append}
 
 module _ (𝓜 : Member) (counts : ℕ → Bool) (reach : ℕ) where
   unfoldable pub marginOf : ℕ → (ℕ → List ℕ) → List (List ℕ) → List ℕ → Option ℕ
@@ -81,15 +78,6 @@ module _ (𝓜 : Member) (counts : ℕ → Bool) (reach : ℕ) where
         (λ n f.
         let r = near-member 𝓜 counts reach k ts n (f .passed) in
         h (r .0) (r .1) n (record { word = f .word; passed = r .2 }))
-
-  pub margin-one : {k : ℕ} → Workable 𝓜 k → Repairable 𝓜 counts reach k → (columns : ℕ → List ℕ) (t : List ℕ) {m : List ℕ}
-      → codewordNear 𝓜 counts reach k t ≡ some m → marginOf k columns (t ∷ []) m ≡ none
-  margin-one {k} rate repairs columns t {m} e =
-      let f = answers-some (subst (Answers free (Found (symbols 𝓜) k (nearTo 𝓜 counts reach k t))) e (word-answers 𝓜 counts reach k t)) in
-      margin-governed k columns (t ∷ [])
-      (λ u i n g.
-      near-one 𝓜 counts reach rate t repairs
-      (subst (λ v. Found (symbols 𝓜) k (nearTo 𝓜 counts reach k v) n) (List·Memᴰ·eq-of-singleton i) g) f)
 
   -- ---- two lists
 

@@ -2,26 +2,32 @@
 --
 --   Places n ps        ps are different places, all below n; places-of, places-test: a list that passes the tests is so, and the other way round
 --   places-at          each place of them is below n; places-unblanked: those of them that count are so too
+--   without counts ps  the places that count, but ps: without-passes, passes-without
+--   count-without      where all of ps count, they are fewer by as many as ps has
 --   Decided word ps ns   the nodes ns are those of the word at all places that count but the doubtful ones that are left, ps
 --   decided-step       one doubtful place less: its node is decided, with the symbol that the word gets there
 --   decided-through    where none is left, what passes through ns passes through the word, and back
---   tree-spent         where every class is spent, no test word of the tree has a codeword within T, and there is no answer
-use mathlib.Core.Bool.{Bool, true, false, not, true≢false}
+--   decided-without    the nodes are those of the word at all places that count but ps: there none is left
+--   near-without       a codeword within T of a test word of the tree is within T of the word at these places
+--   tree-spent         where every odd class is spent, no test word of the tree has a codeword within T, and there is no answer
+use mathlib.Core.Bool.{Bool, true, false, not, _&&_, true≢false}
 use mathlib.Core.Path.{_≡_, refl, sym, ap, _∙_, subst}
 use mathlib.Core.List.{List, [], _∷_, List·Memᴰ, List·Memᴰ·head, List·Memᴰ·tail, List·Memᴰ·cases-cons, List·Memᴰ·not-nil}
 use mathlib.Core.Logic.{_≢_, ⊎-elim}
 use mathlib.Core.Option.{none}
-use Prim.Native.Nat.{ℕ, zero, suc, _<_}
+use Prim.Native.Nat.{ℕ, zero, suc, _+_, _*_, _%_, _<_}
 use native.Mathlib.Nat.{le-of-suc-le-suc}
 use native.Mathlib.Decide.{ℕ-discrete}
 use native.Mathlib.Omega.{arith}
-use lib.Dec.{T, ltb}
+use lib.Dec.{T, ltb, le→leb, leb→le}
 use lib.ListN.{length, getD, set}
 use lib.Seq.{getD-set-same, getD-set-other}
 use borrow.Author.Tests.{lt-ltb, not-true}
-use Rattle.lists.specs.Count.{count, kept-length, kept-member}
+use Rattle.lists.specs.Count.{count, count-split, kept-length, kept-member}
+use Rattle.lists.specs.Different.{count-among, among-count}
+use Rattle.lists.specs.Every.{true-T, T-true}
 use Rattle.lists.specs.Member.{member-at, at-member}
-use Rattle.lists.specs.Distinct.{among, among-member, not-among, distinct, below, below-cons, and-left, and-right, and-both}
+use Rattle.lists.specs.Distinct.{among, among-member, member-among, not-among, distinct, below, below-cons, below-among, and-left, and-right, and-both}
 use Rattle.lists.specs.Listed.{listed, listed-length, listed-at}
 use Rattle.algebra.specs.Subspace.{_⊆_, common-fewer}
 use Rattle.algebra.specs.Koetter.{Basis}
@@ -29,12 +35,15 @@ use Rattle.galois.specs.BinaryField.{GF, K}
 use Rattle.soft.specs.Blank.{unblanked}
 use Rattle.soft.specs.BlankLaws.{unblanked-nil, unblanked-in, unblanked-out, unblanked-member}
 use Rattle.soft.specs.TestWord.{expand}
-use Rattle.soft.specs.TestWordLaws.{expand-settled}
+use Rattle.soft.specs.TestWordLaws.{expand-length, expand-settled}
+use Rattle.soft.specs.Total.{differingIn}
+use Rattle.soft.specs.TotalLaws.{differing-comm, differing-mono, differing-open}
 use Rattle.family.specs.Member.{Member, places}
 use Rattle.family.specs.Nodes.{Node, node, ThroughNodes}
+use Rattle.family.specs.Encoding.{encodeOf}
 use Rattle.near.specs.Near.{mOf, nearTo, testsNear, answerOf}
 use Rattle.near.specs.Reach.{Workable}
-use Rattle.near.specs.Laws.{near-member, codeword-none, answer-none, tests-none}
+use Rattle.near.specs.Laws.{none-near}
 use Rattle.near.specs.Codeword.{placeAt, placeAt-below, placeAt-counts}
 use Rattle.near.specs.Interpolated.{limitOf, nodeOf, nodesOf, near-spent}
 
@@ -73,8 +82,41 @@ places-unblanked {n} counts (places-cons {p} {ps} h fresh P) = go (counts p) ref
     go true e r = subst (Places n) (sym (unblanked-in counts p ps e)) (places-cons h (λ m. fresh (unblanked-member counts ps p m .0)) r)
     go false e r = subst (Places n) (sym (unblanked-out counts p ps e)) r
 
+-- ---- the places that count but some
+
+unfoldable pub without : (ℕ → Bool) → List ℕ → ℕ → Bool
+without counts ps p = counts p && not (among p ps)
+
+module _ (counts : ℕ → Bool) (ps : List ℕ) (p : ℕ) where
+  pub without-passes : T (counts p) → ¬ List·Memᴰ p ps → T (without counts ps p)
+  unfolding without
+  without-passes c out =
+      true-T (without counts ps p) (and-both (counts p) (not (among p ps)) (T-true (counts p) c) (ap not (not-among p ps out)))
+
+  pub passes-without : T (without counts ps p) → T (counts p) × (¬ List·Memᴰ p ps)
+  unfolding without
+  passes-without t =
+      let e : (counts p && not (among p ps)) ≡ true = T-true (without counts ps p) t in (
+        true-T (counts p) (and-left (counts p) (not (among p ps)) e),
+        λ m. true≢false (sym (among-member m) ∙ not-true (among p ps) (and-right (counts p) (not (among p ps)) e)),
+      )
+
+pub count-without : {n : ℕ} (counts : ℕ → Bool) {ps : List ℕ} → Places n ps → ((p : ℕ) → List·Memᴰ p ps → counts p ≡ true)
+    → count n (without counts ps) + length ps ≡ count n counts
+unfolding without
+count-without {n} counts {ps} P all =
+    let t = places-test P in
+    let chosen : ℕ → Bool = λ p. counts p && among p ps in
+    omega (
+      arith,
+      count-split n counts (λ p. among p ps),
+      count-among ps n chosen (λ p l c. and-right (counts p) (among p ps) (T-true (chosen p) c)),
+      among-count ps n chosen (t .1)
+          (λ p a. (below-among n ps p (t .0) a, true-T (chosen p) (and-both (counts p) (among p ps) (all p (member-among p ps a)) a))),
+    )
+
 module _ (𝓜 : Member) (counts : ℕ → Bool) where
-  open Member 𝓜 using (gf)
+  open Member 𝓜 using (gf, w)
 
   pub record Decided (word : List ℕ) (ps : List ℕ) (ns : List Node) : Type 0 where
     pub inside : (n : Node) → List·Memᴰ n ns → (p : ℕ) × (p < places 𝓜) × T (counts p) × (¬ List·Memᴰ p ps) × (n ≡ node p (getD word p 0))
@@ -137,21 +179,46 @@ module _ (𝓜 : Member) (counts : ℕ → Bool) where
         (λ n m. let r = D .inside n m in subst (λ u. List·Memᴰ u (nodesOf 𝓜 counts word)) (sym (r .4)) (node-member word (r .0) (r .1) (r .2))),
   )
 
-  module _ (reach : ℕ) {k : ℕ} (rate : Workable 𝓜 k) (columns : ℕ → List ℕ) {word ps : List ℕ} {ns : List Node} (D : Decided word ps ns) {classes : ℕ} (positive : 0 < classes) {G : ℕ → ℕ → GF gf}
-      {l : ℕ → ℕ} (B : Basis (K gf) classes (limitOf 𝓜 reach k) (ThroughNodes 𝓜 (mOf 𝓜 k) ns) G l) (spent : (r : ℕ) → r < classes → limitOf 𝓜 reach k < l r) where
+  module _ (reach : ℕ) {k : ℕ} (rate : Workable 𝓜 k) (columns : ℕ → List ℕ) {word ps : List ℕ} {ns : List Node} (D : Decided word ps ns) {classes : ℕ} (twice : classes ≡ 2 * w) {G : ℕ → ℕ → GF gf}
+      {l : ℕ → ℕ} (B : Basis (K gf) classes (limitOf 𝓜 reach k) (ThroughNodes 𝓜 (mOf 𝓜 k) ns) G l) (spent : (r : ℕ) → r < classes → r % 2 ≡ 1 → limitOf 𝓜 reach k < l r) where
     -- the test words of the tree have the nodes decided so far
-    far : (t : List ℕ) → List·Memᴰ t (expand columns word ps) → (n : List ℕ) → T (nearTo 𝓜 counts reach k t n) → ⊥
-    far t m =
-        near-spent 𝓜 counts reach t rate positive ns
+    pub tree-spent : (testsNear 𝓜 counts reach k (expand columns word ps) ≡ 0) × (answerOf 𝓜 counts reach k columns (expand columns word ps) ≡ none)
+    tree-spent =
+        none-near 𝓜 counts reach k columns (expand columns word ps)
+        (λ t m n f.
+        near-spent 𝓜 counts reach t rate twice ns
         (λ u h.
         let r = D .inside u h in
         subst (λ v. List·Memᴰ v (nodesOf 𝓜 counts t)) (sym (r .4 ∙ ap (node (r .0)) (sym (expand-settled columns word ps t m (r .0) (r .3)))))
         (node-member t (r .0) (r .1) (r .2)))
-        B spent
+        B spent n (f .passed))
 
-    pub tree-spent : (testsNear 𝓜 counts reach k (expand columns word ps) ≡ 0) × (answerOf 𝓜 counts reach k columns (expand columns word ps) ≡ none)
-    tree-spent = (
-      tests-none 𝓜 counts reach k (expand columns word ps) (λ t m. codeword-none 𝓜 counts reach k t (λ n f. far t m n (f .passed))),
-      answer-none 𝓜 counts reach k columns (expand columns word ps)
-          (λ n f. let r = near-member 𝓜 counts reach k (expand columns word ps) n (f .passed) in far (r .0) (r .1) n (r .2)),
-    )
+-- ---- a node of the tree at the places that are decided
+
+module _ (𝓜 : Member) (counts : ℕ → Bool) where
+  pub decided-without : {word ps : List ℕ} {ns : List Node} → Decided 𝓜 counts word ps ns → Decided 𝓜 (without counts ps) word [] ns
+  decided-without {word} {ps} D =
+      record {
+        inside = λ n m. let r = D .inside n m in (r .0, r .1, without-passes counts ps (r .0) (r .2) (r .3), List·Memᴰ·not-nil, r .4);
+        covers = λ p h c out. let r = passes-without counts ps p c in D .covers p h (r .0) (r .1);
+      }
+
+  module _ (reach k : ℕ) (columns : ℕ → List ℕ) (word ps t : List ℕ) (i : List·Memᴰ t (expand columns word ps)) (m : List ℕ) where
+    -- at the places that are decided the test word has the symbols of the word
+    same : differingIn (without counts ps) (places 𝓜) (encodeOf 𝓜 k m) word ≡ differingIn (without counts ps) (places 𝓜) (encodeOf 𝓜 k m) t
+    same =
+        differing-comm (without counts ps) (places 𝓜) (encodeOf 𝓜 k m) word
+        ∙ differing-open (without counts ps) (places 𝓜) word t (encodeOf 𝓜 k m) (sym (expand-length columns word ps t i))
+        (λ p l c. sym (expand-settled columns word ps t i p (passes-without counts ps p (true-T (without counts ps p) c) .1)))
+        ∙ differing-comm (without counts ps) (places 𝓜) t (encodeOf 𝓜 k m)
+
+    pub near-without : T (nearTo 𝓜 counts reach k t m) → T (nearTo 𝓜 (without counts ps) reach k word m)
+    unfolding nearTo
+    near-without h =
+        le→leb (differingIn (without counts ps) (places 𝓜) (encodeOf 𝓜 k m) word) reach
+        (omega (
+          arith,
+          same,
+          differing-mono counts (without counts ps) (places 𝓜) (encodeOf 𝓜 k m) t (λ p l c. passes-without counts ps p c .0),
+          leb→le (differingIn counts (places 𝓜) (encodeOf 𝓜 k m) t) reach h,
+        ))

@@ -8,6 +8,7 @@
 --   doubtGapOf column      the gap as it counts for choosing doubtful places; countedGap: of a best and a second cost
 --   isBlank column         the column is blank (an erasure): all its costs are equal
 --   bestBut column b n     the best of the first n symbols, b left out; step by step, firstBut and betterOf
+--   numberOf w column s    the cost of the symbol s times a width, plus the symbol: it puts symbols in order, equal costs to the smaller one
 --   pairAt bytes i         the number in two bytes, high first
 --   costsFrom n bytes      n costs from their bytes, two each: a column, or the columns of a table one after the other
 --   columnOf q costs p     the column of place p in a list of costs, q to a place, place 0 first
@@ -52,6 +53,9 @@ bestOf column = bestBut column (length column) (length column)
 
 unfoldable pub secondOf : List ℕ → ℕ
 secondOf column = bestBut column (bestOf column) (length column)
+
+abbrev pub numberOf : ℕ → List ℕ → ℕ → ℕ
+numberOf w column s = costOf column s * w + s
 
 unfoldable pub gapOf : List ℕ → ℕ
 gapOf column = costOf column (secondOf column) - costOf column (bestOf column)

@@ -4,10 +4,11 @@
 --   BestBut column b n r   r is the best of the first n symbols other than b: least cost, and among equal costs the smallest
 --   bestBut-best           bestBut finds it
 --   bestBut-unique         there is only one
---   bestBut-below          it is a symbol of the column
 --   best-best              the best symbol is the best with none left out; best-least, best-first: its cost is least, equal costs are at no smaller symbol
 --   second-best            the second symbol is the best of the others; second-other: it differs from the best
 --   best-below, second-below   both are symbols of the column
+--   key-lt                 of two numbers first · width + second the one with the smaller first is smaller, where its second is below the width
+--   best-number, second-number   of the symbols' numbers, for any width up to which they go, the best symbol's is the least and the second's the next
 --   gap-cost               best cost and gap make the second cost
 --   counted-pinned, counted-open, counted-level   the gap of two costs as it counts: with the second at the ceiling and the best lower; with the
 --                          second elsewhere; with the best at the ceiling; counted-most: never more than the ceiling
@@ -30,8 +31,9 @@ use lib.ListN.{length, getD, take, drop, List·getD-eq-default}
 use lib.Seq.{getD-take, getD-drop, ext-getD}
 use borrow.Author.Tests.{lt-ltb, le-ltb, eq-eqb, ne-eqb}
 use Rattle.lists.specs.Block.{block, block-length, block-at}
+use Rattle.lists.specs.Least.{leastOf, nextOf, least-is, next-is}
 use Rattle.lists.specs.Listed.{listed, listed-length, listed-at, listed-ext}
-use Rattle.soft.specs.Column.{ceiling, costOf, costFrom, costsFrom, costAt, columnOf, firstBut, betterOf, betterIn, bestBut, bestOf, secondOf, gapOf, countedGap, doubtGapOf}
+use Rattle.soft.specs.Column.{ceiling, costOf, costFrom, costsFrom, costAt, columnOf, firstBut, betterOf, betterIn, bestBut, bestOf, secondOf, numberOf, gapOf, countedGap, doubtGapOf}
 
 pub firstBut-zero : (b : ℕ) → b ≡ 0 → firstBut b ≡ 1
 unfolding firstBut
@@ -151,11 +153,6 @@ module _ (column : List ℕ) (b : ℕ) where
       (record { place = inr refl; other = first-other b; least = λ s l. absurd (omega arith); first = λ s l. absurd (omega arith) })
   held-all (suc n) = rw bestBut-suc (held-step n (bestBut column b n) (held-all n))
 
-  -- in a column of at least two symbols the symbol held is always one of them
-  pub bestBut-below : (n m : ℕ) → n ≤ m → 1 < m → bestBut column b n < m
-  bestBut-below n m l two =
-      ⊎-elim (λ k. omega arith) (λ (q : bestBut column b n ≡ firstBut b). omega (arith, firstBut-le b)) (held-all n .place)
-
   pub bestBut-best : (n : ℕ) → firstBut b < n → BestBut column b n (bestBut column b n)
   bestBut-best n l =
       let h = held-all n in
@@ -195,6 +192,33 @@ module _ (column : List ℕ) (two : 1 < length column) where
   pub gap-cost : costOf column (bestOf column) + gapOf column ≡ costOf column (secondOf column)
   unfolding gapOf
   gap-cost = let l : costOf column (bestOf column) ≤ costOf column (secondOf column) = best-least (secondOf column) second-below in omega arith
+
+pub key-lt : (w g h p q : ℕ) → g < h → p < w → g * w + p < h * w + q
+key-lt w g h p q l k = let m : suc g * w ≤ h * w = mul-le-mul-right w l in omega (arith, suc-mul g w)
+
+-- by their numbers the symbols are in order of cost, equal costs to the smaller symbol
+module _ (column : List ℕ) (two : 1 < length column) (w : ℕ) (wide : length column ≤ w) where
+  number-le : (s t : ℕ) → s < length column → costOf column s ≤ costOf column t → (costOf column t ≡ costOf column s → s ≤ t)
+      → numberOf w column s ≤ numberOf w column t
+  number-le s t l c f =
+      ⊎-elim (λ (e : costOf column s ≡ costOf column t). omega (arith, f (sym e), ap (λ x. x * w) e))
+      (λ h. omega (arith, key-lt w (costOf column s) (costOf column t) s t h (omega arith))) (eq-or-lt-of-le c)
+
+  module _ (above : ℕ) (most : (s : ℕ) → s < length column → numberOf w column s ≤ above) where
+    pub best-number : leastOf above (length column) (numberOf w column) ≡ numberOf w column (bestOf column)
+    best-number =
+        let b = best-below column two in
+        least-is above (numberOf w column) (length column) (bestOf column) b (most (bestOf column) b)
+        (λ s l. number-le (bestOf column) s b (best-least column two s l) (best-first column two s l))
+
+    pub second-number : nextOf above (length column) (numberOf w column) ≡ numberOf w column (secondOf column)
+    second-number =
+        let b = best-below column two in
+        let t = second-best column two in
+        next-is above (numberOf w column) (length column) (bestOf column) (secondOf column) b (t .below) (λ e. t .other (sym e))
+        (number-le (bestOf column) (secondOf column) b (best-least column two (secondOf column) (t .below))
+        (best-first column two (secondOf column) (t .below)))
+        (most (secondOf column) (t .below)) (λ s l e. number-le (secondOf column) s (t .below) (t .least s l e) (t .first s l e))
 
 -- the gap of two costs as it counts for choosing doubtful places
 pub counted-pinned : (best second : ℕ) → second ≡ ceiling → best < ceiling → countedGap best second ≡ ceiling

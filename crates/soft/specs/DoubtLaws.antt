@@ -3,6 +3,7 @@
 --   ahead-cases            a place is ahead by a smaller gap, or by an equal one and as the lower place; smaller-ahead: by a smaller gap it always is
 --   none-ahead, ahead-none   the places ahead count 0 exactly if no place that counts is ahead: the place is the first
 --   ahead-key              of two of n places one is ahead exactly if its key, the gap times n plus the place, is smaller
+--   key-injective          no two places share a key
 --   ahead-rank             so the places ahead are counted by a rank
 --   smallest-length        exactly d places are chosen, where so many count; smallest-most: never more
 --   smallest-all           all that count, where they are no more than d; doubtful-all: all places that are not blank
@@ -21,7 +22,6 @@ use mathlib.Core.Path.{_≡_, refl, sym, ap, ap₂, _∙_, subst}
 use mathlib.Core.List.{List, [], List·Memᴰ}
 use mathlib.Core.Logic.{_⊎_, inl, inr}
 use Prim.Native.Nat.{ℕ, suc, _+_, _*_, _<_, _≤_}
-use native.Mathlib.Nat.{mul-le-mul-right, suc-mul}
 use native.Mathlib.Decide.{decLe}
 use native.Mathlib.Omega.{arith}
 use lib.Dec.{T, ltb, eqb, ltb→lt, lt→ltb, eqb→eq}
@@ -31,7 +31,7 @@ use Rattle.lists.specs.Count.{count, count-ext, count-none, count-zero, count-m
 use Rattle.lists.specs.Distinct.{and-both}
 use Rattle.lists.specs.Every.{both-left, both-right, both-intro, T-true, true-T}
 use Rattle.soft.specs.Column.{ceiling, costOf, secondOf, doubtGapOf, isBlank}
-use Rattle.soft.specs.ColumnLaws.{PinnedSecond, doubt-gap-pinned, doubt-gap-below}
+use Rattle.soft.specs.ColumnLaws.{key-lt, PinnedSecond, doubt-gap-pinned, doubt-gap-below}
 use Rattle.soft.specs.Blank.{openAt, blanksOf}
 use Rattle.soft.specs.BlankLaws.{open-count}
 use Rattle.soft.specs.Ranks.{rankIn, rank-in-exact, rank-in-before}
@@ -80,9 +80,6 @@ doubtful-none n columns =
     nothing true b e = e
     nothing false b e = refl
 
-key-lt : (n g h p q : ℕ) → g < h → p < n → g * n + p < h * n + q
-key-lt n g h p q l k = let m : suc g * n ≤ h * n = mul-le-mul-right n l in omega (arith, suc-mul g n)
-
 -- the first of the places that count
 module _ (n : ℕ) (gap : ℕ → ℕ) (counts : ℕ → Bool) (q : ℕ) where
   pub none-ahead : ((p : ℕ) → p < n → counts p ≡ true → T (ahead gap p q) → ⊥) → aheadOf n counts gap q ≡ 0
@@ -128,7 +125,7 @@ module _ (n : ℕ) (gap : ℕ → ℕ) where
           simp (le-ltb (gap p) (gap q) (omega arith), eq-eqb (gap p) (gap q) e) (even e)
 
   -- and no two places share it
-  key-injective : (p q : ℕ) → p < n → q < n → key p ≡ key q → p ≡ q
+  pub key-injective : (p q : ℕ) → p < n → q < n → key p ≡ key q → p ≡ q
   key-injective p q lp lq e = go (decLe (suc (gap p)) (gap q)) (decLe (suc (gap q)) (gap p))
     where
       go : Dec (gap p < gap q) → Dec (gap q < gap p) → p ≡ q

@@ -6,7 +6,8 @@
 --   total-bound            n costs of at most b cost at most n * b
 --   totalOf-ext, pinnedOf-ext, changedOf-ext   only the columns of the places matter
 --   differing-le, differing-self, differing-comm, differing-triangle, differing-none   differing is a distance of words of n places
---   differing-fewer        of the places that count two words differ in no more than of all
+--   differing-mono         where fewer places count, two words differ in no more of them; differing-fewer: so of those that count than of all
+--   differing-set          a word with one symbol or another at a place
 --   changed-blank, differing-open   a blank place is never changed, and what a word has at places that do not count never makes it differ
 --   blank-cost, blank-total   all symbols cost the same at a blank place; so the total is the sum over the other places, and what the blank ones add is
 --                          the same for every word of symbols
@@ -22,15 +23,15 @@ use native.Mathlib.Numerals.{add-one}
 use native.Mathlib.Decide.{ℕ-discrete}
 use native.Mathlib.Omega.{arith}
 use lib.Dec.{T, ltb, eqb, ltb→lt, eqb→eq}
-use lib.ListN.{length, length-append}
-use lib.Seq.{ext-getD}
+use lib.ListN.{length, set, length-append, length-set}
+use lib.Seq.{ext-getD, getD-set-same, getD-set-other}
 use borrow.Author.Tests.{lt-ltb, eq-eqb, ne-eqb, not-false}
-use Rattle.lists.specs.Count.{bit, sumOf, sumOf-suc, sumOf-ext, sumOf-mono, sumOf-plus, sumOf-bound, count, count-nil, count-suc, count-ext, count-le, count-mono, count-none, count-zero}
+use Rattle.lists.specs.Count.{bit, sumOf, sumOf-suc, sumOf-ext, sumOf-mono, sumOf-plus, sumOf-bound, count, count-nil, count-suc, count-ext, count-le, count-mono, count-none, count-zero, count-but}
 use Rattle.soft.specs.Column.{costOf, bestOf, ceiling, isBlank}
 use Rattle.soft.specs.Blank.{openAt}
 use Rattle.soft.specs.BlankLaws.{blank-same}
 use Rattle.soft.specs.TestWord.{bestAt, bestWord}
-use Rattle.soft.specs.Total.{symbolAt, costIn, totalOf, pinnedAt, pinnedOf, changedAt, changedOf, agree, differAt, differingIn, differing, bytesOf, marginBytes, reportOf}
+use Rattle.soft.specs.Total.{symbolAt, costIn, totalOf, pinnedAt, pinnedOf, changedAt, changedOf, agree, differAt, everywhere, differingIn, differing, bytesOf, marginBytes, reportOf}
 use Rattle.soft.specs.TestWordLaws.{bestWord-length, bestWord-at}
 
 module _ (columns : ℕ → List ℕ) (word : List ℕ) where
@@ -189,10 +190,42 @@ differing-none n u v lu lv e =
     ext-getD 0 u v (lu ∙ sym lv)
     (λ p l. agree-facts u v p (subst T (sym (not-false (agree u v p) (count-zero n (differAt u v) e p (omega arith)))) tt) .same)
 
-pub differing-fewer : (counts : ℕ → Bool) (n : ℕ) (u v : List ℕ) → differingIn counts n u v ≤ differing n u v
+both-pass : (a b : Bool) → T a → T b → T (a && b)
+both-pass true b s t = t
+both-pass false b s t = s
+
+pub differing-mono : (counts fewer : ℕ → Bool) (n : ℕ) (u v : List ℕ) → ((p : ℕ) → p < n → T (fewer p) → T (counts p)) → differingIn fewer n u v ≤ differingIn counts n u v
 unfolding differingIn
-differing-fewer counts n u v =
-    count-mono n (λ p. counts p && differAt u v p) (differAt u v) (λ p l t. both-true (counts p) (differAt u v p) t .1)
+differing-mono counts fewer n u v h =
+    count-mono n (λ p. fewer p && differAt u v p) (λ p. counts p && differAt u v p)
+    (λ p l t. let b = both-true (fewer p) (differAt u v p) t in both-pass (counts p) (differAt u v p) (h p l (b .0)) (b .1))
+
+pub differing-fewer : (counts : ℕ → Bool) (n : ℕ) (u v : List ℕ) → differingIn counts n u v ≤ differing n u v
+differing-fewer counts n u v = differing-mono everywhere counts n u v (λ p l t. tt)
+
+-- at a place that is written anew a word agrees with one that has the symbol written there
+agree-set : (u v : List ℕ) (p x : ℕ) → p < length u → p < length v → agree u (set v p x) p ≡ eqb (symbolAt u p) x
+unfolding agree
+agree-set u v p x lu lv =
+    simp (lt-ltb p (length u) lu, lt-ltb p (length (set v p x)) (rw length-set lv), getD-set-same v p x 0 lv)
+
+-- and at another place it does not matter what is written
+agree-beside : (u v : List ℕ) (p x y q : ℕ) → q ≢ p → agree u (set v p x) q ≡ agree u (set v p y) q
+unfolding agree
+agree-beside u v p x y q other =
+    ap₂ (λ (m s : ℕ). ltb q (length u) && (ltb q m && eqb (symbolAt u q) s)) (length-set v p x ∙ sym (length-set v p y))
+    (getD-set-other v p q x 0 other ∙ sym (getD-set-other v p q y 0 other))
+
+-- a word with the symbol x or y at place p: the other places differ equally from a word
+pub differing-set : (counts : ℕ → Bool) (n : ℕ) (u v : List ℕ) (p x y : ℕ) → p < n → p < length u → p < length v
+    → differingIn counts n u (set v p x) + bit (counts p && not (eqb (symbolAt u p) y))
+    ≡ differingIn counts n u (set v p y) + bit (counts p && not (eqb (symbolAt u p) x))
+unfolding differingIn
+differing-set counts n u v p x y l lu lv =
+    ap (λ b. count n (λ q. counts q && differAt u (set v p x) q) + bit (counts p && not b)) (sym (agree-set u v p y lu lv))
+    ∙ count-but n p (λ q. counts q && differAt u (set v p x) q) (λ q. counts q && differAt u (set v p y) q) l
+    (λ q k other. ap (λ b. counts q && not b) (agree-beside u v p x y q other))
+    ∙ ap (λ b. count n (λ q. counts q && differAt u (set v p y) q) + bit (counts p && not b)) (agree-set u v p x lu lv)
 
 pub changed-blank : (columns : ℕ → List ℕ) (word : List ℕ) (p : ℕ) → isBlank (columns p) ≡ true → changedAt columns word p ≡ false
 changed-blank columns word p e = ap (λ b. not b && not (eqb (symbolAt word p) (bestOf (columns p)))) e

@@ -1,11 +1,11 @@
--- A node of the tree: spent, a leaf, or two branches.
+-- A node of the tree: spent, decided by a row, or two branches.
 use mathlib.Core.Bool.{Bool, true}
-use mathlib.Core.Path.{_≡_, refl, sym, ap₂, _∙_, subst}
+use mathlib.Core.Path.{_≡_, refl, sym, ap, ap₂, _∙_, subst}
+use mathlib.Core.Logic.{_⊎_, inl, inr}
 use mathlib.Core.List.{List, [], _∷_, _++_, List·Memᴰ·head, List·Memᴰ·tail}
-use Prim.Native.Nat.{ℕ, _+_, _-_, _%_, _^_, _<_, _≤_}
-use native.Mathlib.Nat.{eq-or-lt-of-le, le-of-suc-le-suc, le-trans}
-use mathlib.Core.Logic.{⊎-elim}
-use native.Mathlib.Numerals.{add-one}
+use Prim.Native.Nat.{ℕ, _+_, _-_, _/_, _%_, _<_, _≤_}
+use native.Mathlib.Nat.{le-trans}
+use native.Mathlib.Decide.{ℕ-discrete}
 use native.Mathlib.Omega.{arith}
 use lib.ListN.{length, getD, take, drop, set, length-set}
 use Rattle.lists.specs.Every.{true-T}
@@ -20,62 +20,85 @@ use Rattle.family.specs.Nodes.{node}
 use Rattle.soft.specs.Column.{places}
 use Rattle.soft.specs.Doubt.{mostDoubt}
 use Rattle.soft.specs.TestWord.{bestAt, secondAt, expand}
-use Rattle.soft.specs.TestWordLaws.{expand-nil, expand-cons}
+use Rattle.soft.specs.TestWordLaws.{expand-cons}
 use Rattle.soft.specs.Blank.{openAt}
-use Rattle.near.specs.Here.{mOf, reachIn, limitOf, blanksIn, Places, Decided}
+use Rattle.soft.specs.BlankLaws.{open-count}
+use Rattle.near.specs.Here.{mOf, reachOf, reachIn, limitOf, blanksIn, Places}
 use Rattle.family.specs.Member.{m16}
-use Rattle.near.specs.Tree.{places-cons, decided-step, decided-through, tree-spent}
+use Rattle.near.specs.Held.{limit-decides}
+use Rattle.near.specs.Tree.{places-cons, decided-step, tree-spent}
 use Rattle.answers.specs.declared.Found.{Found}
-use Rattle.answers.specs.Result.{nothingFound}
-use Rattle.answers.specs.Nearest.{Nearest, nearest-nothing}
-use Rattle.tree.specs.Searching.{Lowest, Ready, LeafOf, SearchOf, BranchOf}
+use Rattle.answers.specs.Nearest.{Nearest}
+use Rattle.tree.specs.Searching.{Lowest, Ready, DecidedOf, SearchOf, BranchOf}
 use Rattle.candidate.specs.Ranged.{Ranged, workable}
-use Rattle.candidate.specs.Marked.{Marked}
-use Rattle.answers.specs.Answered.{Sound}
+use Rattle.candidate.specs.Marked.{Marked, reach-marked, repairs-marked}
+use Rattle.answers.specs.Answered.{counted, missedOf, Sound, nearest-missed}
 use Rattle.answers.specs.Better.{betterOf, better-tests, better-joins}
 use Rattle.known.specs.Known.{governsOf, WithinOf, belowOf}
 use Rattle.near.specs.Left.{places-rest, split-places, twice}
-use Rattle.known.specs.Governing.{governs-all, below-tests, governed-nearest}
+use Rattle.known.specs.Governing.{below-tests, governs-only, governed-nearest}
 use Rattle.near.specs.Near as Near
 use Rattle.hermitian.specs.Present.{genus}
 
--- the class of least lead, one more class
-pub lowest-turn : (leads : List ℕ) (q r p : ℕ) → p < classes → leadAt leads p ≤ leadAt leads r → leadAt leads p ≤ leadAt leads q → Lowest leads q r
-    → Lowest leads (q + 1) p
-lowest-turn leads q r p h a b l =
-    record {
-      within = h;
-      lowest = λ i j.
-          ⊎-elim (λ (e : i ≡ q). subst (λ x. leadAt leads p ≤ leadAt leads x) (sym e) b) (λ s. le-trans a (l .lowest i s))
-          (eq-or-lt-of-le (le-of-suc-le-suc (subst (λ n. i < n) (add-one q) j)));
-    }
+-- the class of least lead, one more class with the parity
+pub lowest-turn : (leads : List ℕ) (parity q r p : ℕ) → q % 2 ≡ parity → p < classes → leadAt leads p ≤ leadAt leads r → leadAt leads p ≤ leadAt leads q
+    → (p ≡ r) ⊎ (p ≡ q) → Lowest leads parity q r → Lowest leads parity (q + 2) p
+lowest-turn leads parity q r p at h a b one l = record { within = h; alike = same one; lowest = λ i j e. go i j e (ℕ-discrete i q) }
+  where
+    same : (p ≡ r) ⊎ (p ≡ q) → p % 2 ≡ parity
+    same (inl e) = ap (λ x. x % 2) e ∙ l .alike
+    same (inr e) = ap (λ x. x % 2) e ∙ at
 
--- a node that is spent, and a leaf
-module _ {k : ℕ} (rate : Ranged k) (columns : ℕ → List ℕ) (word ps : List ℕ) (rows : List (List ℕ)) (leads : List ℕ) (left : ℕ) (L : ℕ)
-    (L-is : L ≡ limitOf k (blanksIn columns)) (class : ℕ) (low : Lowest leads classes class) where
-  pub node-spent : L < leadAt leads class → SearchOf k columns word ps rows leads left nothingFound
-  unfolding nothingFound
-  node-spent far =
+    go : (i : ℕ) → i < q + 2 → i % 2 ≡ parity → Dec (i ≡ q) → leadAt leads p ≤ leadAt leads i
+    go i j e (yes s) = subst (λ x. leadAt leads p ≤ leadAt leads x) (sym s) b
+    go i j e (no n) = le-trans a (l .lowest i (omega arith) e)
+
+-- a node that is spent, one that a row decides, and one that has a place left
+module _ {k : ℕ} (rate : Ranged k) (columns : ℕ → List ℕ) (leads : List ℕ) (left L : ℕ) (L-is : L ≡ limitOf k (blanksIn columns)) where
+  pub node-spent : (word ps : List ℕ) (rows : List (List ℕ)) (odd : ℕ) → Lowest leads 1 classes odd → (known : Found) → L < leadAt leads odd
+      → SearchOf k columns word ps rows leads left (missedOf known)
+  unfolding missedOf counted
+  node-spent word ps rows odd low known far =
       record {
         few = omega arith;
         finds = λ R P.
-            nearest-nothing (tree-spent m16 (openAt columns) (reachIn k columns) (workable rate) columns (R .decided) (omega arith) (R .basis) (λ r h. omega (arith, L-is, low .lowest r h)) .1);
+            nearest-missed known
+            (tree-spent m16 (openAt columns) (reachIn k columns) (workable rate) columns (R .decided) refl (R .basis) (λ r h e. omega (arith, L-is, low .lowest r h e)) .1);
       }
 
-  pub node-leaf : (f : Found) → left ≡ 0 → ps ≡ [] → leadAt leads class ≤ L → LeafOf k columns word (getD rows class []) f
-      → SearchOf k columns word ps rows leads left f
-  unfolding polynomials rowAt
-  node-leaf f none-left end close leaf =
-      record {
-        few = subst (λ n. f .tests ≤ 2 ^ n) (sym none-left) (leaf .few);
-        finds = λ R P.
-            let D : Decided columns word [] (R .nodes) = subst (λ q. Decided columns word q (R .nodes)) end (R .decided) in
-            let h = R .basis .held class (low .within) (omega (arith, L-is)) in
-            subst (λ q. Nearest k columns (expand columns word q) f) (sym end)
-            (subst (λ ts. Nearest k columns ts f) (sym (expand-nil columns word))
-            (leaf .finds
-            (record { lead = leadAt leads class; through = decided-through m16 (openAt columns) (mOf k) D .0 _ (h .member); leads = h .leads; unspent = omega (arith, L-is) })));
-      }
+  module _ {counts : List ℕ} {b : ℕ} (marked : Marked k columns counts b) (r : ℕ) (r-is : r ≡ reachOf k b) (class : ℕ) (close : leadAt leads class ≤ L) where
+    pub node-decided : (word ps : List ℕ) (rows : List (List ℕ)) (f : Found) → class < classes → length ps ≡ left
+        → leadAt leads class / 2 + left + r < places - b → DecidedOf k columns word ps (getD rows class []) (leadAt leads class) left f
+        → SearchOf k columns word ps rows leads left f
+    unfolding polynomials rowAt
+    node-decided word ps rows f within long decides D =
+        record {
+          few = D .few;
+          finds = λ R P.
+              let h = R .basis .held class within (omega (arith, L-is)) in
+              D .finds
+              (record {
+                nodes = R .nodes;
+                decided = R .decided;
+                all-open = R .all-open;
+                through = h .member;
+                leads = h .leads;
+                decides = omega (arith, long, decides, r-is, reach-marked marked, marked .number, open-count places columns);
+              })
+              P;
+        }
+
+    -- where none is left, every row up to the limit decides
+    pub node-open : places - b ≤ leadAt leads class / 2 + left + r → 0 < left
+    node-open undecided =
+        omega (
+          arith,
+          r-is,
+          reach-marked marked,
+          marked .number,
+          open-count places columns,
+          limit-decides m16 (openAt columns) (reachIn k columns) k (subst (λ n. leadAt leads class ≤ n) L-is close) (repairs-marked marked rate),
+        )
 
 -- one branch: the place is decided with the symbol, by a codeword that is known or by one more node
 module _ {k : ℕ} (rate : Ranged k) (columns : ℕ → List ℕ) (word : List ℕ) (place symbol : ℕ) (ps : List ℕ) (rows : List (List ℕ)) (leads : List ℕ)
@@ -83,14 +106,15 @@ module _ {k : ℕ} (rate : Ranged k) (columns : ℕ → List ℕ) (word : List �
   pub branch-known : {counts : List ℕ} {b : ℕ} → Marked k columns counts b → (known : Found) (tests : ℕ) (holds : Bool) → Sound k columns known
       → holds ≡ governsOf k counts b known (set word place symbol) ps → holds ≡ true
       → WithinOf k counts b columns (known .codeword) (set word place symbol) ps left tests
-      → BranchOf k columns word place symbol ps rows leads left (belowOf known tests)
+      → BranchOf k columns word place symbol ps rows leads left (belowOf columns known tests)
   branch-known marked known tests holds sound test governs counted =
       record {
-        few = omega (arith, below-tests known tests, counted .few);
+        few = omega (arith, below-tests columns known tests, counted .few);
         finds = λ R P.
             let l : length (set word place symbol) ≡ places = length-set word place symbol ∙ size in
-            let g = governs-all marked known (set word place symbol) ps l (sym test ∙ governs) (places-rest P) in
-            governed-nearest (workable rate) marked known (set word place symbol) ps l sound g tests (counted .count (places-rest P));
+            let Q = places-rest P in
+            governed-nearest sound (workable rate) marked (expand columns (set word place symbol) ps)
+            (governs-only sound (workable rate) marked (set word place symbol) ps l (sym test ∙ governs) Q) tests (counted .count Q);
       }
 
   module _ (L : ℕ) (L-is : L ≡ limitOf k (blanksIn columns)) (rows′ : List (List ℕ)) (leads′ : List ℕ) (E : Extends L place symbol rows leads rows′ leads′) where

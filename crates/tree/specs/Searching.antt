@@ -1,33 +1,39 @@
 -- What a node of the tree knows, and what it finds.
 --
---   Lowest leads n r       of the first n classes none has a smaller lead than r
+--   Lowest leads parity n r   r is a class with this parity, and of the first n of them none has a smaller lead
 --   Ready k columns word ps rows leads   a basis up to the limit through the nodes decided so far: those of the word at the places that are not
 --                          blank, but for the places ps, of which none is blank
---   LeafOf k columns word row f  what a leaf finds from its row
+--   Decides k columns word ps row lead   a row through these nodes, with this lead: its weight, which is half the lead, the places ps and T are less
+--                          than the places that are not blank
+--   DecidedOf …            what is found by such a row
 --   SearchOf …             what a search of the tree finds
 --   BranchOf …             what a branch of a node finds
 use mathlib.Core.Bool.{true}
 use mathlib.Core.Path.{_≡_}
-use mathlib.Core.List.{List, [], _∷_, List·Memᴰ}
-use Prim.Native.Nat.{ℕ, _^_, _<_, _≤_}
-use lib.ListN.{set}
+use mathlib.Core.List.{List, _∷_, List·Memᴰ}
+use Prim.Native.Nat.{ℕ, _+_, _/_, _%_, _^_, _<_, _≤_}
+use lib.ListN.{length, set}
+use Rattle.lists.specs.Count.{count}
+use Rattle.algebra.specs.Coefficients.{Lead}
 use Rattle.algebra.specs.Koetter.{Basis}
 use Rattle.galois.specs.Field16.{K16}
+use Rattle.rows.specs.Rows.{coef}
 use Rattle.basis.specs.Choice.{leadAt}
 use Rattle.basis.specs.Step.{classes}
-use Rattle.interpolation.specs.Polynomial.{polynomials}
+use Rattle.interpolation.specs.Polynomial.{polynomial, polynomials}
 use Rattle.code.specs.Nodes.{ThroughNodes}
 use Rattle.family.specs.Nodes.{Node}
 use Rattle.soft.specs.Blank.{openAt}
+use Rattle.soft.specs.Column.{places}
 use Rattle.soft.specs.TestWord.{expand}
-use Rattle.near.specs.Here.{mOf, limitOf, blanksIn, Places, Decided}
+use Rattle.near.specs.Here.{mOf, reachIn, limitOf, blanksIn, Places, Decided}
 use Rattle.answers.specs.declared.Found.{Found}
 use Rattle.answers.specs.Nearest.{Nearest}
-use Rattle.candidate.specs.Candidate.{Held}
 
-pub record Lowest (leads : List ℕ) (n r : ℕ) : Type 0 where
+pub record Lowest (leads : List ℕ) (parity n r : ℕ) : Type 0 where
   pub within : r < classes
-  pub lowest : (q : ℕ) → q < n → leadAt leads r ≤ leadAt leads q
+  pub alike : r % 2 ≡ parity
+  pub lowest : (q : ℕ) → q < n → q % 2 ≡ parity → leadAt leads r ≤ leadAt leads q
 
 pub record Ready (k : ℕ) (columns : ℕ → List ℕ) (word ps : List ℕ) (rows : List (List ℕ)) (leads : List ℕ) : Type 0 where
   pub nodes : List Node
@@ -35,9 +41,17 @@ pub record Ready (k : ℕ) (columns : ℕ → List ℕ) (word ps : List ℕ) (ro
   pub all-open : (p : ℕ) → List·Memᴰ p ps → openAt columns p ≡ true
   pub basis : Basis K16 classes (limitOf k (blanksIn columns)) (ThroughNodes (mOf k) nodes) (polynomials (mOf k) rows) (leadAt leads)
 
-pub record LeafOf (k : ℕ) (columns : ℕ → List ℕ) (word row : List ℕ) (f : Found) : Type 0 where
-  pub few : f .tests ≤ 1
-  pub finds : Held k columns word row → Nearest k columns (word ∷ []) f
+pub record Decides (k : ℕ) (columns : ℕ → List ℕ) (word ps row : List ℕ) (lead : ℕ) : Type 0 where
+  pub nodes : List Node
+  pub decided : Decided columns word ps nodes
+  pub all-open : (p : ℕ) → List·Memᴰ p ps → openAt columns p ≡ true
+  pub through : ThroughNodes (mOf k) nodes (polynomial (mOf k) (coef row))
+  pub leads : Lead K16 (polynomial (mOf k) (coef row)) lead
+  pub decides : lead / 2 + length ps + reachIn k columns < count places (openAt columns)
+
+pub record DecidedOf (k : ℕ) (columns : ℕ → List ℕ) (word ps row : List ℕ) (lead left : ℕ) (f : Found) : Type 0 where
+  pub few : f .tests ≤ 2 ^ left
+  pub finds : Decides k columns word ps row lead → Places ps → Nearest k columns (expand columns word ps) f
 
 pub record SearchOf (k : ℕ) (columns : ℕ → List ℕ) (word ps : List ℕ) (rows : List (List ℕ)) (leads : List ℕ) (left : ℕ) (f : Found) : Type 0 where
   pub few : f .tests ≤ 2 ^ left

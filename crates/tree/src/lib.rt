@@ -1,26 +1,25 @@
-// The tree of test words: the doubtful places are doubled one after the other, and each leaf has the candidate of its test word. It knows of no
-// session and no buffers, and not which places are doubtful.
+// The tree of test words: the doubtful places are doubled one after the other, until a row of the basis decides which codeword alone can be
+// near the test words below. It knows of no session and no buffers, and not which places are doubtful.
+ghost use mathlib.Core.Logic.{_⊎_};
 ghost use mathlib.Core.Path.{_≡_};
 ghost use Prim.Native.Nat.{_<_, _≤_};
 ghost use Rattle.basis.specs.Choice.{leadAt};
 ghost use Rattle.basis.specs.Step.{classes};
 ghost use Rattle.soft.specs.Column.{places, symbols, columnOf};
-ghost use Rattle.soft.specs.Total.{totalOf};
 ghost use Rattle.answers.specs.Answered.{Sound};
 ghost use Rattle.candidate.specs.Ranged.{Ranged};
 ghost use Rattle.candidate.specs.Marked.{Marked};
 ghost use Rattle.known.specs.Known.{leftOf, Fits};
-ghost use Rattle.tree.specs.Searching.{Lowest, LeafOf, SearchOf, BranchOf};
+ghost use Rattle.tree.specs.Searching.{Lowest, DecidedOf, SearchOf, BranchOf};
 use answers::Answer;
 use answers::Found;
 use answers::better;
-use answers::none_near;
+use answers::missed;
 use basis::CLASSES;
 use basis::Leads;
 use basis::Rows;
 use candidate::Word;
 use candidate::candidate_of;
-use candidate::distance;
 use candidate::rate::largest_key;
 use candidate::rate::reach;
 use columns::column::best;
@@ -31,46 +30,13 @@ use interpolation::node::extend;
 use known::Undecided;
 use known::below;
 use known::governs;
-use known::later;
 use known::tests_within;
 use rows::Row;
-use totals::margin::Margin;
-use totals::total::total;
-
-fn cost(costs: &[u16], codeword: Word) -> u32
-    ensures { λ r. ⌜ r ≡ totalOf places (columnOf symbols (now (costs .entry))) codeword ⌝ }
-{
-    total(costs, &codeword)
-}
-
-// One test word: what its row holds, if its codeword is within T of the word. No other codeword is, so there is no runner-up. Of the places
-// those count that have the flag 1; the others are blank.
-fn leaf(row: Row, word: Word, costs: &[u16], k: usize, counts: [u8; PLACES], blanks: usize) -> Found
-    requires { ⌜ Ranged k × Marked k (columnOf symbols (now costs)) counts blanks ⌝ }
-    ensures { λ r.
-        ⌜ LeafOf k (columnOf symbols (now (costs .entry))) word row r × Sound k (columnOf symbols (now (costs .entry))) r ⌝ }
-{
-    let held = candidate_of(row, k);
-    let message = held.message;
-    let codeword = held.codeword;
-    if reach(k, blanks) < distance(codeword, word, counts) {
-        return none_near();
-    }
-    Found {
-        answer: Answer::Near {
-            total: cost(costs, codeword),
-            margin: Margin::Absent,
-        },
-        message,
-        codeword,
-        tests: 1,
-    }
-}
 
 // Of two classes the one with the smaller lead.
 fn lower(leads: Leads, r: usize, q: usize) -> usize
     requires { ⌜ (r < classes) × (q < classes) ⌝ }
-    ensures { λ p. ⌜ (p < classes) × (leadAt leads p ≤ leadAt leads r) × (leadAt leads p ≤ leadAt leads q) ⌝ }
+    ensures { λ p. ⌜ (p < classes) × (leadAt leads p ≤ leadAt leads r) × (leadAt leads p ≤ leadAt leads q) × ((p ≡ r) ⊎ (p ≡ q)) ⌝ }
 {
     if leads[q] < leads[r] {
         return q;
@@ -78,17 +44,54 @@ fn lower(leads: Leads, r: usize, q: usize) -> usize
     r
 }
 
-// The class of least lead.
-fn least(leads: Leads) -> usize
-    ensures { λ r. ⌜ Lowest leads classes r ⌝ }
+// The class of least lead among every second one from the first on: from 1 the odd ones, whose rows have their lead with z, and from 0 the
+// others.
+fn least_from(leads: Leads, first: usize) -> usize
+    requires { ⌜ first < 2 ⌝ }
+    ensures { λ r. ⌜ Lowest leads first classes r ⌝ }
 {
-    let mut r = 0;
-    let mut q = 0;
+    let mut r = first;
+    let mut q = first;
     while q < CLASSES {
         r = lower(leads, r, q);
-        q += 1;
+        q += 2;
     }
     r
+}
+
+// A node that a row decides: no codeword but the one that the row holds can be within T of a test word below, so they are only counted. Where
+// the lead is not with z, none is near.
+fn decided(
+    row: Row,
+    lead: usize,
+    word: Word,
+    costs: &[u16],
+    k: usize,
+    undecided: Undecided,
+    known: Found,
+    counts: [u8; PLACES],
+    blanks: usize,
+) -> Found
+    requires { ⌜ Ranged k × Fits undecided × Sound k (columnOf symbols (now costs)) known
+        × Marked k (columnOf symbols (now costs)) counts blanks ⌝ }
+    ensures { λ r.
+        ⌜ DecidedOf k (columnOf symbols (now (costs .entry))) word (leftOf undecided) row lead (undecided .left) r
+        × Sound k (columnOf symbols (now (costs .entry))) r ⌝ }
+{
+    if lead % 2 == 0 {
+        return missed(known);
+    }
+    let held = candidate_of(row, k);
+    let message = held.message;
+    let codeword = held.codeword;
+    let tests = tests_within(codeword, word, costs, k, undecided, counts, blanks);
+    let only = Found {
+        answer: Answer::NoneNear,
+        message,
+        codeword,
+        tests: 0,
+    };
+    below(only, tests, costs)
 }
 
 // One branch of a node: the place is decided with the symbol. Where the known codeword governs it, its test words are only counted.
@@ -116,7 +119,7 @@ fn branch(
     if governs(known, next_word, k, undecided, counts, blanks) {
         let codeword = known.codeword;
         let tests = tests_within(codeword, next_word, costs, k, undecided, counts, blanks);
-        return below(known, tests);
+        return below(known, tests, costs);
     }
     let limit = largest_key(k, blanks);
     let mut next_leads = leads;
@@ -134,9 +137,9 @@ fn branch(
     )
 }
 
-// The test words below a node: the doubtful places left are doubled one after the other, first with the best symbol and then with the
-// second. Each branch gets the basis of its node by value, and a node whose classes are all spent ends its part of the tree.
-pub fn search(
+// The two branches of a node: its next doubtful place has the best symbol, and then the second. The second branch knows what the first has
+// found. Each gets the basis of its node by value.
+fn branches(
     rows: Rows,
     leads: Leads,
     word: Word,
@@ -148,20 +151,12 @@ pub fn search(
     blanks: usize,
 ) -> Found
     requires { ⌜ Ranged k × Fits undecided × Sound k (columnOf symbols (now costs)) known
-        × Marked k (columnOf symbols (now costs)) counts blanks ⌝ }
+        × Marked k (columnOf symbols (now costs)) counts blanks × (0 < undecided .left) ⌝ }
     ensures { λ r.
         ⌜ SearchOf k (columnOf symbols (now (costs .entry))) word (leftOf undecided) rows leads (undecided .left) r
         × Sound k (columnOf symbols (now (costs .entry))) r ⌝ }
 {
-    let limit = largest_key(k, blanks);
-    let class = least(leads);
-    if limit < leads[class] {
-        return none_near();
-    }
     let left = undecided.left;
-    if left == 0 {
-        return leaf(rows[class], word, costs, k, counts, blanks);
-    }
     let place = undecided.doubtful[undecided.doubt - left] as usize % PLACES;
     let mut next = undecided;
     next.left = left - 1;
@@ -188,11 +183,64 @@ pub fn search(
         costs,
         k,
         next,
-        later(first, known),
+        first,
         place,
         other,
         counts,
         blanks,
     );
     better(first, rest, k)
+}
+
+// The test words below a node. It ends its part of the tree where no codeword can be near, since every odd class is spent, and where one
+// alone can be: the weight of the row of least lead, which is half the lead, the places left and T are less than the places that count. Where
+// none is left, they always are.
+pub fn search(
+    rows: Rows,
+    leads: Leads,
+    word: Word,
+    costs: &[u16],
+    k: usize,
+    undecided: Undecided,
+    known: Found,
+    counts: [u8; PLACES],
+    blanks: usize,
+) -> Found
+    requires { ⌜ Ranged k × Fits undecided × Sound k (columnOf symbols (now costs)) known
+        × Marked k (columnOf symbols (now costs)) counts blanks ⌝ }
+    ensures { λ r.
+        ⌜ SearchOf k (columnOf symbols (now (costs .entry))) word (leftOf undecided) rows leads (undecided .left) r
+        × Sound k (columnOf symbols (now (costs .entry))) r ⌝ }
+{
+    let limit = largest_key(k, blanks);
+    let odd = least_from(leads, 1);
+    if limit < leads[odd] {
+        return missed(known);
+    }
+    let class = lower(leads, odd, least_from(leads, 0));
+    let lead = leads[class];
+    if lead / 2 + undecided.left + reach(k, blanks) < PLACES - blanks {
+        return decided(
+            rows[class],
+            lead,
+            word,
+            costs,
+            k,
+            undecided,
+            known,
+            counts,
+            blanks,
+        );
+    }
+    branches(
+        rows,
+        leads,
+        word,
+        costs,
+        k,
+        undecided,
+        known,
+        counts,
+        blanks,
+    )
 }

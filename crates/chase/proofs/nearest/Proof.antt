@@ -108,16 +108,20 @@ search-requires c κs =
     let a = c .before .before .before .before .before .before .before .before .before in (
       known-range _ (may-ask a .known),
       (picked-few _ _ (may-ask a .few) (c .before .before .before .before .before .doubled-places .ensures), search needs),
-      subst (Sound _ _) (sym (c .none-near6 .ensures)) sound-nothing,
+      subst (Sound _ _) (sym (c .none-near6 .ensures)) (sound-nothing (known-range _ (may-ask a .known) .most)),
       few-blank a,
     )
 
+told-requires : tie.Need-told-requires
+told-requires c κs = search needs
+
 returns-6 : tie.Need-returns-6
 returns-6 c =
-    let a = c .before .before .before .before .before .before .before .before .before .before in
-    root _ _ _ _ _ _ _ _ _ _ _ _ _ _ (may-ask a) (few-blank a) (c .before .before .before .before .before .before .before .before .before .best-word .ensures) (c .before .before .before .before .before .before .doubled-places .ensures)
-    (c .before .before .before .before .settled-places .ensures) (c .before .before .before .before .before .before .before .before .top-order .ensures) (c .before .before .before .before .before .before .before .largest-key .ensures) (c .before .before .settle .ensures)
-    (c .search .ensures .0) (c .search .ensures .1)
+    let a = c .before .before .before .before .before .before .before .before .before .before .before in
+    c .told .ensures
+    ∙ root _ _ _ _ _ _ _ _ _ _ _ _ _ _ (may-ask a) (few-blank a) (c .before .before .before .before .before .before .before .before .before .before .best-word .ensures) (c .before .before .before .before .before .before .before .doubled-places .ensures)
+    (c .before .before .before .before .before .settled-places .ensures) (c .before .before .before .before .before .before .before .before .before .top-order .ensures) (c .before .before .before .before .before .before .before .before .largest-key .ensures) (c .before .before .before .settle .ensures)
+    (c .before .search .ensures .0) (c .before .search .ensures .1)
 
 pub nearest-spec : {M : Type 1} → statement M
 nearest-spec =
@@ -145,4 +149,5 @@ nearest-spec =
     settle-requires
     none-near-requires-6
     search-requires
+    told-requires
     returns-6)

@@ -4,7 +4,7 @@ use mathlib.Core.Path.{ap, _∙_}
 use native.Mathlib.Omega.{arith}
 use borrow.Author.Needs.{needs}
 use Rattle.soft.specs.Threshold.{clampOf}
-use Rattle.doubt.specs.Keys.{chosen-closest}
+use Rattle.doubt.specs.Keys.{keyed-apart, chosen-closest}
 use Rattle.doubt.specs.Picked.{picked-same}
 use Rattle.doubt.proofs.doubtful_below.Statement.{statement}
 use Rattle.doubt.proofs.doubtful_below.Tie as tie
@@ -19,7 +19,7 @@ clamp-requires : tie.Need-clamp-requires
 clamp-requires c κs = search needs
 
 picked-by-requires : tie.Need-picked-by-requires
-picked-by-requires c κs = search needs
+picked-by-requires c κs = keyed-apart (c .before .before .keys-of .ensures)
 
 returns : tie.Need-returns
 returns c =

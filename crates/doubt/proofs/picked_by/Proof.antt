@@ -1,40 +1,35 @@
--- `doubt::picked_by` meets its contract. The loop's invariant: `out` holds the places passed that are chosen, and `found` counts them.
-use mathlib.Core.Path.{_≡_, sym, ap, _∙_}
+-- `doubt::picked_by` meets its contract. The loop's invariant: `out` holds the places passed whose keys are below the bound, and `found` counts them.
+use mathlib.Core.Path.{_≡_, refl, sym, _∙_}
 use Prim.Native.Nat.{_≤_, _-_}
 use native.Mathlib.Omega.{arith}
 use borrow.Author.Needs.{needs}
-use Rattle.lists.specs.Count.{bit, count, count-nil, count-turn, kept, kept-length}
+use Rattle.lists.specs.Count.{count, count-nil, count-turn, kept, kept-length}
 use Rattle.lists.specs.Padded.{padded}
-use Rattle.doubt.specs.Keys.{far, entryOf, chosenWith, chosenBy, chosenOf}
+use Rattle.doubt.specs.Keys.{far}
+use Rattle.doubt.specs.Bound.{belowAt, chosen-below}
+use Rattle.doubt.specs.Picked.{picked-same}
 use Rattle.doubt.proofs.Turns.{places-start, places-turn}
 use Rattle.doubt.proofs.picked_by.Statement.{statement}
 use Rattle.doubt.proofs.picked_by.Tie as tie
 
 abbrev Inv-loop : tie.InvT-loop
-Inv-loop doubt keys out₀ found₀ place₀ out found place =
-    (place ≤ 64) × (found ≤ place) × (found ≡ count place (chosenBy 64 far doubt keys))
-    × (out ≡ padded 8 (kept place (chosenBy 64 far doubt keys)))
+Inv-loop doubt keys bound out₀ found₀ place₀ out found place =
+    (place ≤ 64) × (found ≤ place) × (found ≡ count place (belowAt keys bound)) × (out ≡ padded 8 (kept place (belowAt keys bound)))
 
 abbrev μ-loop : tie.MeasureT-loop
-μ-loop doubt keys out₀ found₀ place₀ out found place = 64 - place
+μ-loop doubt keys bound out₀ found₀ place₀ out found place = 64 - place
+
+bound-of-requires : tie.Need-bound-of-requires Inv-loop μ-loop
+bound-of-requires c κs = search needs
 
 loop-holds : tie.Need-loop-holds Inv-loop μ-loop
 loop-holds c = (omega arith, omega arith, sym (count-nil _), places-start 8 _)
 
-ahead-of-requires : tie.Need-ahead-of-requires Inv-loop μ-loop
-ahead-of-requires c κs = search needs
+mul-taken : tie.Need-mul-taken Inv-loop μ-loop
+mul-taken c = search needs
 
-cast-rank : tie.Need-cast-rank Inv-loop μ-loop
-cast-rank c = search needs
-
-mul-chosen : tie.Need-mul-chosen Inv-loop μ-loop
-mul-chosen c = search needs
-
-array-read-chosen : tie.Need-array-read-chosen Inv-loop μ-loop
-array-read-chosen c = search needs
-
-chosen-requires : tie.Need-chosen-requires Inv-loop μ-loop
-chosen-requires c κs = search needs
+array-read-taken : tie.Need-array-read-taken Inv-loop μ-loop
+array-read-taken c = search needs
 
 cast-with-place : tie.Need-cast-with-place Inv-loop μ-loop
 cast-with-place c = search needs
@@ -59,21 +54,18 @@ loop-less c = search needs
 
 loop-again : tie.Need-loop-again Inv-loop μ-loop
 loop-again c =
-    let i = c .before .before .before .before .before .loop .inv in
-    let a = c .before .before .before .before .before .before .args in
-    let key = entryOf (a .t1) (c .before .before .before .before .before .loop .place) in
-    let chosen = c .before .before .chosen .ensures ∙ ap (chosenWith far (a .doubt) key) (c .before .before .before .ahead-of .ensures) in (
+    let i = c .before .before .before .loop .inv in (
       omega arith,
       omega arith,
-      count-turn _ _ _ _ (i .2) (c .bit .ensures .0 ∙ ap bit chosen),
-      places-turn 8 _ _ _ _ _ _ (i .3) (i .2) chosen (c .before .with-place .ensures),
+      count-turn _ _ _ _ (i .2) (c .bit .ensures .0),
+      places-turn 8 _ _ _ _ _ _ (i .3) (i .2) refl (c .before .with-place .ensures),
     )
 
 returns : tie.Need-returns Inv-loop μ-loop
-unfolding chosenOf
 returns c =
     let e : c .before .loop .place ≡ 64 = omega arith in
-    record { places = rw e at (c .before .loop .inv .3); count = rw e at (c .before .loop .inv .2) ∙ sym (kept-length 64 _) }
+    picked-same (sym (chosen-below 64 far _ (c .before .before .bound-of .ensures)))
+    (record { places = rw e at (c .before .loop .inv .3); count = rw e at (c .before .loop .inv .2) ∙ sym (kept-length 64 _) })
 
 pub picked-by-spec : {M : Type 1} → statement M
 picked-by-spec =
@@ -81,12 +73,10 @@ picked-by-spec =
     (tie.spec
     Inv-loop
     μ-loop
+    bound-of-requires
     loop-holds
-    ahead-of-requires
-    cast-rank
-    mul-chosen
-    array-read-chosen
-    chosen-requires
+    mul-taken
+    array-read-taken
     cast-with-place
     with-place-requires
     bit-requires

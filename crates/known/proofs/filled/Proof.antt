@@ -4,7 +4,7 @@ use Prim.Native.Nat.{_-_, _<_, _≤_}
 use lib.ListN.{length, take, drop}
 use Rattle.soft.specs.Column.{places}
 use Rattle.known.specs.Known.{filledOf}
-use Rattle.near.specs.Governing.{filled-turn, filled-end}
+use Rattle.near.specs.Written.{written-turn, written-end}
 use borrow.Author.Needs.{needs}
 use Rattle.known.proofs.filled.Statement.{statement}
 use Rattle.known.proofs.filled.Tie as tie
@@ -46,13 +46,13 @@ loop-again c =
     let i = c .before .loop .inv in
     let h : c .before .before .before .before .args .undecided .doubt ≤ 8 = search needs in
     let b : c .before .loop .i < c .before .before .before .before .args .undecided .doubt = search needs in
-    (i .0, search needs, i .2 ∙ filled-turn places _ _ _ _ _ (i .0) h b)
+    (i .0, search needs, i .2 ∙ written-turn places _ _ _ _ _ (i .0) h b refl)
 
 returns : tie.Need-returns Inv-loop μ-loop
 returns c =
     let i = c .before .loop .inv in
     let h : c .before .before .before .before .args .undecided .doubt ≤ c .before .loop .i = search needs in
-    sym (i .2 ∙ filled-end places _ _ _ _ _ h)
+    sym (i .2 ∙ written-end places _ _ _ _ _ h)
 
 pub filled-spec : {M : Type 1} → statement M
 filled-spec =

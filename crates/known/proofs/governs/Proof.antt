@@ -1,4 +1,4 @@
--- The two cases of the known answer.
+-- What is measured is the test.
 use mathlib.Core.Path.{_≡_, sym, subst}
 use Prim.Native.Nat.{_≤_}
 use native.Mathlib.Omega.{arith}
@@ -6,19 +6,10 @@ use lib.ListN.{length}
 use Rattle.candidate.specs.Ranged.{reach-small}
 use Rattle.near.specs.Left.{rest-length}
 use Rattle.near.specs.Near as Near
-use Rattle.known.proofs.Counting.{distance-small, governs-none, governs-some}
+use Rattle.known.proofs.Counting.{distance-small, governs-by}
 use borrow.Author.Needs.{needs}
 use Rattle.known.proofs.governs.Statement.{statement}
 use Rattle.known.proofs.governs.Tie as tie
-
-enum-told : tie.Need-enum-told
-enum-told c = search needs
-
-returns : tie.Need-returns
-returns c = governs-none _ _ _ _ _ _ (c .enum-told .given .1)
-
-enum-told-2 : tie.Need-enum-told-2
-enum-told-2 c = search needs
 
 filled-requires : tie.Need-filled-requires
 filled-requires c κs = search needs
@@ -52,21 +43,17 @@ sub-result : tie.Need-sub-result
 unfolding Near.blankLimit
 sub-result c = omega arith
 
-returns-2 : tie.Need-returns-2
-returns-2 c =
-    let s = c .before .before .before .before .before .before .before .before in
+returns : tie.Need-returns
+returns c =
+    let s = c .before .before .before .before .before .before in
     let l : length (s .args .undecided .doubtful) ≡ 8 = search needs in
-    let g = c .before .before .before .before .before .before .enum-told2 .given in
-    governs-some _ _ _ _ _ _ _ _ _ _ _ _ _ (g .1) (rest-length _ _ _ l (s .pre .1 .0) (s .pre .1 .1)) (c .before .before .before .before .filled .ensures) (c .before .before .before .distance .ensures)
+    governs-by _ _ _ _ _ _ _ _ _ _ _ (rest-length _ _ _ l (s .pre .1 .0) (s .pre .1 .1)) (c .before .before .before .before .filled .ensures) (c .before .before .before .distance .ensures)
     (c .before .reach .ensures) (c .least-distance .ensures)
 
 pub governs-spec : {M : Type 1} → statement M
 governs-spec =
     tie.close
     (tie.spec
-    enum-told
-    returns
-    enum-told-2
     filled-requires
     distance-requires
     add-apart
@@ -74,4 +61,4 @@ governs-spec =
     add-apart-2
     least-distance-requires
     sub-result
-    returns-2)
+    returns)

@@ -1,22 +1,23 @@
--- `soft::column::best` meets its contract: a column has sixteen costs, and 16 is no symbol.
+-- `columns::column::best` meets its contract: the symbol is what its number leaves, divided by sixteen.
 use mathlib.Core.Path.{_≡_}
 use native.Mathlib.Omega.{arith}
 use lib.ListN.{length}
 use borrow.Author.Needs.{needs}
-use Rattle.columns.proofs.Turns.{best-of, bestBut-small}
+use Rattle.soft.specs.ColumnLaws.{best-below}
 use Rattle.columns.proofs.column.best.Statement.{statement}
 use Rattle.columns.proofs.column.best.Tie as tie
 
-best-but-requires : tie.Need-best-but-requires
-best-but-requires c κs = search needs
+two-least-requires : tie.Need-two-least-requires
+two-least-requires c κs = search needs
 
-cast-result : tie.Need-cast-result
-cast-result c = omega (arith, bestBut-small _ _ _ (omega arith) (c .best-but .ensures))
+symbol-in-requires : tie.Need-symbol-in-requires
+symbol-in-requires c κs = search needs
 
 returns : tie.Need-returns
 returns c =
-    let l : length (c .before .args .column) ≡ 16 = search needs in
-    best-of _ _ l (c .best-but .ensures)
+    let column = c .before .before .args .column in
+    let l : length column ≡ 16 = search needs in
+    omega (arith, c .symbol-in .ensures, c .before .two-least .ensures .best, best-below column (omega arith))
 
 pub best-spec : {M : Type 1} → statement M
-best-spec = tie.close (tie.spec best-but-requires cast-result returns)
+best-spec = tie.close (tie.spec two-least-requires symbol-in-requires returns)

@@ -1,49 +1,33 @@
--- `soft::column::gap` meets its contract: the difference of the two costs, which does not wrap since the best cost is least.
+-- `columns::column::gap` meets its contract: the difference of the two costs, which does not wrap since the best symbol's number is the smaller one.
 use mathlib.Core.Path.{_≡_}
 use native.Mathlib.Omega.{arith}
 use lib.ListN.{length}
 use borrow.Author.Needs.{needs}
-use Rattle.columns.proofs.Turns.{gap-fits, gap-of, bestBut-small}
+use Rattle.soft.specs.Column.{gapOf}
+use Rattle.soft.specs.ColumnLaws.{best-below, second-below}
 use Rattle.columns.proofs.column.gap.Statement.{statement}
 use Rattle.columns.proofs.column.gap.Tie as tie
 
-best-but-requires : tie.Need-best-but-requires
-best-but-requires c κs = search needs
+two-least-requires : tie.Need-two-least-requires
+two-least-requires c κs = search needs
 
-best-but-requires-2 : tie.Need-best-but-requires-2
-best-but-requires-2 c κs = search needs
+cost-in-requires : tie.Need-cost-in-requires
+cost-in-requires c κs = search needs
 
-mul-result : tie.Need-mul-result
-mul-result c = omega (arith, bestBut-small _ _ _ (omega arith) (c .best-but2 .ensures))
-
-array-read-result : tie.Need-array-read-result
-array-read-result c = bestBut-small _ _ _ (omega arith) (c .best-but2 .ensures)
-
-mul-result-2 : tie.Need-mul-result-2
-mul-result-2 c = omega (arith, bestBut-small _ _ _ (omega arith) (c .before .best-but .ensures))
-
-array-read-result-2 : tie.Need-array-read-result-2
-array-read-result-2 c = bestBut-small _ _ _ (omega arith) (c .before .best-but .ensures)
+cost-in-requires-2 : tie.Need-cost-in-requires-2
+cost-in-requires-2 c κs = search needs
 
 sub-result : tie.Need-sub-result
-sub-result c =
-    let l : length (c .before .before .args .t1) ≡ 16 = search needs in
-    gap-fits _ _ _ l (c .before .best-but .ensures) (c .best-but2 .ensures) (omega arith)
+sub-result c = search needs
 
 returns : tie.Need-returns
+unfolding gapOf
 returns c =
-    let l : length (c .before .before .args .t1) ≡ 16 = search needs in
-    gap-of _ _ _ l (c .before .best-but .ensures) (c .best-but2 .ensures)
+    let column = c .before .before .before .args .column in
+    let l : length column ≡ 16 = search needs in
+    let t = c .before .before .two-least .ensures in
+    omega
+    (arith, c .cost-in2 .ensures, c .before .cost-in .ensures, t .best, t .second, best-below column (omega arith), second-below column (omega arith))
 
 pub gap-spec : {M : Type 1} → statement M
-gap-spec =
-    tie.close
-    (tie.spec
-    best-but-requires
-    best-but-requires-2
-    mul-result
-    array-read-result
-    mul-result-2
-    array-read-result-2
-    sub-result
-    returns)
+gap-spec = tie.close (tie.spec two-least-requires cost-in-requires cost-in-requires-2 sub-result returns)

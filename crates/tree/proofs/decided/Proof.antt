@@ -1,0 +1,50 @@
+-- An even lead: none is near. An odd one: what the row holds is counted.
+use mathlib.Core.Path.{sym, subst}
+use native.Mathlib.Omega.{arith}
+use Rattle.answers.specs.Answered.{Sound, sound-missed}
+use Rattle.known.specs.Governing.{sound-below}
+use Rattle.tree.specs.Searching.{DecidedOf}
+use Rattle.tree.proofs.Deciding.{decided-even, only-sound, decided-odd}
+use borrow.Author.Needs.{needs}
+use Rattle.tree.proofs.decided.Statement.{statement}
+use Rattle.tree.proofs.decided.Tie as tie
+
+missed-requires : tie.Need-missed-requires
+missed-requires c κs = search needs
+
+returns : tie.Need-returns
+returns c =
+    let h = c .before .before .before .pre in (
+      subst (DecidedOf _ _ _ _ _ _ _) (sym (c .missed .ensures)) (decided-even (h .0) (h .3) _ _ _ _ _ _ (c .before .if1 .taken)),
+      subst (Sound _ _) (sym (c .missed .ensures)) (sound-missed (h .2)),
+    )
+
+candidate-of-requires : tie.Need-candidate-of-requires
+candidate-of-requires c κs = search needs
+
+tests-within-requires : tie.Need-tests-within-requires
+tests-within-requires c κs =
+    let h = c .before .before .before .before .before .pre in
+    (h .0, h .1, omega (arith, h .3 .few))
+
+below-requires : tie.Need-below-requires
+below-requires c κs = search needs
+
+returns-2 : tie.Need-returns-2
+returns-2 c =
+    let h = c .before .before .before .before .before .before .before .pre in
+    let C = c .before .before .before .before .candidate-of .ensures in (
+      subst (DecidedOf _ _ _ _ _ _ _) (sym (c .below .ensures)) (decided-odd (h .0) (h .3) _ _ _ _ _ C _ (c .before .tests-within .ensures)),
+      subst (Sound _ _) (sym (c .below .ensures)) (sound-below (only-sound C) _),
+    )
+
+pub decided-spec : {M : Type 1} → statement M
+decided-spec =
+    tie.close
+    (tie.spec
+    missed-requires
+    returns
+    candidate-of-requires
+    tests-within-requires
+    below-requires
+    returns-2)
