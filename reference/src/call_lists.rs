@@ -59,7 +59,7 @@ pub(crate) fn opening(frame: &Frame) -> Call {
     }
 }
 
-fn delivery(frame: &Frame, place: u8) -> Call {
+pub(crate) fn delivery(frame: &Frame, place: u8) -> Call {
     Call::Deliver {
         place: u16::from(place),
         column: frame.columns[usize::from(place)],

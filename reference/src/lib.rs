@@ -36,23 +36,24 @@
 //! # Comparing
 //!
 //! [`frames`] makes frames of thirteen kinds from a seed, each with every number of blank places,
-//! [`pairs`] those between codewords at least distance, [`damage`] captures with faults, [`arrivals`]
-//! five sorts of order in which places arrive, [`below_frames`] thresholds and maxima, [`bit_frames`]
-//! bit values. The binary `compare` runs them in two ways. It counts the frames with blank places and
-//! with a margin, the tables in which a pinned second is not chosen as doubtful, the captures written
-//! after each sort of order, the withdrawals of each sort, the sorts of thresholds, with what wrong
-//! rules would lead to ([`slips`]), and those of bit values, and fails where they are too few to try it
-//! ([`blanks`], [`margins`], [`choices`], [`written`], [`withdrawals`], [`below_counts`],
-//! [`bit_counts`]).
+//! [`pairs`] those between codewords at least distance, [`fades`] those with consecutive places of
+//! noise, [`damage`] captures with faults, [`arrivals`] five sorts of order in which places arrive,
+//! [`below_frames`] thresholds and maxima, [`bit_frames`] bit values. The binary `compare` runs them in
+//! two ways. It counts the frames with blank places and with a margin, the tables in which a pinned
+//! second is not chosen as doubtful, the captures written after each sort of order, the withdrawals of
+//! each sort, the sorts of fades, those of thresholds, with what wrong rules would lead to ([`slips`]),
+//! and those of bit values, and fails where they are too few to try it ([`blanks`], [`margins`],
+//! [`choices`], [`written`], [`withdrawals`], [`fade_counts`], [`below_counts`], [`bit_counts`]).
 //!
 //! Calls that cross as numbers and byte slices are linked: with the feature `proved`, and with
-//! `MODEM_LIB_DIR` naming the folder of `libmodem.a`, `compare code`, `compare tables`, `compare below`
-//! and `compare bits` run the trials of [`trials`] on both libraries.
+//! `MODEM_LIB_DIR` naming the folder of `libmodem.a`, `compare code`, `compare tables`, `compare below`,
+//! `compare bits` and `compare fades` run the trials of [`trials`] on both libraries.
 //!
 //! Sessions and captures are compared by stream: a program reads calls on its standard input and
 //! writes answers on its standard output, laid out as in [`calls`]; `compare run` starts it on the
-//! lists of [`call_lists`] and [`withdrawal_lists`] and names the first answer that differs.
-//! `compare shows` does the same with a program that prints as `show` does.
+//! lists of [`call_lists`] and [`withdrawal_lists`] and names the first answer that differs, and
+//! `compare fades` on a session for each fade. `compare shows` does the same with a program that prints
+//! as `show` does.
 //!
 //! ```text
 //! cargo test --offline
@@ -62,10 +63,11 @@
 //!
 //! # Measuring
 //!
-//! Three binaries want the feature `proved` and are started by scripts: `bench` by `bench/run`, on the
-//! calls of [`measured`], `error_rates` by `bench/error-rates`, which sends codewords through a
-//! [`channel`] ([`sent`]) and draws curves ([`plot`]), and `thresholds` by `bench/thresholds`, which
-//! decodes the same frames by doubt and by threshold. What a call costs is counted by [`counted`].
+//! Four binaries want the feature `proved` and are started by scripts: `bench` by `bench/run`, on the
+//! calls of [`measured`], `worst` by `bench/worst`, which draws frames in search of those that cost most
+//! ([`worst`]), `error_rates` by `bench/error-rates`, which sends codewords through a [`channel`]
+//! ([`sent`]) and draws curves ([`plot`]), and `thresholds` by `bench/thresholds`, which decodes the same
+//! frames by doubt and by threshold. What a call costs is counted by [`counted`].
 
 pub mod arrivals;
 pub mod below_counts;
@@ -84,6 +86,8 @@ pub mod counted;
 pub mod curve;
 pub mod damage;
 pub mod decode;
+pub mod fade_counts;
+pub mod fades;
 pub mod faults;
 pub mod field;
 pub mod frames;
@@ -109,4 +113,5 @@ pub mod streams;
 pub mod trials;
 pub mod withdrawal_lists;
 pub mod withdrawals;
+pub mod worst;
 pub mod written;

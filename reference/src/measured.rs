@@ -1,7 +1,7 @@
 //! The frames that are measured: the same calls for the proved library, this package and the count
 //! of multiplications.
 //!
-//! - [`Case`], [`cases`]: one call, rate and doubt, and how the frames are damaged.
+//! - [`Case`], [`cases`]: one call, rate and doubt, and how the frames are damaged ([`Damage`]).
 //! - [`Case::calls`]: its calls, from a fixed seed.
 //! - [`Measured`]: one call's rate, doubt and bytes; [`Measured::bytes`]: as `bench/counted` reads it.
 //! - [`Form`]: table decoding by doubt, or by threshold and maximum; [`Form::call`]: of a table.
@@ -11,10 +11,13 @@ use crate::channel::Channel;
 use crate::code::Code;
 use crate::curve::PLACES;
 use crate::decode::table_of_columns;
+use crate::fades::{Fade, Left};
 use crate::frames::{column, random_codeword, some_places, DOUBTFUL_GAP, RATES, SETTLED_GAP};
+use crate::pairs::{pair, Gaps};
 use crate::random::Random;
 use crate::row::Row;
-use crate::soft::{doubtful_below, doubtful_places, Columns};
+use crate::soft::{doubtful_below, doubtful_places, Columns, DOUBT_LIMIT};
+use crate::worst::worst;
 
 /// The calls of a case.
 pub const CALLS: u64 = 20;
@@ -24,7 +27,8 @@ pub const DOUBTS: [usize; 4] = [0, 3, 6, 8];
 
 const SEED: u64 = 9;
 
-/// How many settled places have another symbol than the sent one as their best.
+/// How many settled places have another symbol than the sent one as their best, or how the frames are
+/// made otherwise.
 #[derive(Clone, Copy, Debug, PartialEq, Eq)]
 pub enum Damage {
     None,
@@ -33,32 +37,54 @@ pub enum Damage {
     Reach,
     /// T + 1 places.
     Beyond,
-    /// Those that noise makes wrong: BPSK over white Gaussian noise, and the doubtful places as it
-    /// falls out.
-    Noise,
+    /// Those that noise makes wrong: BPSK over white Gaussian noise at an Eb/N0 in decibels, and the
+    /// doubtful places as it falls out.
+    Noise {
+        decibels: u8,
+    },
+    /// Consecutive places of noise, with the smallest gaps, and no other wrong one.
+    Fade {
+        width: usize,
+    },
+    /// Two codewords at least distance that are both near, with eight doubtful places between them.
+    Between,
+    /// Those that cost most of all that a search has found.
+    Worst,
 }
 
-/// Eb/N0 of the noise, in decibels.
-pub const NOISE: f64 = 7.0;
-
+/// At every doubt.
 const DAMAGES: [Damage; 5] = [
     Damage::None,
     Damage::One,
     Damage::Reach,
     Damage::Beyond,
-    Damage::Noise,
+    Damage::Noise { decibels: 7 },
 ];
 
+/// With no doubt and with the largest.
+const FADES: [Damage; 4] = [
+    Damage::Noise { decibels: 5 },
+    Damage::Noise { decibels: 4 },
+    Damage::Fade { width: 8 },
+    Damage::Fade { width: 12 },
+];
+
+/// With the largest doubt only, for which they are made.
+const HARD: [Damage; 2] = [Damage::Between, Damage::Worst];
+
 impl Damage {
-    /// The wrong settled places, where they are chosen.
-    fn wrong(self, code: &Code) -> Option<usize> {
-        match self {
-            Damage::None => Some(0),
-            Damage::One => Some(1),
-            Damage::Reach => Some(code.reach),
-            Damage::Beyond => Some(code.reach + 1),
-            Damage::Noise => None,
+    /// Those that are measured with a doubt at a rate. At rate 49 one wrong place is T wrong places, and
+    /// stands there once.
+    fn measured(rate: u64, doubt: usize) -> Vec<Damage> {
+        let mut damages = DAMAGES.to_vec();
+        damages.retain(|damage| rate == 39 || *damage != Damage::One);
+        if [0, DOUBT_LIMIT].contains(&doubt) {
+            damages.extend(FADES);
         }
+        if doubt == DOUBT_LIMIT {
+            damages.extend(HARD);
+        }
+        damages
     }
 }
 
@@ -120,7 +146,7 @@ impl Form {
     }
 }
 
-/// All cases. At rate 49 one wrong place is T wrong places, and stands there once.
+/// All cases.
 pub fn cases() -> Vec<Case> {
     let mut cases = Vec::new();
     for rate in RATES {
@@ -128,10 +154,8 @@ pub fn cases() -> Vec<Case> {
         add(Which::Encode);
         add(Which::ReadBack);
         for doubt in DOUBTS {
-            for damage in DAMAGES {
-                if rate == 39 || damage != Damage::One {
-                    add(Which::Table { doubt, damage });
-                }
+            for damage in Damage::measured(rate, doubt) {
+                add(Which::Table { doubt, damage });
             }
         }
     }
@@ -150,7 +174,10 @@ impl Case {
                 Damage::One => "1 wrong".to_string(),
                 Damage::Reach => format!("{reach} wrong (T)"),
                 Damage::Beyond => format!("{} wrong, none near", reach + 1),
-                Damage::Noise => format!("noise at {NOISE} dB"),
+                Damage::Noise { decibels } => format!("noise at {decibels} dB"),
+                Damage::Fade { width } => format!("fade of {width}"),
+                Damage::Between => "between two codewords".to_string(),
+                Damage::Worst => "worst found".to_string(),
             },
         }
     }
@@ -166,7 +193,7 @@ impl Case {
     pub fn calls(&self) -> Vec<Measured> {
         let number = |call| self.rate << 32 | call;
         (0..CALLS)
-            .map(|call| self.call(&mut Random::new(SEED, number(call))))
+            .map(|call| self.call(call as usize, &mut Random::new(SEED, number(call))))
             .collect()
     }
 
@@ -174,21 +201,14 @@ impl Case {
         Code::of_rate(self.rate).expect("a known rate")
     }
 
-    fn call(&self, random: &mut Random) -> Measured {
+    fn call(&self, number: usize, random: &mut Random) -> Measured {
         let code = self.code();
         let sent = random_codeword(code, random);
         let (letter, given) = match self.which {
             Which::Encode => (b'E', code.message(&sent).expect("a codeword")),
             Which::ReadBack => (b'B', sent.elements().to_vec()),
             Which::Table { doubt, damage } => {
-                let columns = match damage.wrong(code) {
-                    Some(wrong) => columns(&sent, doubt, wrong, random),
-                    None => {
-                        let channel = Channel::at(self.rate, NOISE);
-                        let symbols = sent.elements();
-                        symbols.map(|symbol| column_of_bits(channel.values(symbol, random)))
-                    }
-                };
+                let columns = self.columns(&sent, doubt, damage, number, random);
                 (b'T', table_of_columns(&columns))
             }
         };
@@ -198,6 +218,36 @@ impl Case {
             doubt: self.doubt().unwrap_or(0),
             threshold: 0,
             given,
+        }
+    }
+
+    /// The columns of a numbered call.
+    fn columns(
+        &self,
+        sent: &Row,
+        doubt: usize,
+        damage: Damage,
+        number: usize,
+        random: &mut Random,
+    ) -> Columns {
+        let (rate, reach) = (self.rate, self.code().reach);
+        match damage {
+            Damage::None => around(sent, doubt, 0, random),
+            Damage::One => around(sent, doubt, 1, random),
+            Damage::Reach => around(sent, doubt, reach, random),
+            Damage::Beyond => around(sent, doubt, reach + 1, random),
+            Damage::Noise { decibels } => {
+                let channel = Channel::at(rate, f64::from(decibels));
+                let symbols = sent.elements();
+                symbols.map(|symbol| column_of_bits(channel.values(symbol, random)))
+            }
+            Damage::Fade { width } => {
+                let doubtful_and_blank = [doubt, 0];
+                let fade = Fade::made(rate, width, Left::Noise, doubtful_and_blank, random);
+                fade.frame.columns
+            }
+            Damage::Between => pair(rate, reach, Gaps::Mixed, random).frame.columns,
+            Damage::Worst => worst(rate)[number].columns(),
         }
     }
 }
@@ -216,7 +266,7 @@ impl Measured {
 /// Columns around a codeword: `wrong` of the settled places have another symbol as their best. The
 /// `doubt` doubtful places have the smallest gaps, and the sent symbol as best or second: as second
 /// in half of them, rounded down.
-fn columns(sent: &Row, doubt: usize, wrong: usize, random: &mut Random) -> Columns {
+fn around(sent: &Row, doubt: usize, wrong: usize, random: &mut Random) -> Columns {
     let doubtful = some_places(doubt, random);
     let swapped = random.shuffled(doubtful.clone())[..doubt / 2].to_vec();
     let settled = (0..PLACES as u8).filter(|place| !doubtful.contains(place));
@@ -243,8 +293,17 @@ fn columns(sent: &Row, doubt: usize, wrong: usize, random: &mut Random) -> Colum
 #[cfg(test)]
 mod tests {
     use super::*;
-    use crate::decode::REPORT_BYTES;
+    use crate::decode::{columns_of_table, margin_of, REPORT_BYTES};
+    use crate::soft::best;
     use crate::trials::REFERENCE_TABLE;
+
+    /// The number returned, the message and the report.
+    fn decoded(call: &Measured) -> (u8, Vec<u8>, Vec<u8>) {
+        let (mut message, mut report) = (vec![0; call.rate as usize], vec![0; REPORT_BYTES]);
+        let doubt = call.doubt as u64;
+        let number = REFERENCE_TABLE(call.rate, &call.given, doubt, &mut message, &mut report);
+        (number, message, report)
+    }
 
     /// Test words with at most T wrong places, by the damage: all within T, or none.
     #[test]
@@ -254,20 +313,54 @@ mod tests {
                 continue;
             };
             let reach = case.code().reach;
-            let Some(wrong) = damage.wrong(case.code()) else {
-                continue;
+            let wrong = match damage {
+                Damage::None => 0,
+                Damage::One => 1,
+                Damage::Reach => reach,
+                Damage::Beyond => reach + 1,
+                _ => continue,
             };
             let near = (0..1u32 << doubt)
                 .filter(|flips| wrong + flips.count_ones() as usize <= reach)
                 .count();
             for call in case.calls().iter().take(3) {
-                let mut message = vec![0; case.rate as usize];
-                let mut report = vec![0; REPORT_BYTES];
-                let given = &call.given;
-                let number =
-                    REFERENCE_TABLE(case.rate, given, doubt as u64, &mut message, &mut report);
+                let (number, _, report) = decoded(call);
                 let tests = usize::from(u16::from_be_bytes([report[4], report[5]]));
                 assert_eq!((number, tests), (if near == 0 { 9 } else { 0 }, near));
+            }
+        }
+    }
+
+    /// Noise is heavier at fewer decibels; of two codewords both are near; fades have eight or twelve
+    /// places.
+    #[test]
+    fn tables_are_as_hard_as_they_are_made_to_be() {
+        let wrong = |call: &Measured| {
+            let (number, message, _) = decoded(call);
+            let columns = columns_of_table(&call.given);
+            let code = Code::of_rate(call.rate).unwrap();
+            let sent = code.codeword(&message);
+            let wrong = (0..PLACES).filter(|place| best(&columns[*place]) != sent.get(*place));
+            (number == 0).then(|| wrong.collect::<Vec<usize>>())
+        };
+        for case in cases() {
+            let Which::Table { damage, .. } = case.which else {
+                continue;
+            };
+            let calls = case.calls();
+            let answered: Vec<Vec<usize>> = calls.iter().filter_map(wrong).collect();
+            match damage {
+                Damage::Between => {
+                    let margin = |call| margin_of(&decoded(call).2);
+                    assert!(calls.iter().all(|call| margin(call).is_some()));
+                }
+                Damage::Fade { width } => {
+                    let spread = |wrong: &Vec<usize>| wrong[wrong.len() - 1] - wrong[0] < width;
+                    assert!(answered.iter().all(spread));
+                    assert!(answered.len() < CALLS as usize / 2);
+                }
+                Damage::Noise { decibels: 4 } => assert!(answered.len() < CALLS as usize),
+                _ => (),
             }
         }
     }

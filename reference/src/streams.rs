@@ -2,6 +2,7 @@
 //!
 //! - [`compare_calls`]: one process for each share of the frames; it reads calls and writes
 //!   answers, as [`crate::calls`] lays them out. The [`Tally`] says what was compared.
+//! - [`compare_fades`]: the same with a session for each fade.
 //! - [`compare_shows`]: a process for each capture, valid or damaged, that prints as `show` does;
 //!   [`Shown`] says what was compared.
 
@@ -17,6 +18,8 @@ use crate::calls::Call;
 use crate::capture::open_capture;
 use crate::damage::{capture_of, damaged};
 use crate::decode::{margin_of, REPORT_BYTES};
+use crate::fade_counts::FadeCounts;
+use crate::fades::Fade;
 use crate::frames::{Frame, Kind};
 use crate::margins::Margins;
 use crate::random::Random;
@@ -133,6 +136,55 @@ pub fn compare_calls(
     Ok(sum)
 }
 
+/// Runs a program on a session for each of `count` fades. What was compared, or a line that names the
+/// first difference.
+pub fn compare_fades(program: &[String], seed: u64, count: u64) -> Result<FadeCounts, String> {
+    let shares = in_shares(count, |numbers| {
+        let fades: Vec<(u64, Vec<Call>)> = fade_sessions(seed, numbers).collect();
+        let calls = fades.iter().flat_map(|(_, calls)| calls);
+        let answers = output_of(program, calls.flat_map(Call::bytes).collect())?;
+        check_fades(seed, &fades, &answers)
+    })?;
+    let mut sum = FadeCounts::default();
+    for counts in shares {
+        sum.add(counts);
+    }
+    Ok(sum)
+}
+
+/// The calls of these fades.
+pub fn fade_sessions(
+    seed: u64,
+    numbers: impl Iterator<Item = u64>,
+) -> impl Iterator<Item = (u64, Vec<Call>)> {
+    numbers.map(move |number| {
+        let calls = Fade::numbered(seed, number).calls(&mut Random::new(!seed, number));
+        (number, calls)
+    })
+}
+
+/// Checks a program's answers to the fades' calls; each is counted by what its closing answers.
+pub fn check_fades(
+    seed: u64,
+    fades: &[(u64, Vec<Call>)],
+    answers: &[u8],
+) -> Result<FadeCounts, String> {
+    let mut rest = answers;
+    let mut counts = FadeCounts::default();
+    let mut session = Session::default();
+    for (number, calls) in fades {
+        for (at, call) in calls.iter().enumerate() {
+            let expected = call.answer(&mut session);
+            rest = after(rest, &expected, call, *number, at)?;
+            if call.letter() == b'X' {
+                counts.count(&Fade::numbered(seed, *number), expected[0]);
+            }
+        }
+    }
+    nothing_after(rest)?;
+    Ok(counts)
+}
+
 /// Checks a program's answers to the frames' calls, which one session after the other takes.
 pub fn check_answers(frames: &[(u64, Vec<Call>)], answers: &[u8]) -> Result<Tally, String> {
     let mut rest = answers;
@@ -146,11 +198,7 @@ pub fn check_answers(frames: &[(u64, Vec<Call>)], answers: &[u8]) -> Result<Tall
         for (at, call) in calls.iter().enumerate() {
             let before = session.clone();
             let expected = call.answer(&mut session);
-            rest = rest.strip_prefix(&expected[..]).ok_or_else(|| {
-                let letter = char::from(call.letter());
-                let difference = difference(&expected, rest);
-                format!("frame {number}, call {at} ({letter}): {difference}")
-            })?;
+            rest = after(rest, &expected, call, *number, at)?;
             tally.count(call, &expected);
             tally.blanks.count_call(call, &expected, &session);
             for event in since.events(call, expected[0], &before) {
@@ -172,10 +220,29 @@ pub fn check_answers(frames: &[(u64, Vec<Call>)], answers: &[u8]) -> Result<Tall
         }
         tally.withdrawals.add_list(withdrawals);
     }
-    if rest.is_empty() {
-        Ok(tally)
-    } else {
-        Err(format!("{} bytes after the last answer", rest.len()))
+    nothing_after(rest)?;
+    Ok(tally)
+}
+
+/// The answers after the one expected of a frame's call, or a line that names the difference.
+fn after<'a>(
+    answers: &'a [u8],
+    expected: &[u8],
+    call: &Call,
+    number: u64,
+    at: usize,
+) -> Result<&'a [u8], String> {
+    answers.strip_prefix(expected).ok_or_else(|| {
+        let letter = char::from(call.letter());
+        let difference = difference(expected, answers);
+        format!("frame {number}, call {at} ({letter}): {difference}")
+    })
+}
+
+fn nothing_after(rest: &[u8]) -> Result<(), String> {
+    match rest.len() {
+        0 => Ok(()),
+        length => Err(format!("{length} bytes after the last answer")),
     }
 }
 

@@ -3,11 +3,11 @@
 //! - [`Coding`]: encoding and reading back; [`DecodeTable`], [`DecodeBelow`], [`DecodeBits`]: decoding
 //!   a table by doubt, by threshold and maximum, and from bit values; each returns the refusal or 0.
 //!   [`REFERENCE`], [`REFERENCE_TABLE`], [`REFERENCE_BELOW`] and [`REFERENCE_BITS`] are this package's.
-//! - [`encode_trial`], [`read_back_trial`], [`table_trial`], [`below_trial`], [`bits_trial`]: one
-//!   numbered call, right or damaged, on a library; the [`Outcome`] is its number and every byte of its
-//!   buffers.
+//! - [`encode_trial`], [`read_back_trial`], [`table_trial`], [`fade_trial`], [`below_trial`],
+//!   [`bits_trial`]: one numbered call, right or damaged, on a library; the [`Outcome`] is its number and
+//!   every byte of its buffers.
 //! - [`compare`]: many trials on two libraries; the [`Tally`] of numbers, margins, blank places,
-//!   doubtful ones and sorts of thresholds and of bit values, or a [`Difference`].
+//!   doubtful ones and sorts of fades, of thresholds and of bit values, or a [`Difference`].
 
 use std::sync::atomic::{AtomicBool, Ordering};
 use std::thread;
@@ -21,6 +21,8 @@ use crate::blanks::{Blanks, Faded};
 use crate::choices::{Choice, Choices};
 use crate::code::{encode, read_back, Code};
 use crate::decode::{decode_table, decode_table_below, margin_of, table_of_columns, REPORT_BYTES};
+use crate::fade_counts::FadeCounts;
+use crate::fades::Fade;
 use crate::frames::{random_codeword, Frame, Kind, RATES};
 use crate::margins::Margins;
 use crate::random::Random;
@@ -78,6 +80,8 @@ pub struct Outcome {
     pub faded: Option<Faded>,
     /// What its pinned seconds make of the doubtful places, where the table was decoded.
     pub choice: Option<Choice>,
+    /// The fade, where the table is one.
+    pub fade: Option<Fade>,
     /// The call, where it decodes a table with a threshold.
     pub below: Option<BelowCall>,
     /// The call, where it decodes from bit values.
@@ -98,13 +102,14 @@ pub struct Difference {
 pub type Trial<L> = fn(&L, u64, u64) -> Outcome;
 
 /// How often each number was returned, the margins of the reports, the blank and the doubtful places
-/// of the tables and the sorts of thresholds and of bit values.
+/// of the tables and the sorts of fades, of thresholds and of bit values.
 #[derive(Clone, Debug, Default)]
 pub struct Tally {
     pub numbers: [u64; NUMBERS],
     pub margins: Margins,
     pub blanks: Blanks,
     pub choices: Choices,
+    pub fades: FadeCounts,
     pub below: BelowCounts,
     pub bits: BitCounts,
 }
@@ -123,6 +128,9 @@ impl Tally {
         if let Some(choice) = &outcome.choice {
             self.choices.count(choice);
         }
+        if let Some(fade) = &outcome.fade {
+            self.fades.count(fade, outcome.number);
+        }
         let message = &outcome.buffer;
         if let (Some(call), Some(report)) = (&outcome.below, &outcome.report) {
             self.below.count(call, outcome.number, message, report);
@@ -139,6 +147,7 @@ impl Tally {
         self.margins.add(other.margins);
         self.blanks.add(other.blanks);
         self.choices.add(other.choices);
+        self.fades.add(other.fades);
         self.below.add(other.below);
         self.bits.add(other.bits);
     }
@@ -217,6 +226,25 @@ pub fn table_trial(decode_table: &DecodeTable, seed: u64, number: u64) -> Outcom
         report: Some(report),
         faded: Some(faded),
         choice: decoded.then(|| Choice::of(rate, &frame.columns, doubt as usize)),
+        ..Outcome::default()
+    }
+}
+
+/// Table decoding of one of the numbered fades.
+pub fn fade_trial(decode_table: &DecodeTable, seed: u64, number: u64) -> Outcome {
+    let fade = Fade::numbered(seed, number);
+    let mut random = Random::new(!seed, number);
+    let rate = fade.frame.rate;
+    let table = table_of_columns(&fade.frame.columns);
+    let doubt = fade.frame.doubtful.len() as u64;
+    let mut message = bytes(rate as usize, &mut random);
+    let mut report = bytes(REPORT_BYTES, &mut random);
+    let number = decode_table(rate, &table, doubt, &mut message, &mut report);
+    Outcome {
+        number,
+        buffer: message,
+        report: Some(report),
+        fade: Some(fade),
         ..Outcome::default()
     }
 }

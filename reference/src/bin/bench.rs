@@ -251,7 +251,8 @@ fn print_table(rows: &[Vec<String>]) {
     }
 }
 
-/// Means and speeds of an earlier run beside those of this one, case by case.
+/// Means and speeds of an earlier run beside those of this one, case by case; cells are empty where the
+/// earlier run had no such case.
 fn print_changes(earlier: &str, rows: &[Vec<String>]) {
     println!();
     println!("| Rate | Doubt | Frames | Instructions, before | after | largest, before | after | Multiplications, before | after | Frames/s, before | after |");
@@ -265,12 +266,11 @@ fn print_changes(earlier: &str, rows: &[Vec<String>]) {
     let before: Vec<Vec<String>> = earlier.lines().map(cells).collect();
     for row in rows {
         let same = |other: &&Vec<String>| other.len() == row.len() && other[..3] == row[..3];
-        let Some(old) = before.iter().find(same) else {
-            continue;
-        };
+        let old = before.iter().find(same);
         let mut line = row[..3].to_vec();
         for column in [3, 4, 5, 7] {
-            line.extend([old[column].clone(), row[column].clone()]);
+            let old = old.map(|old| old[column].clone());
+            line.extend([old.unwrap_or_default(), row[column].clone()]);
         }
         println!("| {} |", line.join(" | "));
     }
@@ -295,7 +295,7 @@ fn print_largest(cases: &[Case], figures: &[Figures]) {
             .expect("cases of each rate");
         let (case, figures, doubt) = of_all;
         println!(
-            "Largest frame at rate {rate}: {} instructions (doubt {doubt}, {}).",
+            "The largest of these frames at rate {rate} takes {} instructions (doubt {doubt}, {}).",
             grouped(largest(&figures.instructions)),
             case.name()
         );

@@ -26,6 +26,8 @@ compare shows SEED COUNT PROGRAM ..         run a program on COUNT captures and 
 compare time COUNT                          decode COUNT frames of each sort and time them
 compare code SEED COUNT                     the proved encoding and reading back (feature proved)
 compare tables SEED COUNT                   the proved table decoding (feature proved)
+compare fades SEED COUNT PROGRAM ..         the proved table decoding of COUNT fades (feature proved), and
+                                            a program on a session for each
 compare below SEED COUNT                    the proved table decoding with a threshold (feature proved)
 compare bits SEED COUNT                     the proved decoding from bit values (feature proved)
 LETTERS are those of the calls wanted, of OCDRWXLU.
@@ -41,6 +43,8 @@ capture that comes back unchanged and is not in place order, or the other way ro
 The counts of withdrawals are printed, by the place's sort or the refusal, and those of deliveries,
 readings, closings and writings after them; fewer than one a frame are a failure, or than one in six
 frames where the place is doubtful or blank.
+The counts of fades are printed, by what is left of the sent symbols; a rate, width, doubt and end that
+is missing is a failure, in tables or in sessions, and so is a number of blank places.
 The counts of each sort of thresholds are printed: of each maximum the ranks of a place that decides
 the answer, with a gap one below the threshold, at it and one above, and the wrong rules that would
 lead elsewhere; one that is missing is a failure.
@@ -103,6 +107,10 @@ fn run(arguments: &[String]) -> Result<(), String> {
         ["code", seed, count] => proved::code(number(seed)?, number(count)?),
         #[cfg(feature = "proved")]
         ["tables", seed, count] => proved::tables(number(seed)?, number(count)?),
+        #[cfg(feature = "proved")]
+        ["fades", seed, count, _, ..] => {
+            proved::fades(number(seed)?, number(count)?, &arguments[3..])
+        }
         #[cfg(feature = "proved")]
         ["below", seed, count] => proved::below(number(seed)?, number(count)?),
         #[cfg(feature = "proved")]
@@ -180,9 +188,10 @@ fn time(count: u64) -> Result<(), String> {
 mod proved {
     use reference::blanks::OF_TABLES;
     use reference::proved::{PROVED, PROVED_BELOW, PROVED_BITS, PROVED_TABLE};
+    use reference::streams::compare_fades;
     use reference::trials::{
-        below_trial, bits_trial, compare, encode_trial, read_back_trial, table_trial, Difference,
-        Tally, Trial, REFERENCE, REFERENCE_BELOW, REFERENCE_BITS, REFERENCE_TABLE,
+        below_trial, bits_trial, compare, encode_trial, fade_trial, read_back_trial, table_trial,
+        Difference, Tally, Trial, REFERENCE, REFERENCE_BELOW, REFERENCE_BITS, REFERENCE_TABLE,
     };
 
     pub fn code(seed: u64, count: u64) -> Result<(), String> {
@@ -205,6 +214,17 @@ mod proved {
         blanks.check(count, &OF_TABLES)?;
         choices.check(count)?;
         margins.check(count)
+    }
+
+    /// Fades as tables, and as sessions of a program.
+    pub fn fades(seed: u64, count: u64, program: &[String]) -> Result<(), String> {
+        let both = [&REFERENCE_TABLE, &PROVED_TABLE];
+        let Tally { fades, .. } = report("decode table", fade_trial, both, seed, count)?;
+        super::output(format!("decode table: {fades}\n").as_bytes())?;
+        let sessions = compare_fades(program, seed, count)?;
+        super::output(format!("{count} sessions alike ({sessions})\n").as_bytes())?;
+        fades.check()?;
+        sessions.check()
     }
 
     pub fn below(seed: u64, count: u64) -> Result<(), String> {
