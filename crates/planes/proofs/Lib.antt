@@ -1,0 +1,3 @@
+pub mod Multiplied
+pub mod Packed
+pub mod Raising
