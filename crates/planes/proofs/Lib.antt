@@ -1,3 +1,4 @@
 pub mod Multiplied
 pub mod Packed
+pub mod Unpacked
 pub mod Raising

@@ -10,7 +10,7 @@ use Rattle.galois.specs.Binary as Binary
 use Rattle.planes.specs.Bits.{fromBits}
 use Rattle.planes.specs.Lanes.{lane, lane-zero}
 use Rattle.planes.specs.Elements as Elements
-use Rattle.planes.specs.Rows.{partOf, valueAt, rowSum, value-sum, doubledRow, value-doubled, factor, factor-split, MultiplesOf, Added, AddedBy}
+use Rattle.planes.specs.Rows.{partOf, valueAt, rowSum, value-sum, doubledRow, value-doubled, factor, factor-split, MultiplesOf, AddedBy}
 open Field K16 using (_⊕_, _⊗_, 𝟘)
 
 -- a row of zeros

@@ -7,7 +7,7 @@ use native.Mathlib.Omega.{arith}
 use lib.ListN.{getD}
 use lib.Pow.{pow-mono}
 use Rattle.planes.specs.Bits.{bitAt-lt, bitAt-at, bitsFrom, bitsFrom-turn, bitsFrom-end, bitsFrom-lt}
-use Rattle.planes.specs.Arrays.{bitsOf, planeOf}
+use Rattle.planes.specs.Words.{bitsOf, planeOf}
 
 module _ (word : List ℕ) (bit out place : ℕ) (e : out ≡ bitsFrom 64 place (bitsOf bit word)) where
   -- there is room for one more bit

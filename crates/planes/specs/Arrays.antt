@@ -7,9 +7,9 @@
 --   sumOf a b, sum-element           the sum in every lane
 --   productOf a b, product-element   the product in every lane
 --   spreadOf c, spread-carries       one symbol at every place
---   bitsOf b word      bit b of each symbol of a word; planeOf b word: the plane of these bits; planes-carry: four of them hold the word
+--   carries-sum, carries-product     sums and products of what is carried
 --   everywhere a       an element at every place; symbolsOf word: a word's symbols by place
-use mathlib.Core.Path.{_≡_, refl, sym, ap, _∙_}
+use mathlib.Core.Path.{_≡_, sym, ap, ap₂, _∙_}
 use mathlib.Core.List.{List, [], _∷_}
 use Prim.Native.Nat.{ℕ, zero, suc, _+_, _-_, _*_, _/_, _%_, _^_, _<_}
 use native.Mathlib.Omega.{arith}
@@ -19,15 +19,12 @@ use Rattle.algebra.specs.Field.{Field}
 use Rattle.galois.specs.Gf16.{gf16}
 use Rattle.galois.specs.Field16.{GF, K16, toF, toF-times}
 use Rattle.family.specs.Member.{m16, places}
-use Rattle.planes.specs.Bits.{bitAt, bitAt-lt, bitAt-at, bitAt-first, bitAt-spread, fromBits, bitAt-fromBits}
-use Rattle.planes.specs.Lanes.{Planes, lane, lane-lt}
+use Rattle.planes.specs.Bits.{bitAt, bitAt-at, bitAt-first, bitAt-spread, fromBits}
+use Rattle.planes.specs.Lanes.{Planes, lane}
 use Rattle.planes.specs.Elements as Elements
 use Rattle.planes.specs.Product as Product
 use Rattle.planes.specs.Product.{ones, twos, fours, eights, lane-product}
 open Field K16 using (_⊕_, _⊗_)
-
-abbrev entry : List ℕ → Planes
-entry a b = getD a b 0
 
 unfoldable pub planesIn : List ℕ → Planes
 planesIn a b = getD a b 0
@@ -59,6 +56,9 @@ pub element-symbol : (a : List ℕ) (p : ℕ) → elementAt a p ≡ toF (symbolA
 element-symbol a p = Elements.element-lane gf16 (planesIn a) p ∙ ap toF (sym (symbol-lane a p))
 
 -- ---- all lanes
+abbrev entry : List ℕ → ℕ → ℕ
+entry a b = getD a b 0
+
 module _ (a b : List ℕ) where
   abbrev pub sumOf : List ℕ
   sumOf =
@@ -75,39 +75,28 @@ module _ (a b : List ℕ) where
   unfolding Elements.element lane fromBits planesIn Product.productOf
   product-element p = ap toF (lane-product (planesIn a) (planesIn b) p) ∙ toF-times _ _
 
+module _ (u v : ℕ → GF) (a b : List ℕ) (ca : Carries u a) (cb : Carries v b) where
+  pub carries-sum : Carries (λ p. u p ⊕ v p) (sumOf a b)
+  carries-sum = record { lanes = λ p l. sum-element a b p ∙ ap₂ (λ x y. x ⊕ y) (ca .lanes p l) (cb .lanes p l) }
+
+  pub carries-product : Carries (λ p. u p ⊗ v p) (productOf a b)
+  carries-product = record { lanes = λ p l. product-element a b p ∙ ap₂ (λ x y. x ⊗ y) (ca .lanes p l) (cb .lanes p l) }
+
+-- all bits of a plane
+abbrev pub allOnes : ℕ
+allOnes = 2 ^ places m16 - 1
+
 -- a bit of c in every lane of each plane
 abbrev pub spreadOf : ℕ → List ℕ
-spreadOf c = c % 2 * (2 ^ 64 - 1) ∷ c / 2 % 2 * (2 ^ 64 - 1) ∷ c / 4 % 2 * (2 ^ 64 - 1) ∷ c / 8 % 2 * (2 ^ 64 - 1) ∷ []
+spreadOf c = c % 2 * allOnes ∷ c / 2 % 2 * allOnes ∷ c / 4 % 2 * allOnes ∷ c / 8 % 2 * allOnes ∷ []
 
 pub spread-carries : (c : ℕ) → Carries (everywhere (toF c)) (spreadOf c)
 unfolding planesIn
-spread-carries c = Elements.carries-by gf16 64 (λ p. c) _ bits
+spread-carries c = Elements.carries-by gf16 (places m16) (λ p. c) _ bits
   where
-    bits : (p b : ℕ) → p < 64 → b < 4 → bitAt (planesIn (spreadOf c) b) p ≡ bitAt c b
-    bits p zero h l = bitAt-spread (c % 2) 64 p (omega arith) h ∙ sym (bitAt-first c)
-    bits p (suc zero) h l = bitAt-spread (c / 2 % 2) 64 p (omega arith) h ∙ sym (bitAt-at c 1)
-    bits p (suc (suc zero)) h l = bitAt-spread (c / 4 % 2) 64 p (omega arith) h ∙ sym (bitAt-at c 2)
-    bits p (suc (suc (suc zero))) h l = bitAt-spread (c / 8 % 2) 64 p (omega arith) h ∙ sym (bitAt-at c 3)
-    bits p (suc (suc (suc (suc b)))) h l = absurd (omega arith)
-
--- ---- a word
-unfoldable pub bitsOf : ℕ → List ℕ → ℕ → ℕ
-bitsOf b word p = bitAt (getD word p 0) b
-
-unfoldable pub planeOf : ℕ → List ℕ → ℕ
-planeOf b word = fromBits 64 (bitsOf b word)
-
-pub planes-carry : (word : List ℕ) {one two four eight : ℕ} → one ≡ planeOf 0 word → two ≡ planeOf 1 word → four ≡ planeOf 2 word → eight ≡ planeOf 3 word
-    → Carries (symbolsOf word) (one ∷ two ∷ four ∷ eight ∷ [])
-unfolding planesIn planeOf bitsOf
-planes-carry word {one} {two} {four} {eight} e1 e2 e4 e8 = Elements.carries-by gf16 64 (λ p. getD word p 0) _ bits
-  where
-    plane : (p b a : ℕ) → p < 64 → a ≡ planeOf b word → bitAt a p ≡ bitAt (getD word p 0) b
-    plane p b a h e = ap (λ x. bitAt x p) e ∙ bitAt-fromBits 64 (bitsOf b word) (λ k. bitAt-lt (getD word k 0) b) p h
-
-    bits : (p b : ℕ) → p < 64 → b < 4 → bitAt (planesIn (one ∷ two ∷ four ∷ eight ∷ []) b) p ≡ bitAt (getD word p 0) b
-    bits p zero h l = plane p 0 one h e1
-    bits p (suc zero) h l = plane p 1 two h e2
-    bits p (suc (suc zero)) h l = plane p 2 four h e4
-    bits p (suc (suc (suc zero))) h l = plane p 3 eight h e8
+    bits : (p b : ℕ) → p < places m16 → b < gf16 .bits → bitAt (planesIn (spreadOf c) b) p ≡ bitAt c b
+    bits p zero h l = bitAt-spread (c % 2) (places m16) p (omega arith) h ∙ sym (bitAt-first c)
+    bits p (suc zero) h l = bitAt-spread (c / 2 % 2) (places m16) p (omega arith) h ∙ sym (bitAt-at c 1)
+    bits p (suc (suc zero)) h l = bitAt-spread (c / 4 % 2) (places m16) p (omega arith) h ∙ sym (bitAt-at c 2)
+    bits p (suc (suc (suc zero))) h l = bitAt-spread (c / 8 % 2) (places m16) p (omega arith) h ∙ sym (bitAt-at c 3)
     bits p (suc (suc (suc (suc b)))) h l = absurd (omega arith)

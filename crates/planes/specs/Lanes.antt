@@ -10,16 +10,14 @@
 --   lane-up, lane-under, lane-over    multiplied by 2 ^ k and cut at a width: lane p at k + p, and 0 in lanes below and beyond
 --   lane-kept, lane-emptied    a mask keeps the lanes of its bits, and empties the others
 --   lanewise           an operation of & and ^ that is right on the bits of all numbers below 2 ^ n is right in every lane
-use mathlib.Core.Bool.{Bool}
-use mathlib.Core.Path.{_≡_, refl, sym, ap, ap₂, _∙_}
-use Prim.Native.Nat.{ℕ, zero, suc, _+_, _-_, _*_, _/_, _%_, _^_, _<_, _≤_}
+use mathlib.Core.Path.{_≡_, sym, ap, _∙_}
+use Prim.Native.Nat.{ℕ, _+_, _*_, _/_, _%_, _^_, _<_}
 use native.Mathlib.Nat.{mod-eq-of-lt}
-use native.Mathlib.Omega.{arith}
 use lib.Dec.{T, eqb, eqb→eq}
 use lib.Bits.{bitAnd, bitXor, and-zero-r, and-mask}
 use lib.Pow.{pow-pos}
 use Rattle.lists.specs.Every.{every₂, every₂-at}
-use Rattle.planes.specs.Bits.{bitAt, bitAt-lt, bitAt-zero, bitAt-xor, bitAt-and, bitAt-down, bitAt-up, bitAt-under, bitAt-kept, bitAt-cut, fromBits, fromBits-lt, fromBits-ext, fromBits-xor, bitAt-fromBits, fromBits-bitAt}
+use Rattle.planes.specs.Bits.{bitAt, bitAt-lt, bitAt-zero, bitAt-xor, bitAt-and, bitAt-down, bitAt-up, bitAt-under, bitAt-kept, fromBits, fromBits-lt, fromBits-ext, fromBits-xor, bitAt-fromBits, fromBits-bitAt}
 
 abbrev pub Planes : Type 0
 Planes = ℕ → ℕ

@@ -5,13 +5,14 @@
 --   wholeOf row, slopeOf row, joinedOf a b    a part as an array of four planes, and a row by its parts
 --   value-whole, value-slope, whole-joined, slope-joined    their lanes
 --   rowSum a b, value-sum  the sum in every lane of both parts
---   doubledOf row, value-doubled    α times a row
---   Multiples row ms       ms i is a row times 0, 1, 2, 3, 0, 4, 8 and 12: two of them add to any multiple (factor-split)
---   Added row by other r, Raised row a r    at every place a row plus by times another; x + a times a row
+--   doubledRow row, value-doubled    α times a row
+--   MultiplesOf row ms     ms i is a row times 0, 1, 2, 3, 0, 4, 8 and 12: two of them add to any multiple (factor-split)
+--   Added row by other r   in every lane a row plus by times another; AddedBy: so for every row whose multiples are given
+--   Raised row a r         at every place x + a times a row
 use mathlib.Core.Bool.{Bool}
 use mathlib.Core.Path.{_≡_, refl, sym, ap, ap₂, _∙_}
 use mathlib.Core.List.{List, [], _∷_}
-use Prim.Native.Nat.{ℕ, zero, suc, _+_, _-_, _*_, _/_, _%_, _^_, _<_}
+use Prim.Native.Nat.{ℕ, zero, suc, _+_, _*_, _/_, _%_, _<_}
 use native.Mathlib.Omega.{arith}
 use lib.Bits.{bitXor}
 use lib.Dec.{eqb, eqb→eq}

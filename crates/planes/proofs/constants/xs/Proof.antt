@@ -6,7 +6,6 @@ use Rattle.planes.specs.Lanes.{lane}
 use Rattle.planes.specs.Elements.{carries-tested}
 use Rattle.planes.specs.Arrays.{planesIn}
 use Rattle.family.specs.Curve.{xOf}
-use borrow.Author.Needs.{needs}
 use Rattle.planes.proofs.constants.xs.Statement.{statement}
 use Rattle.planes.proofs.constants.xs.Tie as tie
 

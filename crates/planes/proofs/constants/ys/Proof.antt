@@ -8,7 +8,6 @@ use Rattle.planes.specs.Arrays.{planesIn}
 use Rattle.lists.specs.Count.{kept}
 use Rattle.galois.specs.Binary as Binary
 use Rattle.family.specs.Curve.{yOf, fibre, isOnCurve}
-use borrow.Author.Needs.{needs}
 use Rattle.planes.proofs.constants.ys.Statement.{statement}
 use Rattle.planes.proofs.constants.ys.Tie as tie
 

@@ -1,9 +1,9 @@
 -- `plane` meets its contract. The loop's invariant: `out` has the bits of the places from `place` on.
 use mathlib.Core.Path.{_≡_, sym}
-use Prim.Native.Nat.{_≤_, _^_, _<_}
+use Prim.Native.Nat.{_≤_}
 use native.Mathlib.Omega.{arith}
 use Rattle.planes.specs.Bits.{bitsFrom, bitsFrom-start}
-use Rattle.planes.specs.Arrays.{bitsOf}
+use Rattle.planes.specs.Words.{bitsOf}
 use Rattle.planes.proofs.Packed.{packed-room, packed-turn, packed-end}
 use borrow.Author.Needs.{needs}
 use Rattle.planes.proofs.words.plane.Statement.{statement}

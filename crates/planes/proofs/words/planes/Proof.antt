@@ -1,5 +1,5 @@
 -- `planes` meets its contract: the four planes of a word hold it.
-use Rattle.planes.specs.Arrays.{planes-carry}
+use Rattle.planes.specs.Words.{planes-carry}
 use borrow.Author.Needs.{needs}
 use Rattle.planes.proofs.words.planes.Statement.{statement}
 use Rattle.planes.proofs.words.planes.Tie as tie
