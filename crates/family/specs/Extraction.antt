@@ -7,6 +7,8 @@
 --   messageAt v t      message symbol t so read, and extractOf k v the first k of them
 --   momentRow v b      the moments with y^b by the power of x; momentsOf v for each b below w
 --   momentSymbol ms i j    the same coefficient from a table of moments; symbol-in: it is so from the word's own
+--   powersAt a b p, dualAt i j p    x^a y^b and the dual of x^i y^j at a place; dual-powers: their products sum to 1 where both agree, and to 0
+--   toF-symbolOf       a coefficient so read is the sum of the values times its dual
 --   extract-word       they are symbols: a word of k elements
 --   extract-take       the first k of a longer message so read
 --   extract-encode     what was encoded is read again (k up to n − g, where no power of x is above q − 1)
@@ -103,14 +105,14 @@ module _ (𝓜 : Member) where
 
   -- ---- a monomial times the dual of another, summed over all places
   -- the dual of x^i y^j at a place
-  dualAt : ℕ → ℕ → ℕ → GF gf
+  unfoldable pub dualAt : ℕ → ℕ → ℕ → GF gf
   dualAt i j p = dual (K gf) (size gf - 1) i (px 𝓜 p) ⊗ dual (K gf) (w - 1) j (py 𝓜 p)
 
   -- x^a y^b at a place
-  powersAt : ℕ → ℕ → ℕ → GF gf
+  unfoldable pub powersAt : ℕ → ℕ → ℕ → GF gf
   powersAt a b p = pow (K gf) (px 𝓜 p) a ⊗ pow (K gf) (py 𝓜 p) b
 
-  dual-powers : (a b i j : ℕ) → a ≤ size gf - 1 → b ≤ w - 1 → i ≤ size gf - 1 → j ≤ w - 1
+  pub dual-powers : (a b i j : ℕ) → a ≤ size gf - 1 → b ≤ w - 1 → i ≤ size gf - 1 → j ≤ w - 1
       → sum (K gf) (places 𝓜) (λ p. powersAt a b p ⊗ dualAt i j p) ≡ unit (K gf) i a ⊗ unit (K gf) j b
   unfolding dualAt powersAt yOf
   dual-powers a b i j ha hb hi hj =
@@ -158,7 +160,7 @@ module _ (𝓜 : Member) where
   toF-atZero zero n = sym (ap (λ x. x ⊗ toF gf n) (unit-at (K gf) 0) ∙ one-mul (K gf) (toF gf n))
   toF-atZero (suc i) n = toF-zero gf ∙ sym (ap (λ x. x ⊗ toF gf n) (unit-off (K gf) 0 (suc i) (λ (e : suc i ≡ 0). omega arith)) ∙ zero-mul (K gf) (toF gf n))
 
-  toF-symbolOf : (v : List ℕ) (i j : ℕ) → toF gf (symbolOf v i j) ≡ sum (K gf) (places 𝓜) (λ p. toF gf (getD v p 0) ⊗ dualAt i j p)
+  pub toF-symbolOf : (v : List ℕ) (i j : ℕ) → toF gf (symbolOf v i j) ≡ sum (K gf) (places 𝓜) (λ p. toF gf (getD v p 0) ⊗ dualAt i j p)
   unfolding symbolOf dualAt powersAt dual
   toF-symbolOf v i j =
       toF-add gf _ _

@@ -1,0 +1,64 @@
+-- `gathered` meets its contract. The loop's invariant: the sums over the x passed.
+use Prim.Native.Nat.{_-_, _≤_}
+use native.Mathlib.Omega.{arith}
+use Rattle.coefficients.proofs.Turns.{GatheredTo, gathered-start, gathered-turn, gathered-end}
+use borrow.Author.Needs.{needs}
+use Rattle.coefficients.proofs.orders.gathered.Statement.{statement}
+use Rattle.coefficients.proofs.orders.gathered.Tie as tie
+
+abbrev Inv-loop : tie.InvT-loop
+Inv-loop sums duals out₀ x₀ out x = (x ≤ 16) × GatheredTo sums x out
+
+abbrev μ-loop : tie.MeasureT-loop
+μ-loop sums duals out₀ x₀ out x = 16 - x
+
+x-duals-requires : tie.Need-x-duals-requires Inv-loop μ-loop
+x-duals-requires c κs = search needs
+
+loop-holds : tie.Need-loop-holds Inv-loop μ-loop
+loop-holds c = (search needs, gathered-start _)
+
+mul-entry : tie.Need-mul-entry Inv-loop μ-loop
+mul-entry c = search needs
+
+array-copy-out-entry : tie.Need-array-copy-out-entry Inv-loop μ-loop
+array-copy-out-entry c = search needs
+
+entry-requires : tie.Need-entry-requires Inv-loop μ-loop
+entry-requires c κs = search needs
+
+sum-requires : tie.Need-sum-requires Inv-loop μ-loop
+sum-requires c κs = search needs
+
+add-x : tie.Need-add-x Inv-loop μ-loop
+add-x c = search needs
+
+loop-less : tie.Need-loop-less Inv-loop μ-loop
+loop-less c = search needs
+
+loop-again : tie.Need-loop-again Inv-loop μ-loop
+loop-again c = (
+  search needs,
+  gathered-turn _ _ _ _ _ (c .before .before .before .before .loop .inv .1)
+      (c .before .before .before .before .before .x-duals .ensures .entries _ (c .before .before .before .loop-test .taken)) (c .before .entry .ensures) (c .sum .ensures),
+)
+
+returns : tie.Need-returns Inv-loop μ-loop
+returns c = gathered-end _ _ _ (omega arith) (c .before .loop .inv .1)
+
+pub gathered-spec : {M : Type 1} → statement M
+gathered-spec =
+    tie.close
+    (tie.spec
+    Inv-loop
+    μ-loop
+    x-duals-requires
+    loop-holds
+    mul-entry
+    array-copy-out-entry
+    entry-requires
+    sum-requires
+    add-x
+    loop-less
+    loop-again
+    returns)

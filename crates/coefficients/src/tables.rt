@@ -1,0 +1,139 @@
+// The constant duals, in planes: what a value is multiplied with, so that the sum over all places is a coefficient.
+ghost use Rattle.coefficients.specs.Reading.{YDuals, XDuals};
+use planes::Planes;
+
+// Entry j holds at each place the dual of y^j there.
+pub fn y_duals() -> [Planes; 4]
+    ensures { λ r. ⌜ YDuals r ⌝ }
+{
+    [
+        [
+            0xDDED_EDDD_EDDD_EED1,
+            0xA39A_9A3A_9333_99A0,
+            0x6A36_36A6_3AAA_3360,
+            0xFFFF_FFFF_FFFF_FFF0,
+        ],
+        [
+            0x6666_6666_6666_6666,
+            0xCCCC_CCCC_CCCC_CCCC,
+            0x33C3_C333_C333_CC3C,
+            0x0FF0_F0F0_FFFF_FF00,
+        ],
+        [
+            0xAAAA_AAAA_AAAA_AAAA,
+            0x3C33_33C3_3CCC_333C,
+            0xCCCC_CCCC_CCCC_CCCC,
+            0x0FF0_F0F0_FFFF_FF00,
+        ],
+        [
+            0xFFFF_FFFF_FFFF_FFFF,
+            0x0000_0000_0000_0000,
+            0x0000_0000_0000_0000,
+            0x0000_0000_0000_0000,
+        ],
+    ]
+}
+
+// Entry x holds at each order the dual, at x, of the power of x in its monomial, and 0 at a missing order.
+pub fn x_duals() -> [Planes; 16]
+    ensures { λ r. ⌜ XDuals r ⌝ }
+{
+    [
+        [
+            0x1000_0000_0000_8421,
+            0x0000_0000_0000_0000,
+            0x0000_0000_0000_0000,
+            0x0000_0000_0000_0000,
+        ],
+        [
+            0xFFFF_FFFF_FFFF_7310,
+            0x0000_0000_0000_0000,
+            0x0000_0000_0000_0000,
+            0x0000_0000_0000_0000,
+        ],
+        [
+            0x1842_9C6B_5ADE_7310,
+            0x29C6_B5AD_EF73_1000,
+            0x429C_6B5A_DEF7_3100,
+            0x8429_C6B5_ADEF_7310,
+        ],
+        [
+            0xF731_8429_C6B5_2100,
+            0xADEF_7318_429C_6310,
+            0xC6B5_ADEF_7318_4210,
+            0x8429_C6B5_ADEF_7310,
+        ],
+        [
+            0x5ADE_F731_8429_4210,
+            0x429C_6B5A_DEF7_3100,
+            0xADEF_7318_429C_6310,
+            0x8429_C6B5_ADEF_7310,
+        ],
+        [
+            0x3184_29C6_B5AD_6310,
+            0xC6B5_ADEF_7318_4210,
+            0x29C6_B5AD_EF73_1000,
+            0x8429_C6B5_ADEF_7310,
+        ],
+        [
+            0xD6BD_6BD6_BD6B_5210,
+            0x6BD6_BD6B_D6BD_6310,
+            0x6BD6_BD6B_D6BD_6310,
+            0x0000_0000_0000_0000,
+        ],
+        [
+            0xBD6B_D6BD_6BD6_3100,
+            0x6BD6_BD6B_D6BD_6310,
+            0x6BD6_BD6B_D6BD_6310,
+            0x0000_0000_0000_0000,
+        ],
+        [
+            0x18C6_318C_6318_4210,
+            0x8C63_18C6_318C_6310,
+            0x4A52_94A5_294A_5210,
+            0xEF7B_DEF7_BDEF_7310,
+        ],
+        [
+            0xF7B5_AD63_9421_0000,
+            0x8CEF_7B5A_D639_4210,
+            0xCEF7_B5AD_6394_2100,
+            0xEF7B_5AD6_3942_1000,
+        ],
+        [
+            0x94A5_294A_5294_2100,
+            0xA529_4A52_94A5_2100,
+            0x8C63_18C6_318C_6310,
+            0xEF7B_DEF7_BDEF_7310,
+        ],
+        [
+            0x7B5A_D639_4218_4210,
+            0x218C_EF7B_5AD6_3100,
+            0x8CEF_7B5A_D639_4210,
+            0xEF7B_5AD6_3942_1000,
+        ],
+        [
+            0x5294_A529_4A52_1000,
+            0x4A52_94A5_294A_5210,
+            0x6318_C631_8C63_1000,
+            0xEF7B_DEF7_BDEF_7310,
+        ],
+        [
+            0x3942_18CE_F7B5_2100,
+            0xCEF7_B5AD_6394_2100,
+            0x6394_218C_EF7B_5210,
+            0xEF7B_5AD6_3942_1000,
+        ],
+        [
+            0x5AD6_3942_18CE_7310,
+            0x6394_218C_EF7B_5210,
+            0x218C_EF7B_5AD6_3100,
+            0xEF7B_5AD6_3942_1000,
+        ],
+        [
+            0x318C_6318_C631_0000,
+            0x6318_C631_8C63_1000,
+            0xA529_4A52_94A5_2100,
+            0xEF7B_DEF7_BDEF_7310,
+        ],
+    ]
+}
