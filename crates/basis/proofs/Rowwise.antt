@@ -1,60 +1,49 @@
 -- The rows of a step, stored one after another.
-use mathlib.Core.Bool.{cond}
-use mathlib.Core.Path.{_≡_, sym, ap, _∙_}
+--
+--   Cleared ds by pivot rows   of row k: what is stored is the row and a multiple of the pivot's
+--   step-stored                the pivot's row is the last to be stored
+use mathlib.Core.Path.{_≡_, refl, sym, ap, _∙_, subst}
 use mathlib.Core.List.{List, []}
+use mathlib.Core.Logic.{_≢_}
 use Prim.Native.Nat.{ℕ, _<_, _≤_}
-use native.Mathlib.Decide.{ℕ-discrete}
 use native.Mathlib.Omega.{arith}
-use lib.Bits.{bitXor, xor-zero-r}
-use lib.ListN.{length, getD, set, length-set}
+use lib.ListN.{length, getD, set}
 use lib.Seq.{getD-set-same, getD-set-other}
-use borrow.Author.Tests.{lt-ltb, le-ltb, eq-eqb, ne-eqb}
-use Rattle.lists.specs.Listed.{listed, listed-length, listed-at, listed-by}
+use Rattle.lists.specs.Passed.{Passed}
+use Rattle.algebra.specs.Field.{Field}
 use Rattle.galois.specs.Gf16.{times, inverse}
-use Rattle.galois.specs.Field16.{times-comm, times-zero}
-use Rattle.rows.specs.Rows.{rowWidth}
-use Rattle.rows.specs.Bytes.{addedAt, raisedAt}
-use Rattle.basis.specs.Step.{classes, cleared, nextRow, nextRows}
+use Rattle.galois.specs.Field16.{K16, toF}
+use Rattle.planes.specs.Rows.{valueAt, Added, AddedBy, Raised, Moved}
+use Rattle.basis.specs.Step.{classes, rowValues, NextRows, MovedRows}
+open Field K16 using (_⊕_, _⊗_)
 
 -- what is stored as row k
-pub cleared-is : (at : ℕ) (ds : List ℕ) (rows : List (List ℕ)) (k by : ℕ) (row : List ℕ) → by ≡ inverse (getD ds at 0)
-    → row ≡ listed rowWidth (addedAt (getD rows k []) (times (getD ds k 0) by) (getD rows at [])) → row ≡ cleared at ds rows k
-unfolding cleared
-cleared-is at ds rows k by row b e = e ∙ ap (λ x. listed rowWidth (addedAt (getD rows k []) (times (getD ds k 0) x) (getD rows at []))) b
+pub record Cleared (ds : List ℕ) (by : ℕ) (pivot : List ℕ) (rows : List (List ℕ)) (k : ℕ) (row : List ℕ) : Type 0 where
+  pub added : Added (getD rows k []) (times (getD ds k 0) by) pivot row
 
-module _ (at a : ℕ) (ds : List ℕ) (rows : List (List ℕ)) where
-  pub no-step : classes ≤ at → rows ≡ nextRows at a ds rows
-  unfolding nextRows
-  no-step h = sym (ap (λ b. cond b (listed classes (nextRow at a ds rows)) rows) (le-ltb at classes h))
+pub added-product : {row r : List ℕ} {ms : List (List ℕ)} {k : ℕ} (d by : ℕ) → k ≡ times d by → AddedBy row k ms r → AddedBy row (times d by) ms r
+added-product {row} {r} {ms} d by e h = subst (λ x. AddedBy row x ms r) e h
 
-  -- the pivot's row is the last to be stored
-  pub step-stored : (out : List (List ℕ)) (last : List ℕ) → at < classes → out ≡ listed classes (cleared at ds rows)
-      → last ≡ listed rowWidth (raisedAt (getD rows at []) a) → set out at last ≡ nextRows at a ds rows
-  unfolding nextRows nextRow
-  step-stored out last h e f =
-      listed-by [] classes (set out at last) (nextRow at a ds rows) (length-set out at last ∙ long) (λ k l. go k l (ℕ-discrete k at))
-      ∙ sym (ap (λ b. cond b (listed classes (nextRow at a ds rows)) rows) (lt-ltb at classes h))
-    where
-      long : length out ≡ classes
-      long = ap length e ∙ listed-length classes (cleared at ds rows)
+pub no-step : (at a : ℕ) (ds : List ℕ) (rows : List (List ℕ)) → classes ≤ at → NextRows at a ds rows rows
+no-step at a ds rows h = record { none = λ b. refl; pivot = λ l. absurd (omega arith); other = λ l. absurd (omega arith) }
 
-      go : (k : ℕ) → k < classes → Dec (k ≡ at) → getD (set out at last) k [] ≡ nextRow at a ds rows k
-      go k l (yes q) =
-          ap (λ j. getD (set out at last) j []) q ∙ getD-set-same out at last [] (omega (arith, long)) ∙ f
-          ∙ sym (ap (λ b. cond b (listed rowWidth (raisedAt (getD rows at []) a)) (cleared at ds rows k)) (eq-eqb k at q))
-      go k l (no q) =
-          getD-set-other out at k last [] q ∙ ap (λ o. getD o k []) e ∙ listed-at classes k (cleared at ds rows) [] l
-          ∙ sym (ap (λ b. cond b (listed rowWidth (raisedAt (getD rows at []) a)) (cleared at ds rows k)) (ne-eqb k at q))
+pub step-stored : (at a : ℕ) (ds : List ℕ) (rows out : List (List ℕ)) (by i : ℕ) (last : List ℕ) → at < classes → classes ≤ i → length rows ≡ classes
+    → by ≡ inverse (getD ds at 0) → Passed [] (Cleared ds by (getD rows at []) rows) 0 i rows out → Raised (getD rows at []) a last
+    → NextRows at a ds rows (set out at last)
+unfolding rowValues
+step-stored at a ds rows out by i last h done size b P R =
+    record {
+      none = λ l. absurd (omega arith);
+      pivot = λ l p q k m.
+          ap (λ (row : List ℕ). valueAt p row q) (getD-set-same out at last [] (omega (arith, P .as-long))) ∙ R .lanes p q k m;
+      other = λ l r k n p q m.
+          ap (λ (row : List ℕ). valueAt p row q) (getD-set-other out at r last [] n) ∙ P .stored r (omega arith) (omega arith) .added .lanes p q m
+          ∙ ap (λ x. valueAt p (getD rows r []) q ⊕ toF (times (getD ds r 0) x) ⊗ valueAt p (getD rows at []) q) b;
+    }
 
--- a row of discrepancy zero stays
-pub added-nothing : (row pivot : List ℕ) (by d : ℕ) → length row ≡ rowWidth → d ≡ 0 → row ≡ listed rowWidth (addedAt row (times d by) pivot)
-unfolding addedAt
-added-nothing row pivot by d l z = listed-by 0 rowWidth row (addedAt row (times d by) pivot) l (λ k h. sym (nothing k))
-  where
-    none : (b : ℕ) → times 0 b ≡ 0
-    none b = times-comm 0 b ∙ times-zero b
+-- ---- the rows by another symbol
+pub record MovedRow (q c : ℕ) (rows : List (List ℕ)) (k : ℕ) (row : List ℕ) : Type 0 where
+  pub is : Moved (getD rows k []) q c row
 
-    nothing : (k : ℕ) → addedAt row (times d by) pivot k ≡ getD row k 0
-    nothing k =
-        ap (bitXor (getD row k 0)) (ap (λ x. times (times x by) (getD pivot k 0)) z ∙ ap (λ x. times x (getD pivot k 0)) (none by) ∙ none (getD pivot k 0))
-        ∙ xor-zero-r (getD row k 0)
+pub moved-stored : (q c : ℕ) (rows out : List (List ℕ)) (i : ℕ) → classes ≤ i → Passed [] (MovedRow q c rows) 0 i rows out → MovedRows q c rows out
+moved-stored q c rows out i done P = record { each = λ r l. P .stored r (omega arith) (omega arith) .is }

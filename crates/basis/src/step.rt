@@ -1,38 +1,42 @@
 // One step of Kötter's algorithm on the eight rows and their leads.
 ghost use mathlib.Core.Path.{_≡_};
-ghost use Prim.Native.Nat.{_<_};
+ghost use Prim.Native.Nat.{_<_, _%_};
 ghost use Rattle.lists.specs.Listed.{listed};
 ghost use Rattle.galois.specs.Gf16.{times};
-ghost use Rattle.rows.specs.Rows.{rowWidth};
-ghost use Rattle.rows.specs.Bytes.{addedAt};
+ghost use Rattle.planes.specs.Rows.{AddedBy};
 ghost use Rattle.basis.specs.Choice.{Chosen, betterOf};
-ghost use Rattle.basis.specs.Step.{discrepancyOf, discrepancyAt, nextRows};
+ghost use Rattle.basis.specs.Step.{discrepancyOf, discrepancyAt, NextRows, MovedRows};
 use crate::CLASSES;
 use crate::Leads;
 use crate::Rows;
 use galois::inverse;
 use galois::product;
-use rows::Planes;
-use rows::Row;
+use planes::lanes::at;
+use planes::rows::Multiples;
+use planes::rows::Row;
+use planes::rows::added;
+use planes::rows::moved;
+use planes::rows::multiples;
+use planes::rows::raised;
+use planes::rows::whole;
 
-// The value of a row at the point of the weights; a spent class counts as zero.
-fn discrepancy(row: Row, lead: usize, limit: usize, weights: Planes) -> u8
-    ensures { λ r. ⌜ r ≡ discrepancyOf limit lead row weights ⌝ }
+// The value of a row at a place; a spent class counts as zero.
+fn discrepancy(row: Row, lead: usize, limit: usize, place: usize) -> u8
+    ensures { λ r. ⌜ r ≡ discrepancyOf limit lead row (place % 64) ⌝ }
 {
     if limit < lead {
         return 0;
     }
-    rows::dot(row, weights)
+    at(whole(row), place)
 }
 
-pub fn discrepancies(rows: Rows, leads: Leads, limit: usize, weights: Row) -> [u8; CLASSES]
-    ensures { λ r. ⌜ r ≡ listed 8 (discrepancyAt limit leads rows weights) ⌝ }
+pub fn discrepancies(rows: Rows, leads: Leads, limit: usize, place: usize) -> [u8; CLASSES]
+    ensures { λ r. ⌜ r ≡ listed 8 (discrepancyAt limit leads rows (place % 64)) ⌝ }
 {
-    let bits = rows::planes(weights);
     let mut out = [0u8; CLASSES];
     let mut r = 0;
     while r < CLASSES {
-        out[r] = discrepancy(rows[r], leads[r], limit, bits);
+        out[r] = discrepancy(rows[r], leads[r], limit, place);
         r += 1;
     }
     out
@@ -69,30 +73,42 @@ pub fn choice(ds: [u8; CLASSES], leads: Leads) -> usize
 }
 
 // A row and the multiple of the pivot's row that takes its discrepancy d away; by is the inverse of the pivot's.
-fn next_row(row: Row, d: u8, by: u8, pivot: Row) -> Row
-    ensures { λ r. ⌜ r ≡ listed rowWidth (addedAt row (times d by) pivot) ⌝ }
+fn next_row(row: Row, d: u8, by: u8, pivots: &Multiples) -> Row
+    ensures { λ r. ⌜ AddedBy row (times d by) (now (pivots .entry)) r ⌝ }
 {
-    if d == 0 {
-        return row;
-    }
-    rows::added(row, product(d, by), pivot)
+    added(row, product(d, by), pivots)
 }
 
-// The rows after a step at class `at`, where the point's x is a; with no such class they stay.
+// The rows after a step at class `at`, where the place's x is a; with no such class they stay.
 pub fn next_rows(rows: Rows, ds: [u8; CLASSES], at: usize, a: u8) -> Rows
-    ensures { λ r. ⌜ r ≡ nextRows at a ds rows ⌝ }
+    ensures { λ r. ⌜ NextRows at a ds rows r ⌝ }
 {
     if CLASSES <= at {
         return rows;
     }
     let pivot = rows[at];
     let by = inverse(ds[at]);
+    let pivots = multiples(pivot);
     let mut out = rows;
     let mut r = 0;
     while r < CLASSES {
-        out[r] = next_row(rows[r], ds[r], by, pivot);
+        out[r] = next_row(rows[r], ds[r], by, &pivots);
         r += 1;
     }
-    out[at] = rows::raised(pivot, a);
+    out[at] = raised(pivot, a);
+    out
+}
+
+// The rows by another symbol at one place.
+pub fn moved_rows(rows: Rows, place: usize, change: u8) -> Rows
+    requires { ⌜ place < 64 ⌝ }
+    ensures { λ r. ⌜ MovedRows place change rows r ⌝ }
+{
+    let mut out = rows;
+    let mut r = 0;
+    while r < CLASSES {
+        out[r] = moved(rows[r], place, change);
+        r += 1;
+    }
     out
 }

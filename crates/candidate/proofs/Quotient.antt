@@ -2,9 +2,7 @@
 use mathlib.Core.Bool.{Bool}
 use mathlib.Core.Path.{_≡_, sym, ap, ap₂, _∙_, subst, subst₂, fun-ext}
 use mathlib.Core.List.{List}
-use Prim.Native.Nat.{ℕ, _+_, _<_}
-use native.Mathlib.Nat.{zero-add}
-use native.Mathlib.Decide.{decLt}
+use Prim.Native.Nat.{ℕ, _+_, _*_, _<_}
 use native.Mathlib.Omega.{arith}
 use lib.ListN.{take}
 use Rattle.lists.specs.Count.{count-le}
@@ -12,15 +10,13 @@ use Rattle.lists.specs.Listed.{listed, listed-length}
 use Rattle.lists.specs.Padded.{padded, padded-take}
 use Rattle.lists.specs.Words.{Word}
 use Rattle.lists.specs.Answers.{Found}
-use Rattle.algebra.specs.Field.{Field}
-use Rattle.algebra.specs.Coefficients.{choose, Lead}
-use Rattle.galois.specs.Field16.{K16}
-use Rattle.hermitian.specs.Interpolant.{withoutZ, withZ}
+use Rattle.algebra.specs.Coefficients.{Below, Lead, below-mono}
+use Rattle.galois.specs.Field16.{GF, K16}
 use Rattle.hermitian.specs.Division.{quotient}
-use Rattle.rows.specs.Rows.{plainWidth, xOrder, coef, coef-at}
-use Rattle.division.specs.Parts.{plainAt, zAt, cut, zPart, coef-plain, coef-z}
+use Rattle.rows.specs.Rows.{xOrder, coef, coef-at}
 use Rattle.division.specs.Dividing.{Divided}
-use Rattle.interpolation.specs.Polynomial.{part, polynomial, polynomial-plain, polynomial-z}
+use Rattle.values.specs.Holds.{Holds}
+use Rattle.interpolation.specs.Parts.{valuesOf, firstOf, secondOf, first-is, second-is}
 use Rattle.code.specs.Encoding.{encodeOf}
 use Rattle.code.specs.Rates.{mostRate}
 use Rattle.soft.specs.Column.{places, symbols}
@@ -28,60 +24,50 @@ use Rattle.near.specs.Here.{mOf, Workable}
 use Rattle.family.specs.Member.{m16}
 use Rattle.near.specs.Near.{nearTo}
 use Rattle.near.specs.Codeword.{symbolsOf-at, messageFrom, messageFrom-word}
-use Rattle.near.specs.Held.{message-in, held-lead, held-divides}
+use Rattle.near.specs.Held.{Held, message-in, held-lead, held-divides}
 use Rattle.candidate.specs.declared.Candidate.{Candidate}
-use Rattle.candidate.specs.Candidate.{symbolIn, HeldIn, CandidateOf}
+use Rattle.candidate.specs.Candidate.{symbolIn, CandidateOf}
 use Rattle.candidate.specs.Ranged.{Ranged, workable, top-small}
-open Field K16 using (𝟘)
 
--- what the arrays hold, in the interpolation's terms
-plain-is : (row : List ℕ) (M : ℕ) → coef (listed plainWidth (plainAt row)) ≡ withoutZ K16 (polynomial M (coef row))
-unfolding cut part
-plain-is row M =
-    coef-plain row ∙ sym (polynomial-plain M (coef row) ∙ fun-ext (λ o. ap (λ i. choose (decLt o plainWidth) (coef row i) 𝟘) (zero-add o)))
-
-z-is : (row : List ℕ) (M : ℕ) → coef (listed plainWidth (zAt row)) ≡ withZ K16 M (polynomial M (coef row))
-unfolding zPart part
-z-is row M = coef-z row ∙ sym (polynomial-z M (coef row))
-
-module _ {k : ℕ} (rate : Ranged k) (row function : List ℕ) (divided : Divided (listed plainWidth (plainAt row)) (listed plainWidth (zAt row)) (mOf k) function) where
+module _ {k : ℕ} (rate : Ranged k) (word row function : List ℕ) (divided : Divided (firstOf word row) (secondOf row) (mOf k) function) where
   candidate-is : listed k (symbolIn function) ≡ messageFrom m16 k (coef function)
   candidate-is = message-in m16 k function (divided .symbols) ∙ ap (messageFrom m16 k) (fun-ext (λ o. symbolsOf-at m16 function o ∙ sym (coef-at function o)))
 
   candidate-word : Word symbols k (listed k (symbolIn function))
   candidate-word = subst (Word symbols k) (sym candidate-is) (messageFrom-word m16 k (coef function))
 
-  only : (counts : ℕ → Bool) (reach : ℕ) (word : List ℕ) → HeldIn counts reach k word row → (m : List ℕ)
-      → Found symbols k (nearTo m16 counts reach k word) m → listed k (symbolIn function) ≡ m
-  only counts reach word h m f =
+  only : (Q : ℕ → GF) → Holds m16 (mOf k) word (valuesOf row) Q → (counts : ℕ → Bool) (reach : ℕ) (near-word : List ℕ) → Held m16 counts reach k near-word Q
+      → (m : List ℕ) → Found symbols k (nearTo m16 counts reach k near-word) m → listed k (symbolIn function) ≡ m
+  only Q holds counts reach near-word h m f =
       let w : Workable k = workable rate in
       let j = held-lead m16 counts reach w h f in
       let fits : j .0 + mOf k < places = omega (arith, j .1, h .decides, count-le places counts) in
+      -- the lead of Q leaves its parts below the number of places
+      let small : Below K16 Q (2 * places) = below-mono K16 (omega (arith, h .decides, count-le places counts)) (h .leads .above) in
       candidate-is
       ∙ ap (messageFrom m16 k)
       (divided .exact (j .0)
       (record {
-        leads = subst (λ g. Lead K16 g (j .0)) (sym (z-is row (mOf k))) (j .2);
+        leads = subst (λ g. Lead K16 g (j .0)) (sym (second-is row holds small)) (j .2);
         powers-fit = omega (arith, fits, top-small rate);
         terms-fit = fits;
       })
-      ∙ ap₂ (λ r q. quotient K16 xOrder (j .0) r (mOf k) q) (z-is row (mOf k)) (plain-is row (mOf k)))
+      ∙ ap₂ (λ r q. quotient K16 xOrder (j .0) r (mOf k) q) (second-is row holds small) (first-is row holds small))
       ∙ held-divides m16 counts reach w h f (j .2)
 
 -- from the steps of the code
-pub candidate-made : {k : ℕ} → Ranged k → (row function q0 q1 : List ℕ) (m : ℕ) (r : Candidate) → q0 ≡ listed plainWidth (plainAt row) → q1 ≡ listed plainWidth (zAt row)
+pub candidate-made : {k : ℕ} → Ranged k → (word row function q0 q1 : List ℕ) (m : ℕ) (r : Candidate) → q0 ≡ firstOf word row → q1 ≡ secondOf row
     → m ≡ mOf k → Divided q0 q1 m function → r .message ≡ padded mostRate (listed k (symbolIn function)) → r .codeword ≡ encodeOf k (take k (r .message))
-    → CandidateOf k row r
-candidate-made {k} rate row function q0 q1 m r q0-is q1-is m-is quotient-is message-is encoded =
-    let divided = subst (λ n. Divided (listed plainWidth (plainAt row)) (listed plainWidth (zAt row)) n function) m-is
-    (subst₂ (λ p q. Divided p q m function) q0-is q1-is quotient-is) in
+    → CandidateOf k word row r
+candidate-made {k} rate word row function q0 q1 m r q0-is q1-is m-is quotient-is message-is encoded =
+    let divided = subst (λ n. Divided (firstOf word row) (secondOf row) n function) m-is (subst₂ (λ p q. Divided p q m function) q0-is q1-is quotient-is) in
     let size = listed-length k (symbolIn function) in
     let front : take k (r .message) ≡ listed k (symbolIn function) =
     ap (take k) message-is ∙ ap (λ n. take n (padded mostRate (listed k (symbolIn function)))) (sym size)
     ∙ padded-take mostRate (listed k (symbolIn function)) (omega (arith, size, rate .most)) in
     record {
-      word = subst (Word symbols k) (sym front) (candidate-word rate row function divided);
+      word-of = subst (Word symbols k) (sym front) (candidate-word rate word row function divided);
       behind = message-is ∙ ap (padded mostRate) (sym front);
       encoded = encoded;
-      only = λ counts reach word h n f. sym (only rate row function divided counts reach word h n f) ∙ sym front;
+      only = λ Q holds counts reach near-word h n f. sym (only rate word row function divided Q holds counts reach near-word h n f) ∙ sym front;
     }

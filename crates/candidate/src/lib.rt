@@ -16,13 +16,12 @@ ghost use Rattle.candidate.specs.Candidate.{symbolIn, CandidateOf};
 use crate::rate::MOST_RATE;
 use crate::rate::top_order;
 use division::dividing::divide;
-use division::parts::with_z;
-use division::parts::without_z;
 use encoding::codeword_of;
 use encoding::order;
 use interpolation::PLACES;
-use rows::PLAIN;
-use rows::Row;
+use interpolation::parts::with_z;
+use interpolation::parts::without_z;
+use planes::rows::Row;
 use totals::total::differing_in;
 
 // A message of k symbols in the first k entries, where k is the rate.
@@ -37,7 +36,7 @@ pub struct Candidate {
 }
 
 // The message of a function by order, with zeros behind it.
-fn message_of(function: [u8; PLAIN], k: usize) -> Message
+fn message_of(function: [u8; PLACES], k: usize) -> Message
     requires { ⌜ k ≤ mostRate ⌝ }
     ensures { λ r. ⌜ r ≡ padded mostRate (listed k (symbolIn function)) ⌝ }
 {
@@ -57,12 +56,12 @@ fn encoded(message: Message, k: usize) -> Word
     codeword_of(&message[0..k])
 }
 
-// What a row holds: the only message whose codeword can be within T of a word that the row decides.
-pub fn candidate_of(row: Row, k: usize) -> Candidate
+// What a row holds by the word that it has its values from: the only message whose codeword can be within T of a word that the row decides.
+pub fn candidate_of(row: Row, k: usize, word: Word) -> Candidate
     requires { ⌜ Ranged k ⌝ }
-    ensures { λ r. ⌜ CandidateOf k row r ⌝ }
+    ensures { λ r. ⌜ CandidateOf k word row r ⌝ }
 {
-    let function = divide(without_z(row), with_z(row), top_order(k));
+    let function = divide(without_z(row, word), with_z(row), top_order(k));
     let message = message_of(function, k);
     let codeword = encoded(message, k);
     Candidate { message, codeword }

@@ -11,7 +11,6 @@ use lib.ListN.{length, getD, take, drop, length-take}
 use borrow.Author.Tests.{eq-eqb, eqb-true}
 use Rattle.lists.specs.Count.{count}
 use Rattle.lists.specs.Every.{true-T, T-true}
-use Rattle.code.specs.Nodes.{ThroughNodes}
 use Rattle.family.specs.Member as Family
 use Rattle.family.specs.Member.{Member, m16}
 use Rattle.family.specs.Nodes.{Node, node}
@@ -21,11 +20,7 @@ use Rattle.interpolation.specs.Settled.{settled, settled-nil, settled-suc}
 use Rattle.near.specs.Here.{mOf, limitOf, blankLimit, blanksIn}
 use Rattle.near.specs.Tree.{Places, places-unblanked, Decided}
 use Rattle.near.specs.Flags.{Flagged}
-use Rattle.algebra.specs.Koetter.{Basis}
-use Rattle.galois.specs.Field16.{K16}
-use Rattle.basis.specs.Choice.{leadAt}
-use Rattle.basis.specs.Step.{classes}
-use Rattle.interpolation.specs.Polynomial.{polynomials}
+use Rattle.interpolation.specs.Extending.{Stored}
 use Rattle.soft.specs.Column.{places, symbols, columnOf}
 use Rattle.soft.specs.Blank.{openAt, unblanked, flagsOf, flagAt}
 use Rattle.soft.specs.BlankLaws.{flags-blanks, flags-open, column-none, unblanked-member, unblanked-length}
@@ -142,7 +137,7 @@ module _ (k : ℕ) (costs doubtful : List ℕ) (doubt : ℕ) (f : Found) (counts
   pub root : (word flags : List ℕ) (rows : List (List ℕ)) (leads : List ℕ) (m L : ℕ) (picked : Picked) → Asked k costs doubtful doubt
       → Marked k columns counts b → word ≡ bestWord places columns → PickedOf (unblanked (flagAt counts) (take doubt doubtful)) picked
       → (Places places (take (picked .count) (picked .places)) → Flagged places (flagAt counts) (take (picked .count) (picked .places)) flags) → m ≡ mOf k
-      → L ≡ limitOf k b → Basis K16 classes L (ThroughNodes m (settled word flags places)) (polynomials m rows) (leadAt leads)
+      → L ≡ limitOf k b → Stored m word L (settled word flags places) rows leads
       → SearchOf k columns word (drop (picked .count - picked .count) (take (picked .count) (picked .places))) rows leads (picked .count) f
       → Sound k columns f → toldOf f ≡ nearestOf k costs doubtful doubt
   unfolding testWords
@@ -162,9 +157,7 @@ module _ (k : ℕ) (costs doubtful : List ℕ) (doubt : ℕ) (f : Found) (counts
         nodes = settled word flags places;
         decided = settled-decided word flags m16 (openAt columns) doubled F;
         all-open = λ p i. unblanked-member (openAt columns) (take doubt doubtful) p i .1;
-        basis =
-            subst₂ (λ n l. Basis K16 classes l (ThroughNodes n (settled word flags places)) (polynomials n rows) (leadAt leads)) m-is
-            (L-is ∙ limit-marked M) B;
+        stored = subst₂ (λ n l. Stored n word l (settled word flags places) rows leads) m-is (L-is ∙ limit-marked M) B;
       })
       P) in
       told-is N sound ∙ sym (nearest-asked k costs doubtful doubt A)

@@ -1,3 +1,4 @@
 pub mod Moved
 pub mod Duals
 pub mod Reading
+pub mod Recovery

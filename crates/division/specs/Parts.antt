@@ -1,12 +1,10 @@
--- The parts of a row by order, and multiplication by y, on numbers.
+-- The lead of a function, and multiplication by y, on numbers.
 --
---   plainAt row o, zAt row o   the coefficients of Q0 and Q1 in a row of 96: 64 without z, then 32 with z
 --   lowerAt, foldedAt, yAt     the two terms of y times a function, and their sum
 --   folded-beyond              no second term above order 53
 --   LeadFound c r              r is the lead of c, an order below 64; 0 where c is zero
 --   cut f                      f up to order 63
---   zPart c                    Q1 of a row's coefficient function
---   coef-plain, coef-z, coef-y what the arrays hold as coefficient functions
+--   coef-y                     what the array holds as a coefficient function
 use mathlib.Core.Bool.{Bool, true, false, cond}
 use mathlib.Core.Path.{_≡_, refl, sym, ap, ap₂, _∙_, fun-ext}
 use mathlib.Core.List.{List}
@@ -25,12 +23,6 @@ use Rattle.hermitian.specs.Ring.{timesY, top, descent, top-at, top-off}
 use Rattle.rows.specs.Rows.{plainWidth, coef, coef-at}
 use Rattle.rows.specs.Bytes.{coef-listed}
 open Field K16 using (_⊕_, _⊗_, 𝟘)
-
-abbrev pub plainAt : List ℕ → ℕ → ℕ
-plainAt row o = getD row o 0
-
-unfoldable pub zAt : List ℕ → ℕ → ℕ
-zAt row o = cond (ltb o 32) (getD row (plainWidth + o) 0) 0
 
 unfoldable pub lowerAt : List ℕ → ℕ → ℕ
 lowerAt c o = cond (ltb o 5) 0 (getD c (o - 5) 0)
@@ -79,35 +71,6 @@ cut-below f b = fun-ext (λ o. go o (decLt o plainWidth))
 -- an array that holds f up to order 63
 pub coef-cut : (g : ℕ → ℕ) (f : ℕ → GF) → ((o : ℕ) → o < plainWidth → toF (g o) ≡ f o) → coef (listed plainWidth g) ≡ cut f
 coef-cut g f h = coef-listed plainWidth g (cut f) (λ o l. h o l ∙ sym (cut-low f o l)) (λ o l. cut-high f o l)
-
-pub coef-plain : (row : List ℕ) → coef (listed plainWidth (plainAt row)) ≡ cut (coef row)
-coef-plain row = coef-cut (plainAt row) (coef row) (λ o l. sym (coef-at row o))
-
--- Q1 of a row as a coefficient function
-unfoldable pub zPart : (ℕ → GF) → ℕ → GF
-zPart c o = choose (decLt o 32) (c (plainWidth + o)) 𝟘
-
-pub zPart-low : (c : ℕ → GF) (o : ℕ) → o < 32 → zPart c o ≡ c (plainWidth + o)
-unfolding zPart
-zPart-low c o h = choose-yes (decLt o 32) _ _ h
-
-pub zPart-high : (c : ℕ → GF) (o : ℕ) → 32 ≤ o → zPart c o ≡ 𝟘
-unfolding zPart
-zPart-high c o h = choose-no (decLt o 32) _ _ (omega arith)
-
-zPart-ends : (c : ℕ → GF) → Below K16 (zPart c) plainWidth
-zPart-ends c = record { zero-from = λ o l. zPart-high c o (omega arith) }
-
-pub coef-z : (row : List ℕ) → coef (listed plainWidth (zAt row)) ≡ zPart (coef row)
-unfolding zAt
-coef-z row = coef-cut (zAt row) (zPart (coef row)) (λ o l. go o (decLt o 32)) ∙ cut-below (zPart (coef row)) (zPart-ends (coef row))
-  where
-    go : (o : ℕ) → Dec (o < 32) → toF (zAt row o) ≡ zPart (coef row) o
-    go o (yes h) =
-        ap toF (ap (λ b. cond b (getD row (plainWidth + o) 0) 0) (lt-ltb o 32 h)) ∙ sym (coef-at row (plainWidth + o)) ∙ sym (zPart-low (coef row) o h)
-    go o (no h) =
-        let l : 32 ≤ o = omega arith in
-        ap toF (ap (λ b. cond b (getD row (plainWidth + o) 0) 0) (le-ltb o 32 l)) ∙ toF-zero ∙ sym (zPart-high (coef row) o l)
 
 lower-is : (c : List ℕ) (o : ℕ) → toF (lowerAt c o) ≡ shift K16 5 (coef c) o
 unfolding lowerAt

@@ -1,44 +1,9 @@
-// The two parts of a row, and multiplication by y, by order.
+// The lead of a function, and multiplication by y, by order.
 ghost use mathlib.Core.Path.{_≡_};
 ghost use Prim.Native.Nat.{_<_};
 ghost use Rattle.lists.specs.Listed.{listed};
 ghost use Rattle.rows.specs.Rows.{plainWidth};
-ghost use Rattle.division.specs.Parts.{plainAt, zAt, lowerAt, foldedAt, yAt, LeadFound};
-
-// Q0 of a row.
-pub fn without_z(row: [u8; 96]) -> [u8; 64]
-    ensures { λ r. ⌜ r ≡ listed plainWidth (plainAt row) ⌝ }
-{
-    let mut out = [0u8; 64];
-    let mut o = 0;
-    while o < 64 {
-        out[o] = row[o];
-        o += 1;
-    }
-    out
-}
-
-fn z_at(row: [u8; 96], order: usize) -> u8
-    ensures { λ r. ⌜ r ≡ zAt row order ⌝ }
-{
-    if order < 32 {
-        return row[64 + order];
-    }
-    0
-}
-
-// Q1 of a row: a row holds it up to order 31.
-pub fn with_z(row: [u8; 96]) -> [u8; 64]
-    ensures { λ r. ⌜ r ≡ listed plainWidth (zAt row) ⌝ }
-{
-    let mut out = [0u8; 64];
-    let mut o = 0;
-    while o < 64 {
-        out[o] = z_at(row, o);
-        o += 1;
-    }
-    out
-}
+ghost use Rattle.division.specs.Parts.{lowerAt, foldedAt, yAt, LeadFound};
 
 // The highest order whose coefficient is not zero; 0 where all are.
 pub fn lead(c: [u8; 64]) -> usize

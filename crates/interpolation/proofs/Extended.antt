@@ -1,81 +1,150 @@
--- What `extend` returns, by the class chosen.
-use mathlib.Core.Path.{_≡_, refl, ap, _∙_, sym, subst}
-use mathlib.Core.List.{List, List·Memᴰ·head, List·Memᴰ·tail, List·Memᴰ·cases-cons}
-use Prim.Native.Nat.{ℕ, _≤_, _+_, _%_, _<_}
+-- What `extend_own` and `extend` return: by the class chosen, a step of Kötter's algorithm on the values.
+use mathlib.Core.Path.{_≡_, refl, sym, ap, ap₂, _∙_, subst}
+use mathlib.Core.List.{List, [], _∷_}
+use mathlib.Core.Logic.{_≢_}
+use Prim.Native.Nat.{ℕ, _+_, _%_, _<_, _≤_}
 use native.Mathlib.Nat.{mod-eq-of-lt}
+use native.Mathlib.Decide.{decLe, ℕ-discrete}
 use native.Mathlib.Omega.{arith}
+use lib.Bits.{bitXor}
 use lib.ListN.{length, getD, set, length-set}
-use Rattle.lists.specs.Listed.{listed}
-use Rattle.algebra.specs.Subspace.{common-inside, common-more, common-less}
-use Rattle.algebra.specs.Koetter.{basis-same}
-use Rattle.galois.specs.Field16.{K16, toF}
-use Rattle.hermitian.specs.Interpolation.{through-space}
-use Rattle.code.specs.Evaluation.{monomialAt}
-use Rattle.code.specs.Nodes.{px, sampleAt}
-use Rattle.family.specs.Nodes.{node}
+use lib.Seq.{getD-set-same, getD-set-other}
+use Rattle.lists.specs.Listed.{listed, listed-at}
+use Rattle.lists.specs.Smallest.{Smallest}
+use Rattle.algebra.specs.Field.{Field, add-zero, add-self, zero-mul}
+use Rattle.algebra.specs.Koetter.{Pivot}
+use Rattle.galois.specs.Gf16.{times, inverse}
+use Rattle.galois.specs.Field16.{GF, K16, toF, toF-add, toF-times, toF-inverse, toF-zero, toF-injective}
+use Rattle.family.specs.Member.{m16, places, px}
+use Rattle.family.specs.Nodes.{Node, node}
 use Rattle.curve.specs.Curve.{xOf}
-use Rattle.rows.specs.Rows.{coef, weighed}
-use Rattle.basis.specs.Choice.{leadAt, Chosen, none, one}
-use Rattle.basis.specs.Step.{discrepancyAt, NextRows}
-use Rattle.interpolation.specs.Extending.{Extends, ExtendsBy}
-use Rattle.interpolation.proofs.Evaluating.{monomials-of-place}
-use Rattle.interpolation.proofs.Stepping.{Stepped, same, raised, unspent, stepped-basis}
+use Rattle.planes.specs.Rows.{valueAt}
+use Rattle.values.specs.Step.{Stepped, same, raised-at, stepped-stored, moved-stored}
+use Rattle.basis.specs.Choice.{leadAt, Nonzero, Chosen, none, one}
+use Rattle.basis.specs.Step.{classes, rowValues, discrepancyOf, discrepancyAt, discrepancy-live, discrepancy-spent, discrepancy-small, NextRows, MovedRows}
+use Rattle.interpolation.specs.Extending.{Stored, ExtendsOwn, Extends}
+open Field K16 using (_⊕_, _⊗_, 𝟘)
 
-pub steps-extend : (L p z : ℕ) (rows : List (List ℕ)) (leads : List ℕ) (rows′ : List (List ℕ)) (leads′ monomials weights : List ℕ) → L ≤ 127
-    → length leads ≡ 8 → monomials ≡ listed 64 (monomialAt p) → coef weights ≡ weighed (coef monomials) (toF z)
-    → length leads′ ≡ length leads → Stepped (px p) (listed 8 (discrepancyAt L leads rows weights)) rows leads rows′ leads′
-    → Extends L p z rows leads rows′ leads′
-steps-extend L p z rows leads rows′ leads′ monomials weights small eight known weighted l s =
-    record {
-      as-long = l;
-      basis = λ M large ns B.
-          basis-same K16 8 L (common-more K16 (λ q m. List·Memᴰ·cases-cons m)) (common-less K16 (List·Memᴰ·head refl) (λ q m. List·Memᴰ·tail m))
-          (stepped-basis L rows leads weights M large small (sampleAt (node p z)) (coef monomials) (monomials-of-place p z monomials known)
-          (through-space K16 4 M (omega arith) sampleAt ns) (common-inside K16 ns) eight weighted B rows′ leads′ s);
-    }
+module _ (L : ℕ) (rows : List (List ℕ)) (leads : List ℕ) (p : ℕ) (inside : p < places m16) (ds : List ℕ)
+    (ds-are : ds ≡ listed classes (discrepancyAt L leads rows (p % 64))) where
+  byte : (r : ℕ) → r < classes → getD ds r 0 ≡ discrepancyOf L (leadAt leads r) (getD rows r []) p
+  unfolding discrepancyAt
+  byte r h =
+      ap (λ l. getD l r 0) ds-are ∙ listed-at classes r (discrepancyAt L leads rows (p % 64)) 0 h
+      ∙ ap (discrepancyOf L (leadAt leads r) (getD rows r [])) (mod-eq-of-lt inside)
 
-module _ (L : ℕ) (rows : List (List ℕ)) (leads weights ds : List ℕ) (at : ℕ) (e : ds ≡ listed 8 (discrepancyAt L leads rows weights))
-    (chosen : Chosen 8 ds leads at) where
-  -- the lead of the class chosen is within the limit
-  pub chosen-live : at < 8 → getD leads at 0 ≤ L
-  unfolding leadAt
-  chosen-live h = go chosen
+  element : (r : ℕ) → r < classes → leadAt leads r ≤ L → toF (getD ds r 0) ≡ rowValues rows r 0 p
+  unfolding rowValues
+  element r h u = ap toF (byte r h) ∙ discrepancy-live L (leadAt leads r) (getD rows r []) p u
+
+  zero-byte : (r : ℕ) → r < classes → leadAt leads r ≤ L → rowValues rows r 0 p ≡ 𝟘 → getD ds r 0 ≡ 0
+  zero-byte r h u z =
+      toF-injective (getD ds r 0) 0 (subst (λ x. x < 16) (sym (byte r h)) (discrepancy-small L (leadAt leads r) (getD rows r []) p)) (omega arith)
+      (element r h u ∙ z ∙ sym toF-zero)
+
+  -- a class whose discrepancy is not zero is not spent
+  live : (r : ℕ) → r < classes → getD ds r 0 ≢ 0 → leadAt leads r ≤ L
+  live r h n = go (decLe (leadAt leads r) L)
     where
-      go : Chosen 8 ds leads at → getD leads at 0 ≤ L
-      go (none q z) = absurd (omega arith)
-      go (one s f) = unspent L rows leads weights at h (λ q. s .passes .nonzero (ap (λ l. getD l at 0) e ∙ q))
+      go : Dec (leadAt leads r ≤ L) → leadAt leads r ≤ L
+      go (yes u) = u
+      go (no u) = absurd (n (byte r h ∙ discrepancy-spent L (leadAt leads r) (getD rows r []) p (omega arith)))
 
-  module _ (z : ℕ) (monomials : List ℕ) (small : L ≤ 127) (eight : length leads ≡ 8) (weighted : coef weights ≡ weighed (coef monomials) (toF z)) where
-    pub extends-same : (x : ℕ) → 8 ≤ at → ExtendsBy L monomials x z rows leads rows leads
-    extends-same x h =
-        record {
-          as-long = refl;
-          at = λ p known q. steps-extend L p z rows leads rows leads monomials weights small eight known weighted refl (go p chosen);
-        }
-      where
-        go : (p : ℕ) → Chosen 8 ds leads at → Stepped (px p) (listed 8 (discrepancyAt L leads rows weights)) rows leads rows leads
-        go p (none q n) = same (λ r l. ap (λ k. getD k r 0) (sym e) ∙ n r l) refl refl
-        go p (one s f) = absurd (omega (arith, s .within))
+  pivot : (at : ℕ) → Smallest classes (Nonzero ds) (leadAt leads) at → Pivot K16 classes L (leadAt leads) (λ r. rowValues rows r 0 p) at
+  pivot at s =
+      let u : leadAt leads at ≤ L = live at (s .within) (s .passes .nonzero) in
+      record {
+        within = s .within;
+        passes = record { unspent = u; nonzero = λ z. s .passes .nonzero (zero-byte at (s .within) u z) };
+        least = λ k h v.
+            s .least k h (record { nonzero = λ z. v .nonzero (sym (element k h (v .unspent)) ∙ ap toF z ∙ toF-zero) });
+      }
 
-    pub extends-raised : (rows′ : List (List ℕ)) (x : ℕ) → at < 8 → NextRows at (toF x) ds rows rows′
-        → ExtendsBy L monomials x z rows leads rows′ (set leads at (getD leads at 0 + 8))
+  module _ (at : ℕ) (chosen : Chosen classes ds leads at) where
+    -- the lead of the class chosen is within the limit
+    pub chosen-live : at < classes → getD leads at 0 ≤ L
     unfolding leadAt
-    extends-raised rows′ x h next =
+    chosen-live h = go chosen
+      where
+        go : Chosen classes ds leads at → getD leads at 0 ≤ L
+        go (none q z) = absurd (omega arith)
+        go (one s f) = live at h (s .passes .nonzero)
+
+    pub extends-same : classes ≤ at → ExtendsOwn L p rows leads rows leads
+    extends-same h = record { as-long = refl; stored = λ M word ns S. stepped-stored m16 S p inside (go chosen) }
+      where
+        go : Chosen classes ds leads at → Stepped m16 L p (rowValues rows) (leadAt leads) (rowValues rows) (leadAt leads)
+        go (none q z) = same (λ r l u. sym (element r l u) ∙ ap toF (z r l) ∙ toF-zero) (λ r l. refl) (λ r l u a b c d. refl)
+        go (one s f) = absurd (omega (arith, s .within))
+
+    pub extends-raised : (rows′ : List (List ℕ)) (x : ℕ) → at < classes → length leads ≡ classes → x ≡ xOf (p % 64) → NextRows at x ds rows rows′
+        → ExtendsOwn L p rows leads rows′ (set leads at (getD leads at 0 + 8))
+    unfolding leadAt
+    extends-raised rows′ x h size x-is next =
         record {
           as-long = length-set leads at (getD leads at 0 + 8);
-          at = λ p known q.
-              steps-extend L p z rows leads rows′ (set leads at (getD leads at 0 + 8)) monomials weights small eight known weighted
-              (length-set leads at (getD leads at 0 + 8))
-              (subst (λ k. Stepped (px p) k rows leads rows′ (set leads at (getD leads at 0 + 8))) e (go p q chosen));
+          stored = λ M word ns S. stepped-stored m16 S p inside (go chosen);
         }
       where
-        go : (p : ℕ) → x ≡ xOf p → Chosen 8 ds leads at → Stepped (px p) ds rows leads rows′ (set leads at (getD leads at 0 + 8))
-        go p q (none r n) = absurd (omega arith)
-        go p q (one s f) = raised at s (subst (λ a. NextRows at (toF a) ds rows rows′) q next) refl
+        point : toF x ≡ px m16 p
+        point = ap toF (x-is ∙ ap xOf (mod-eq-of-lt inside))
 
--- a place by its number, which counts modulo 64
-pub extends-own : {L z : ℕ} {monomials : List ℕ} {x : ℕ} {rows : List (List ℕ)} {leads : List ℕ} {rows′ : List (List ℕ)} {leads′ : List ℕ} (p : ℕ) → p < 64
-    → monomials ≡ listed 64 (monomialAt (p % 64)) → x ≡ xOf (p % 64) → ExtendsBy L monomials x z rows leads rows′ leads′ → Extends L p z rows leads rows′ leads′
-extends-own p h known q t =
-    let own : p % 64 ≡ p = mod-eq-of-lt h in
-    t .at p (known ∙ ap (λ k. listed 64 (monomialAt k)) own) (q ∙ ap xOf own)
+        go : Chosen classes ds leads at → Stepped m16 L p (rowValues rows) (leadAt leads) (rowValues rows′) (leadAt (set leads at (getD leads at 0 + 8)))
+        go (none q z) = absurd (omega arith)
+        go (one s f) =
+            raised-at at (pivot at s) (getD-set-same leads at _ 0 (omega arith)) (λ r l n. getD-set-other leads at r _ 0 n)
+            (λ k q a b. next .pivot h k q a b ∙ ap (λ y. (px m16 q ⊕ y) ⊗ rowValues rows at k q) point)
+            (λ r l n u k q a b.
+            next .other h r l n k q a
+            ∙ ap (λ y. rowValues rows r k q ⊕ y ⊗ rowValues rows at k q)
+            (toF-times (getD ds r 0) (inverse (getD ds at 0))
+            ∙ ap₂ (λ y z. y ⊗ z) (element r l u) (toF-inverse (getD ds at 0) ∙ ap (K16 .inv) (element at h (live at h (s .passes .nonzero))))))
+
+-- ---- another symbol
+-- the word's symbols, before and after
+change-here : (word : List ℕ) (p c z : ℕ) → p < length word → c ≡ bitXor (getD word p 0) z → toF (getD word p 0) ⊕ toF (getD (set word p z) p 0) ≡ toF c
+change-here word p c z h e = ap (λ x. toF (getD word p 0) ⊕ toF x) (getD-set-same word p z 0 h) ∙ sym (toF-add (getD word p 0) z) ∙ ap toF (sym e)
+
+change-there : (word : List ℕ) (p z q : ℕ) → q ≢ p → toF (getD word q 0) ⊕ toF (getD (set word p z) q 0) ≡ 𝟘
+change-there word p z q n = ap (λ x. toF (getD word q 0) ⊕ toF x) (getD-set-other word p q z 0 n) ∙ add-self K16 _
+
+module _ {L p c : ℕ} {rows : List (List ℕ)} {leads : List ℕ} {rows′ : List (List ℕ)} {leads′ : List ℕ} where
+  -- what `extend_own` makes of rows that are moved
+  extends-by : (between : List (List ℕ))
+      → ((M : ℕ) (word : List ℕ) (ns : List Node) (z : ℕ) → p < length word → c ≡ bitXor (getD word p 0) z → Stored M word L ns rows leads → Stored M (set word p z) L ns between leads)
+      → ExtendsOwn L p between leads rows′ leads′ → Extends L p c rows leads rows′ leads′
+  extends-by between move E =
+      record {
+        as-long = E .as-long;
+        stored = λ M word ns z h e S.
+            subst (λ s. Stored M (set word p z) L (node p s ∷ ns) rows′ leads′) (getD-set-same word p z 0 h) (E .stored M (set word p z) ns (move M word ns z h e S));
+      }
+
+  pub extends-moved : (between : List (List ℕ)) → MovedRows p c rows between → ExtendsOwn L p between leads rows′ leads′ → Extends L p c rows leads rows′ leads′
+  unfolding rowValues
+  extends-moved between moved E = extends-by between (λ M word ns z h e S. moved-stored m16 S (set word p z) (λ r q l k. whole word z h e r q l k (ℕ-discrete q p)) (λ r q l k. moved .each r l .slopes q)) E
+    where
+      whole : (word : List ℕ) (z : ℕ) → p < length word → c ≡ bitXor (getD word p 0) z → (r q : ℕ) → r < classes → q < places m16 → Dec (q ≡ p)
+          → rowValues between r 0 q ≡ rowValues rows r 0 q ⊕ (toF (getD word q 0) ⊕ toF (getD (set word p z) q 0)) ⊗ rowValues rows r 1 q
+      whole word z h e r q l k (yes i) =
+          subst (λ t. valueAt 0 (getD between r []) t ≡ valueAt 0 (getD rows r []) t ⊕ (toF (getD word t 0) ⊕ toF (getD (set word p z) t 0)) ⊗ valueAt 1 (getD rows r []) t) (sym i)
+          (moved .each r l .here ∙ ap (λ x. valueAt 0 (getD rows r []) p ⊕ x ⊗ valueAt 1 (getD rows r []) p) (sym (change-here word p c z h e)))
+      whole word z h e r q l k (no n) =
+          moved .each r l .elsewhere q k n
+          ∙ sym (ap (λ x. valueAt 0 (getD rows r []) q ⊕ x ⊗ valueAt 1 (getD rows r []) q) (change-there word p z q n)
+          ∙ ap (λ x. valueAt 0 (getD rows r []) q ⊕ x) (zero-mul K16 _) ∙ add-zero K16 _)
+
+  -- no change: the symbols are the same elements, though not always the same numbers
+  pub extends-kept : c ≡ 0 → ExtendsOwn L p rows leads rows′ leads′ → Extends L p c rows leads rows′ leads′
+  extends-kept no-change E = extends-by rows (λ M word ns z h e S. moved-stored m16 S (set word p z) (λ r q l k. whole word z h e r q (ℕ-discrete q p)) (λ r q l k. refl)) E
+    where
+      apart : (word : List ℕ) (z : ℕ) → p < length word → c ≡ bitXor (getD word p 0) z → (q : ℕ) → Dec (q ≡ p) → toF (getD word q 0) ⊕ toF (getD (set word p z) q 0) ≡ 𝟘
+      apart word z h e q (yes i) =
+          ap (λ t. toF (getD word t 0) ⊕ toF (getD (set word p z) t 0)) i ∙ change-here word p c z h e ∙ ap toF no-change ∙ toF-zero
+      apart word z h e q (no n) = change-there word p z q n
+
+      whole : (word : List ℕ) (z : ℕ) → p < length word → c ≡ bitXor (getD word p 0) z → (r q : ℕ) → Dec (q ≡ p)
+          → rowValues rows r 0 q ≡ rowValues rows r 0 q ⊕ (toF (getD word q 0) ⊕ toF (getD (set word p z) q 0)) ⊗ rowValues rows r 1 q
+      whole word z h e r q d =
+          sym (ap (λ x. rowValues rows r 0 q ⊕ x ⊗ rowValues rows r 1 q) (apart word z h e q d)
+          ∙ ap (λ x. rowValues rows r 0 q ⊕ x) (zero-mul K16 _) ∙ add-zero K16 _)

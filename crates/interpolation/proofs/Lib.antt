@@ -1,8 +1,6 @@
-pub mod Combining
-pub mod Evaluating
-pub mod Stepping
-pub mod Starting
 pub mod Extended
+pub mod Starting
 pub mod Settling
 pub mod Shown
 pub mod LeastRow
+pub mod Splitting

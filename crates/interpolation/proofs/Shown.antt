@@ -1,42 +1,46 @@
--- The bytes of a reading: where each coefficient stands in a row, and the bytes of x^16 + x.
+-- The bytes of a reading: where each coefficient stands in the two parts, and the bytes of x^16 + x.
 use mathlib.Core.Path.{_≡_, sym, ap, ap₂, _∙_}
 use mathlib.Core.List.{List}
 use mathlib.Core.Logic.{_≢_}
 use Prim.Native.Nat.{ℕ, _+_, _-_, _*_, _/_, _%_, _<_, _≤_}
 use native.Mathlib.Decide.{decLt, ℕ-discrete}
 use native.Mathlib.Omega.{arith}
-use lib.ListN.{getD, set, replicate, getD-replicate}
+use lib.ListN.{length, getD, List·getD-eq-default, set, replicate, getD-replicate}
 use lib.Seq.{getD-set-same, getD-set-other}
 use Rattle.lists.specs.Listed.{listed, listed-ext, listed-getD}
 use Rattle.algebra.specs.Field.{Field, add-zero, zero-add}
 use Rattle.algebra.specs.Coefficients.{scale, unit, unit-at, unit-off}
 use Rattle.galois.specs.Gf16.{times}
 use Rattle.galois.specs.Field16.{K16, toF, value, value-toF, toF-zero, toF-one, value-zero}
+use Rattle.hermitian.specs.Interpolant.{without-joined, with-joined, gap-joined}
 use Rattle.hermitian.specs.Frobenius.{frobenius}
 use Rattle.rows.specs.Rows.{coef, coef-at, value-times-toF}
 use Rattle.basis.specs.Choice.{Chosen, none, one}
 use Rattle.interpolant.specs.LeastQ.{byteKey}
 use Rattle.interpolant.specs.Reading.{byteKey-plain, byteKey-z, byteOf}
-use Rattle.interpolation.specs.Polynomial.{polynomial, gap-polynomial, at-plain, at-plain-out, at-z}
+use Rattle.interpolation.specs.Parts.{polynomialOf}
 use Rattle.interpolation.specs.Reading.{Lowest}
 open Field K16 using (_⊕_, _⊗_, 𝟘, 𝟙)
 
 -- ---- the coefficient at a key
-module _ (row : List ℕ) (k m : ℕ) where
-  pub at-even : k ≤ 127 → k % 2 ≡ 0 → toF (getD row (k / 2) 0) ≡ polynomial m (coef row) k
-  at-even h z =
+module _ (q0 q1 : List ℕ) (k m : ℕ) where
+  pub at-even : k % 2 ≡ 0 → toF (getD q0 (k / 2) 0) ≡ polynomialOf m q0 q1 k
+  unfolding polynomialOf
+  at-even z =
       let e : 2 * (k / 2) ≡ k = omega arith in
-      sym (coef-at row (k / 2)) ∙ sym (at-plain m (coef row) (k / 2) (omega arith)) ∙ ap (polynomial m (coef row)) e
+      sym (coef-at q0 (k / 2)) ∙ ap (λ f. f (k / 2)) (sym (without-joined K16 m (coef q0) (coef q1))) ∙ ap (polynomialOf m q0 q1) e
 
-  pub at-gap : k % 2 ≢ 0 → k / 2 < m → toF 0 ≡ polynomial m (coef row) k
+  pub at-gap : k % 2 ≢ 0 → k / 2 < m → toF 0 ≡ polynomialOf m q0 q1 k
+  unfolding polynomialOf
   at-gap z h =
       let e : 2 * (k / 2) + 1 ≡ k = omega arith in
-      toF-zero ∙ sym (gap-polynomial m (coef row) (k / 2) h) ∙ ap (polynomial m (coef row)) e
+      toF-zero ∙ sym (gap-joined K16 m (coef q0) (coef q1) (k / 2) h) ∙ ap (polynomialOf m q0 q1) e
 
-  pub at-odd : k ≤ 127 → 32 ≤ m → k % 2 ≢ 0 → m ≤ k / 2 → toF (getD row (64 + (k / 2 - m)) 0) ≡ polynomial m (coef row) k
-  at-odd h l z g =
+  pub at-odd : k % 2 ≢ 0 → m ≤ k / 2 → toF (getD q1 (k / 2 - m) 0) ≡ polynomialOf m q0 q1 k
+  unfolding polynomialOf
+  at-odd z g =
       let e : 2 * (k / 2 - m + m) + 1 ≡ k = omega arith in
-      sym (coef-at row (64 + (k / 2 - m))) ∙ sym (at-z m (coef row) (k / 2 - m) (omega arith)) ∙ ap (polynomial m (coef row)) e
+      sym (coef-at q1 (k / 2 - m)) ∙ ap (λ f. f (k / 2 - m)) (sym (with-joined K16 m (coef q0) (coef q1))) ∙ ap (polynomialOf m q0 q1) e
 
 -- ---- the coefficient of a byte
 key-plain : (M i : ℕ) → i ≤ 64 → byteKey M i ≡ 2 * i
@@ -47,24 +51,26 @@ key-z M i h =
     let e : i ≡ 65 + (i - 65) = omega arith in
     ap (byteKey M) e ∙ byteKey-z M (i - 65)
 
-module _ (row : List ℕ) (i : ℕ) where
-  pub shown-plain : i < 64 → (M : ℕ) → toF (getD row i 0) ≡ polynomial M (coef row) (byteKey M i)
-  shown-plain h M = sym (coef-at row i) ∙ sym (at-plain M (coef row) i h) ∙ ap (polynomial M (coef row)) (sym (key-plain M i (omega arith)))
+module _ (q0 q1 : List ℕ) (i : ℕ) where
+  pub shown-plain : i ≤ 64 → (M : ℕ) → toF (getD q0 i 0) ≡ polynomialOf M q0 q1 (byteKey M i)
+  unfolding polynomialOf
+  shown-plain h M =
+      sym (coef-at q0 i) ∙ ap (λ f. f i) (sym (without-joined K16 M (coef q0) (coef q1))) ∙ ap (polynomialOf M q0 q1) (sym (key-plain M i h))
 
-  pub shown-last : i ≡ 64 → (M : ℕ) → toF 0 ≡ polynomial M (coef row) (byteKey M i)
-  shown-last h M = toF-zero ∙ sym (at-plain-out M (coef row) i (omega arith)) ∙ ap (polynomial M (coef row)) (sym (key-plain M i (omega arith)))
+  -- no order above 63 is read
+  pub shown-last : length q0 ≡ 64 → i ≡ 64 → (M : ℕ) → toF 0 ≡ polynomialOf M q0 q1 (byteKey M i)
+  shown-last l e M = ap toF (sym (List·getD-eq-default q0 0 (omega arith))) ∙ shown-plain (omega arith) M
 
-  pub shown-z : 65 ≤ i → i < 82 → (M : ℕ) → toF (getD row (i - 1) 0) ≡ polynomial M (coef row) (byteKey M i)
-  shown-z h l M =
-      let e : i - 1 ≡ 64 + (i - 65) = omega arith in
-      ap (λ k. toF (getD row k 0)) e ∙ sym (coef-at row (64 + (i - 65))) ∙ sym (at-z M (coef row) (i - 65) (omega arith))
-      ∙ ap (polynomial M (coef row)) (sym (key-z M i h))
+  pub shown-z : 65 ≤ i → (M : ℕ) → toF (getD q1 (i - 65) 0) ≡ polynomialOf M q0 q1 (byteKey M i)
+  unfolding polynomialOf
+  shown-z h M =
+      sym (coef-at q1 (i - 65)) ∙ ap (λ f. f (i - 65)) (sym (with-joined K16 M (coef q0) (coef q1))) ∙ ap (polynomialOf M q0 q1) (sym (key-z M i h))
 
--- the byte of a multiple: s is the coefficient shown, v the product
-pub scaled-byte : (row : List ℕ) (by i s v M : ℕ) → v ≡ times by s → toF s ≡ polynomial M (coef row) (byteKey M i)
-    → v ≡ byteOf M (scale K16 (toF by) (polynomial M (coef row))) i
+-- a multiple of it
+pub scaled-byte : (q0 q1 : List ℕ) (by i s v M : ℕ) → v ≡ times by s → toF s ≡ polynomialOf M q0 q1 (byteKey M i)
+    → v ≡ byteOf M (scale K16 (toF by) (polynomialOf M q0 q1)) i
 unfolding byteOf
-scaled-byte row by i s v M e f = e ∙ sym (value-times-toF by s) ∙ ap (λ a. value (toF by ⊗ a)) f
+scaled-byte q0 q1 by i s v M e f = e ∙ sym (value-times-toF by s) ∙ ap (λ a. value (toF by ⊗ a)) f
 
 -- ---- x^16 + x
 abbrev plainZeros : List ℕ

@@ -1,49 +1,104 @@
--- The first term of a class, as the code computes its position and its key; and why the first terms are a basis of all Q.
-use mathlib.Core.Path.{_≡_, sym, ap, _∙_}
-use mathlib.Core.List.{List}
+-- The start rows by the powers of y, stored one after another; and the first key of a class, as the code computes it.
+use mathlib.Core.Path.{_≡_, sym, ap, ap₂, _∙_}
+use mathlib.Core.List.{List, [], _∷_}
 use mathlib.Core.Logic.{_≢_}
-use Prim.Native.Nat.{ℕ, _+_, _*_, _/_, _%_, _<_, _-_}
-use native.Mathlib.Decide.{ℕ-discrete}
+use Prim.Native.Nat.{ℕ, zero, suc, _+_, _-_, _*_, _/_, _%_, _<_, _≤_}
 use native.Mathlib.Omega.{arith}
-use native.Mathlib.Nat.{zero-add}
-use lib.ListN.{getD, set, replicate, getD-replicate, length-set}
-use lib.Seq.{getD-set-same, getD-set-other}
-use Rattle.lists.specs.Listed.{listed, listed-at, listed-by}
-use Rattle.algebra.specs.Coefficients.{unit}
-use Rattle.algebra.specs.Koetter.{Basis, basis-ext}
-use Rattle.galois.specs.Field16.{K16}
-use Rattle.hermitian.specs.Keys.{plain, timesZ, key, zPower, firstTerm, first, first-even, first-odd}
-use Rattle.hermitian.specs.Interpolant.{Interpolant, interpolant-start}
-use Rattle.basis.specs.Choice.{leadAt}
-use Rattle.basis.specs.Step.{classes}
-use Rattle.rows.specs.Rows.{rowWidth, plainWidth}
-use Rattle.interpolation.specs.Start.{positionOf, oneAt, oneAt-here, oneAt-off, startBytes, startRow, start-rows}
-use Rattle.interpolation.specs.Polynomial.{polynomial, polynomials}
-use Rattle.interpolation.proofs.Combining.{polynomial-ext, polynomial-unit-plain, polynomial-unit-z}
+use lib.ListN.{getD}
+use Rattle.lists.specs.Passed.{Passed}
+use Rattle.algebra.specs.Field.{Field}
+use Rattle.algebra.specs.Power.{pow, pow-nil, pow-suc, pow-one}
+use Rattle.galois.specs.Field16.{K16, toF, toF-zero, toF-one}
+use Rattle.hermitian.specs.Keys.{key, zPower, first, first-even, first-odd}
+use Rattle.family.specs.Member.{m16, places, py}
+use Rattle.planes.specs.Arrays.{elementAt, Carries, symbolsOf, spreadOf, spread-carries, productOf, product-element}
+use Rattle.planes.specs.Bits.{fromBits}
+use Rattle.planes.specs.Lanes.{lane, lane-zero}
+use Rattle.planes.specs.Elements as Elements
+use Rattle.planes.specs.Rows.{valueAt, joinedOf, whole-joined, slope-joined}
+use Rattle.planes.specs.Arrays as Arrays
+use Rattle.values.specs.Start.{yPowerAt}
+use Rattle.basis.specs.Step.{classes, rowValues}
+use Rattle.interpolation.specs.Start.{YPowers, StartRow, StartRows}
+open Field K16 using (_⊗_, 𝟘)
 
-pub one-stored : (i : ℕ) → i < rowWidth → set (replicate rowWidth 0) i 1 ≡ listed rowWidth (oneAt i)
-one-stored i h =
-    listed-by 0 rowWidth (set (replicate rowWidth 0) i 1) (oneAt i) (length-set {A = ℕ} (replicate rowWidth 0) i 1) (λ k l. go k l (ℕ-discrete k i))
+-- ---- powers of y
+pub powers-made : {y s t u : List ℕ} → Carries (py m16) y → s ≡ productOf y y → t ≡ productOf s y → u ≡ spreadOf 1 → YPowers (u ∷ y ∷ s ∷ t ∷ [])
+powers-made {y} {s} {t} {u} cy es et eu = record { entries = go }
   where
-    go : (k : ℕ) → k < rowWidth → Dec (k ≡ i) → getD (set (replicate rowWidth 0) i 1) k 0 ≡ oneAt i k
-    go k l (yes e) =
-        ap (λ j. getD (set (replicate rowWidth 0) i 1) j 0) e ∙ getD-set-same (replicate rowWidth 0) i 1 0 h ∙ sym (oneAt-here i k e)
-    go k l (no e) =
-        getD-set-other (replicate rowWidth 0) i k 1 0 e ∙ getD-replicate rowWidth k 0 0 l ∙ sym (oneAt-off i k e)
+    square : (p : ℕ) → p < places m16 → elementAt s p ≡ yPowerAt m16 2 p
+    square p l =
+        ap (λ v. elementAt v p) es ∙ product-element y y p ∙ ap₂ (λ a b. a ⊗ b) (cy .lanes p l ∙ sym (pow-one K16 _)) (cy .lanes p l)
+        ∙ sym (pow-suc K16 (py m16 p) 1)
 
+    go : (j : ℕ) → j < 4 → Carries (yPowerAt m16 j) (getD (u ∷ y ∷ s ∷ t ∷ []) j [])
+    go zero h = record { lanes = λ p l. ap (λ v. elementAt v p) eu ∙ spread-carries 1 .lanes p l ∙ toF-one ∙ sym (pow-nil K16 _) }
+    go (suc zero) h = record { lanes = λ p l. cy .lanes p l ∙ sym (pow-one K16 _) }
+    go (suc (suc zero)) h = record { lanes = square }
+    go (suc (suc (suc zero))) h =
+        record {
+          lanes = λ p l.
+              ap (λ v. elementAt v p) et ∙ product-element s y p ∙ ap₂ (λ a b. a ⊗ b) (square p l) (cy .lanes p l)
+              ∙ sym (pow-suc K16 (py m16 p) 2);
+        }
+    go (suc (suc (suc (suc j)))) h = absurd (omega arith)
+
+-- ---- one row
+-- four planes of zeros
+abbrev zeros : List ℕ
+zeros = 0 ∷ 0 ∷ 0 ∷ 0 ∷ []
+
+value-zeros : (p : ℕ) → elementAt zeros p ≡ 𝟘
+unfolding Arrays.planesIn Elements.element lane fromBits
+value-zeros p = ap toF (lane-zero 4 p) ∙ toF-zero
+
+module _ (M r : ℕ) (h : r < classes) (powers : List (List ℕ)) (P : YPowers powers) (symbols : List ℕ) where
+  pub row-plain : {row : List ℕ} → r % 2 ≡ 0 → row ≡ joinedOf (getD powers (r / 2) []) zeros → StartRow M r symbols row
+  row-plain {row} z e =
+      record {
+        plain-whole = λ t p l. ap (λ v. valueAt 0 v p) e ∙ whole-joined (getD powers (r / 2) []) zeros p ∙ P .entries (r / 2) (omega arith) .lanes p l;
+        plain-slope = λ t p l. ap (λ v. valueAt 1 v p) e ∙ slope-joined (getD powers (r / 2) []) zeros p ∙ value-zeros p;
+        z-whole = λ t. absurd (t z);
+        z-slope = λ t. absurd (t z);
+      }
+
+  pub row-z : {y product row : List ℕ} → r % 2 ≢ 0 → y ≡ getD powers ((r / 2 + (4 - M % 4)) % 4) [] → product ≡ productOf symbols y → row ≡ joinedOf product y
+      → StartRow M r symbols row
+  unfolding zPower
+  row-z {y} {product} {row} n ey ep e =
+      record {
+        plain-whole = λ t. absurd (n t);
+        plain-slope = λ t. absurd (n t);
+        z-whole = λ t p l.
+            ap (λ v. valueAt 0 v p) e ∙ whole-joined product y p ∙ ap (λ v. elementAt v p) ep ∙ product-element symbols y p ∙ ap (λ a. elementAt symbols p ⊗ a) (power p l);
+        z-slope = λ t p l. ap (λ v. valueAt 1 v p) e ∙ slope-joined product y p ∙ power p l;
+      }
+    where
+      power : (p : ℕ) → p < places m16 → elementAt y p ≡ yPowerAt m16 ((r / 2 + (4 - M % 4)) % 4) p
+      power p l = ap (λ v. elementAt v p) ey ∙ P .entries ((r / 2 + (4 - M % 4)) % 4) (omega arith) .lanes p l
+
+-- ---- all rows
+pub record Started (M : ℕ) (symbols : List ℕ) (r : ℕ) (row : List ℕ) : Type 0 where
+  pub is : StartRow M r symbols row
+
+pub rows-started : (M i : ℕ) (word symbols : List ℕ) (before out : List (List ℕ)) → classes ≤ i → Carries (symbolsOf word) symbols
+    → Passed [] (Started M symbols) 0 i before out → StartRows M word out
+unfolding rowValues
+rows-started M i word symbols before out done carried P =
+    record {
+      without-z = λ r h z.
+          let s = P .stored r (omega arith) (omega arith) .is in
+          record { whole = s .plain-whole z; slope = s .plain-slope z };
+      with-z = λ r h n.
+          let s = P .stored r (omega arith) (omega arith) .is in
+          record {
+            whole = λ p l. s .z-whole n p l ∙ ap (λ a. a ⊗ yPowerAt m16 (zPower 4 M (r / 2)) p) (carried .lanes p l);
+            slope = s .z-slope n;
+          };
+    }
+
+-- ---- the first key
 module _ (r m : ℕ) (h : r < classes) where
-  pub row-plain : r % 2 ≡ 0 → set (replicate rowWidth 0) (r / 2 * 5) 1 ≡ startBytes m r
-  unfolding startBytes
-  row-plain z =
-      one-stored (r / 2 * 5) (omega arith) ∙ ap (λ p. listed rowWidth (oneAt p)) (sym (zero-add (r / 2 * 5)))
-      ∙ ap (λ t. listed rowWidth (oneAt (positionOf t))) (sym (first-even 4 (omega arith) m r h z))
-
-  pub row-z : r % 2 ≢ 0 → set (replicate rowWidth 0) (plainWidth + (r / 2 + (4 - m % 4)) % 4 * 5) 1 ≡ startBytes m r
-  unfolding startBytes zPower
-  row-z z =
-      one-stored (plainWidth + (r / 2 + (4 - m % 4)) % 4 * 5) (omega arith)
-      ∙ ap (λ t. listed rowWidth (oneAt (positionOf t))) (sym (first-odd 4 (omega arith) m r h z))
-
   pub lead-plain : r % 2 ≡ 0 → 2 * (r / 2 * 5) ≡ first 4 m r
   unfolding first
   lead-plain z = ap (key m) (sym (first-even 4 (omega arith) m r h z))
@@ -51,26 +106,3 @@ module _ (r m : ℕ) (h : r < classes) where
   pub lead-z : r % 2 ≢ 0 → 2 * ((r / 2 + (4 - m % 4)) % 4 * 5 + m) + 1 ≡ first 4 m r
   unfolding first zPower
   lead-z z = ap (key m) (sym (first-odd 4 (omega arith) m r h z))
-
--- ---- a basis of all Q, up to any limit
-module _ (M : ℕ) where
-  start-term : (r : ℕ) → r < 8 → polynomial M (startRow M r) ≡ unit K16 (first 4 M r)
-  unfolding startRow first zPower
-  start-term r h = go (ℕ-discrete (r % 2) 0)
-    where
-      go : Dec (r % 2 ≡ 0) → polynomial M (startRow M r) ≡ unit K16 (first 4 M r)
-      go (yes z) =
-          let e : firstTerm 4 M r ≡ plain (r / 2 * 5) = first-even 4 (omega arith) M r h z in
-          ap (λ t. polynomial M (unit K16 (positionOf t))) e ∙ polynomial-unit-plain M (r / 2 * 5) (omega arith)
-          ∙ ap (λ t. unit K16 (key M t)) (sym e)
-      go (no z) =
-          let e : firstTerm 4 M r ≡ timesZ (zPower 4 M (r / 2) * 5) = first-odd 4 (omega arith) M r h z in
-          ap (λ t. polynomial M (unit K16 (positionOf t))) e ∙ polynomial-unit-z M (zPower 4 M (r / 2) * 5) (omega arith)
-          ∙ ap (λ t. unit K16 (key M t)) (sym e)
-
-  pub start-basis : (L : ℕ) (rows : List (List ℕ)) → rows ≡ listed classes (startBytes M)
-      → Basis K16 8 L (Interpolant K16 4 M) (polynomials M rows) (leadAt (listed 8 (first 4 M)))
-  unfolding leadAt polynomials
-  start-basis L rows e =
-      basis-ext K16 8 L (λ r h. listed-at 8 r (first 4 M) 0 h) (λ r h u. polynomial-ext M _ _ (start-rows M rows e r h) ∙ start-term r h)
-      (interpolant-start K16 4 M (omega arith) L)

@@ -1,27 +1,28 @@
 -- One node more: what adding a place with a symbol makes of rows and leads.
 --
---   Extends L p z rows leads rows′ leads′   for every M from 32 on: a basis up to L of the Q through some nodes becomes one of the Q
---                     that also vanish at the place p with symbol z
---   ExtendsBy L m x z …   so it is for the place whose monomials are m and whose x is x
+--   Stored M word L ns rows leads   the rows have the values of a basis up to L of the Q through the nodes ns, with the word's symbols for z
+--   ExtendsOwn L p rows leads rows′ leads′   for every M, every word and every list of nodes: what stores a basis of the Q through some nodes, stores one
+--                     of the Q that also vanish at the place p, with the word's own symbol there
+--   Extends L p c …   so with the symbol that is c away from the word's own; the word has it from then on
 use mathlib.Core.Path.{_≡_}
 use mathlib.Core.List.{List, _∷_}
-use Prim.Native.Nat.{ℕ, _≤_}
-use lib.ListN.{length}
-use Rattle.lists.specs.Listed.{listed}
-use Rattle.algebra.specs.Koetter.{Basis}
-use Rattle.galois.specs.Field16.{K16}
-use Rattle.curve.specs.Curve.{xOf}
-use Rattle.code.specs.Evaluation.{monomialAt}
-use Rattle.code.specs.Nodes.{ThroughNodes}
+use Prim.Native.Nat.{ℕ, _<_}
+use lib.Bits.{bitXor}
+use lib.ListN.{length, getD, set}
+use Rattle.family.specs.Member.{m16}
 use Rattle.family.specs.Nodes.{Node, node}
+use Rattle.values.specs.Holds as Values
 use Rattle.basis.specs.Choice.{leadAt}
-use Rattle.interpolation.specs.Polynomial.{polynomials}
+use Rattle.basis.specs.Step.{rowValues}
 
-pub record Extends (L p z : ℕ) (rows : List (List ℕ)) (leads : List ℕ) (rows′ : List (List ℕ)) (leads′ : List ℕ) : Type 0 where
-  pub as-long : length leads′ ≡ length leads
-  pub basis : (M : ℕ) → 32 ≤ M → (ns : List Node) → Basis K16 8 L (ThroughNodes M ns) (polynomials M rows) (leadAt leads)
-      → Basis K16 8 L (ThroughNodes M (node p z ∷ ns)) (polynomials M rows′) (leadAt leads′)
+abbrev pub Stored : ℕ → List ℕ → ℕ → List Node → List (List ℕ) → List ℕ → Type 0
+Stored M word L ns rows leads = Values.Stored m16 M word L ns (rowValues rows) (leadAt leads)
 
-pub record ExtendsBy (L : ℕ) (monomials : List ℕ) (x z : ℕ) (rows : List (List ℕ)) (leads : List ℕ) (rows′ : List (List ℕ)) (leads′ : List ℕ) : Type 0 where
+pub record ExtendsOwn (L p : ℕ) (rows : List (List ℕ)) (leads : List ℕ) (rows′ : List (List ℕ)) (leads′ : List ℕ) : Type 0 where
   pub as-long : length leads′ ≡ length leads
-  pub at : (p : ℕ) → monomials ≡ listed 64 (monomialAt p) → x ≡ xOf p → Extends L p z rows leads rows′ leads′
+  pub stored : (M : ℕ) (word : List ℕ) (ns : List Node) → Stored M word L ns rows leads → Stored M word L (node p (getD word p 0) ∷ ns) rows′ leads′
+
+pub record Extends (L p c : ℕ) (rows : List (List ℕ)) (leads : List ℕ) (rows′ : List (List ℕ)) (leads′ : List ℕ) : Type 0 where
+  pub as-long : length leads′ ≡ length leads
+  pub stored : (M : ℕ) (word : List ℕ) (ns : List Node) (z : ℕ) → p < length word → c ≡ bitXor (getD word p 0) z → Stored M word L ns rows leads
+      → Stored M (set word p z) L (node p z ∷ ns) rows′ leads′

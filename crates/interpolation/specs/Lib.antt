@@ -1,6 +1,6 @@
-pub mod Polynomial
 pub mod Start
 pub mod Extending
 pub mod Settled
 pub mod Through
+pub mod Parts
 pub mod Reading

@@ -5,8 +5,7 @@ ghost use Rattle.lists.specs.Listed.{listed};
 ghost use Rattle.algebra.specs.Coefficients.{scale};
 ghost use Rattle.galois.specs.Field16.{K16, toF};
 ghost use Rattle.hermitian.specs.Frobenius.{frobenius};
-ghost use Rattle.rows.specs.Rows.{coef};
-ghost use Rattle.interpolation.specs.Polynomial.{polynomial};
+ghost use Rattle.interpolation.specs.Parts.{polynomialOf};
 ghost use Rattle.interpolant.specs.LeastQ.{byteKey, readingOf};
 ghost use Rattle.interpolant.specs.Reading.{byteOf};
 ghost use Rattle.interpolation.specs.Reading.{Lowest, Interpolated};
@@ -14,51 +13,51 @@ ghost use Rattle.interpolation.specs.Settled.{settled};
 use crate::LIMIT;
 use crate::PLACES;
 use crate::READING;
+use crate::parts::with_z;
+use crate::parts::without_z;
 use basis::CLASSES;
 use basis::Leads;
 use basis::Rows;
 use galois::inverse;
 use galois::product;
-use rows::PLAIN;
-use rows::Row;
 
-// The coefficient of a row at a key within the limit.
-fn coefficient(row: Row, key: usize, m: usize) -> u8
-    requires { ⌜ (key ≤ 127) × (32 ≤ m) ⌝ }
-    ensures { λ r. ⌜ toF r ≡ polynomial m (coef row) key ⌝ }
+// The coefficient at a key, where no order is above 63.
+fn coefficient(q0: [u8; PLACES], q1: [u8; PLACES], key: usize, m: usize) -> u8
+    requires { ⌜ key ≤ 127 ⌝ }
+    ensures { λ r. ⌜ toF r ≡ polynomialOf m q0 q1 key ⌝ }
 {
     let order = key / 2;
     if key % 2 == 0 {
-        return row[order];
+        return q0[order];
     }
     if order < m {
         return 0;
     }
-    row[PLAIN + (order - m)]
+    q1[order - m]
 }
 
 // The coefficient that byte i of a reading shows.
-fn shown(row: Row, i: usize) -> u8
+fn shown(q0: [u8; PLACES], q1: [u8; PLACES], i: usize) -> u8
     requires { ⌜ i < 82 ⌝ }
-    ensures { λ r. ⌜ ((M : ℕ) → toF r ≡ polynomial M (coef row) (byteKey M i)) ⌝ }
+    ensures { λ r. ⌜ ((M : ℕ) → toF r ≡ polynomialOf M q0 q1 (byteKey M i)) ⌝ }
 {
-    if i < PLAIN {
-        return row[i];
+    if i < PLACES {
+        return q0[i];
     }
-    if i == PLAIN {
+    if i == PLACES {
         return 0;
     }
-    row[i - 1]
+    q1[i - 65]
 }
 
-// The bytes of a multiple of a row.
-fn scaled(row: Row, by: u8) -> [u8; READING]
-    ensures { λ r. ⌜ ((M : ℕ) → r ≡ listed 82 (byteOf M (scale K16 (toF by) (polynomial M (coef row))))) ⌝ }
+// The bytes of a multiple.
+fn scaled(q0: [u8; PLACES], q1: [u8; PLACES], by: u8) -> [u8; READING]
+    ensures { λ r. ⌜ ((M : ℕ) → r ≡ listed 82 (byteOf M (scale K16 (toF by) (polynomialOf M q0 q1)))) ⌝ }
 {
     let mut out = [0u8; READING];
     let mut i = 0;
     while i < READING {
-        out[i] = product(by, shown(row, i));
+        out[i] = product(by, shown(q0, q1, i));
         i += 1;
     }
     out
@@ -69,7 +68,7 @@ fn field_equation() -> [u8; READING]
     ensures { λ r. ⌜ ((M : ℕ) → r ≡ listed 82 (byteOf M (frobenius K16 4 16))) ⌝ }
 {
     let mut out = [0u8; READING];
-    out[PLAIN] = 1;
+    out[PLACES] = 1;
     out[4] = 1;
     out
 }
@@ -82,9 +81,8 @@ fn lowest(leads: Leads) -> usize
 }
 
 // The row of least lead, divided by its leading coefficient; where all classes are spent, x^16 + x.
-fn interpolant(rows: Rows, leads: Leads, m: usize) -> [u8; READING]
-    requires { ⌜ 32 ≤ m ⌝ }
-    ensures { λ r. ⌜ Interpolated m rows leads r ⌝ }
+fn interpolant(rows: Rows, leads: Leads, m: usize, word: [u8; PLACES]) -> [u8; READING]
+    ensures { λ r. ⌜ Interpolated m word rows leads r ⌝ }
 {
     let best = lowest(leads);
     let lead = leads[best];
@@ -92,15 +90,17 @@ fn interpolant(rows: Rows, leads: Leads, m: usize) -> [u8; READING]
         return field_equation();
     }
     let row = rows[best];
-    scaled(row, inverse(coefficient(row, lead, m)))
+    let q0 = without_z(row, word);
+    let q1 = with_z(row);
+    scaled(q0, q1, inverse(coefficient(q0, q1, lead, m)))
 }
 
 // The least polynomial through the places with flag 1, each with the word's symbol.
 pub fn reading(word: [u8; PLACES], flags: [u8; PLACES], m: usize) -> [u8; READING]
-    requires { ⌜ (32 ≤ m) × (m ≤ 127) ⌝ }
+    requires { ⌜ m ≤ 127 ⌝ }
     ensures { λ r. ⌜ r ≡ readingOf m (settled word flags 64) ⌝ }
 {
     let mut leads = [0usize; CLASSES];
     let rows = crate::settle::settle(word, flags, m, LIMIT, &mut leads);
-    interpolant(rows, leads, m)
+    interpolant(rows, leads, m, word)
 }

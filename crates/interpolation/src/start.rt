@@ -3,35 +3,51 @@ ghost use mathlib.Core.Path.{_≡_};
 ghost use Prim.Native.Nat.{_<_, _≤_};
 ghost use Rattle.lists.specs.Listed.{listed};
 ghost use Rattle.hermitian.specs.Keys.{first};
-ghost use Rattle.basis.specs.Step.{classes};
-ghost use Rattle.interpolation.specs.Start.{startBytes};
+ghost use Rattle.planes.specs.Arrays.{Carries, symbolsOf};
+ghost use Rattle.interpolation.specs.Start.{YPowers, StartRow, StartRows};
+use crate::PLACES;
 use basis::CLASSES;
 use basis::Leads;
 use basis::Rows;
-use rows::PLAIN;
-use rows::ROW;
-use rows::Row;
+use planes::Planes;
+use planes::constants::spread;
+use planes::constants::ys;
+use planes::lanes::times;
+use planes::rows::Row;
+use planes::rows::joined;
+use planes::words::planes;
 
-fn start_row(r: usize, m: usize) -> Row
-    requires { ⌜ r < 8 ⌝ }
-    ensures { λ row. ⌜ row ≡ startBytes m r ⌝ }
+// 1, y, y^2 and y^3 at all places.
+fn y_powers() -> [Planes; 4]
+    ensures { λ r. ⌜ YPowers r ⌝ }
 {
-    let mut out = [0u8; ROW];
-    if r % 2 == 0 {
-        out[r / 2 * 5] = 1;
-        return out;
-    }
-    out[PLAIN + (r / 2 + (4 - m % 4)) % 4 * 5] = 1;
-    out
+    let y = ys();
+    let second = times(y, y);
+    let third = times(second, y);
+    [spread(1), y, second, third]
 }
 
-pub fn start_rows(m: usize) -> Rows
-    ensures { λ rows. ⌜ rows ≡ listed classes (startBytes m) ⌝ }
+// The symbols are the word's.
+fn start_row(r: usize, m: usize, powers: [Planes; 4], symbols: Planes) -> Row
+    requires { ⌜ (r < 8) × YPowers powers ⌝ }
+    ensures { λ row. ⌜ StartRow m r symbols row ⌝ }
 {
-    let mut out = [[0u8; ROW]; CLASSES];
+    if r % 2 == 0 {
+        return joined(powers[r / 2], [0; 4]);
+    }
+    let y = powers[(r / 2 + (4 - m % 4)) % 4];
+    joined(times(symbols, y), y)
+}
+
+pub fn start_rows(m: usize, word: [u8; PLACES]) -> Rows
+    ensures { λ rows. ⌜ StartRows m word rows ⌝ }
+{
+    let powers = y_powers();
+    let symbols = planes(word);
+    let mut out = [[0u64; 8]; CLASSES];
     let mut r = 0;
     while r < CLASSES {
-        out[r] = start_row(r, m);
+        out[r] = start_row(r, m, powers, symbols);
         r += 1;
     }
     out

@@ -2,3 +2,4 @@ pub mod Multiplied
 pub mod Packed
 pub mod Unpacked
 pub mod Raising
+pub mod Moving

@@ -7,24 +7,29 @@
 --   sumOf a b, sum-element           the sum in every lane
 --   productOf a b, product-element   the product in every lane
 --   spreadOf c, spread-carries       one symbol at every place
+--   onlyAt q c p       the symbol c at place q, and zero at the others; only-here, only-off
 --   carries-sum, carries-product     sums and products of what is carried
 --   everywhere a       an element at every place; symbolsOf word: a word's symbols by place
+use mathlib.Core.Bool.{cond}
+use mathlib.Core.Logic.{_≢_}
 use mathlib.Core.Path.{_≡_, sym, ap, ap₂, _∙_}
 use mathlib.Core.List.{List, [], _∷_}
 use Prim.Native.Nat.{ℕ, zero, suc, _+_, _-_, _*_, _/_, _%_, _^_, _<_}
 use native.Mathlib.Omega.{arith}
 use lib.Bits.{bitXor}
+use lib.Dec.{eqb}
 use lib.ListN.{getD}
+use borrow.Author.Tests.{eq-eqb, ne-eqb}
 use Rattle.algebra.specs.Field.{Field}
 use Rattle.galois.specs.Gf16.{gf16}
-use Rattle.galois.specs.Field16.{GF, K16, toF, toF-times}
+use Rattle.galois.specs.Field16.{GF, K16, toF, toF-times, toF-zero}
 use Rattle.family.specs.Member.{m16, places}
 use Rattle.planes.specs.Bits.{bitAt, bitAt-at, bitAt-first, bitAt-spread, fromBits}
 use Rattle.planes.specs.Lanes.{Planes, lane}
 use Rattle.planes.specs.Elements as Elements
 use Rattle.planes.specs.Product as Product
 use Rattle.planes.specs.Product.{ones, twos, fours, eights, lane-product}
-open Field K16 using (_⊕_, _⊗_)
+open Field K16 using (_⊕_, _⊗_, 𝟘)
 
 unfoldable pub planesIn : List ℕ → Planes
 planesIn a b = getD a b 0
@@ -37,6 +42,17 @@ Carries v a = Elements.Carries gf16 (places m16) v (planesIn a)
 
 abbrev pub everywhere : GF → ℕ → GF
 everywhere a p = a
+
+unfoldable pub onlyAt : ℕ → ℕ → ℕ → GF
+onlyAt q c p = toF (cond (eqb p q) c 0)
+
+pub only-here : (q c p : ℕ) → p ≡ q → onlyAt q c p ≡ toF c
+unfolding onlyAt
+only-here q c p e = ap (λ b. toF (cond b c 0)) (eq-eqb p q e)
+
+pub only-off : (q c p : ℕ) → p ≢ q → onlyAt q c p ≡ 𝟘
+unfolding onlyAt
+only-off q c p n = ap (λ b. toF (cond b c 0)) (ne-eqb p q n) ∙ toF-zero
 
 abbrev pub symbolsOf : List ℕ → ℕ → GF
 symbolsOf word p = toF (getD word p 0)

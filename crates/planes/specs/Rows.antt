@@ -9,7 +9,9 @@
 --   MultiplesOf row ms     ms i is a row times 0, 1, 2, 3, 0, 4, 8 and 12: two of them add to any multiple (factor-split)
 --   Added row by other r   in every lane a row plus by times another; AddedBy: so for every row whose multiples are given
 --   Raised row a r         at every place x + a times a row
+--   Moved row q c r        the same slopes, and the same values but at place q, where c times the slope is added
 use mathlib.Core.Bool.{Bool}
+use mathlib.Core.Logic.{_≢_}
 use mathlib.Core.Path.{_≡_, refl, sym, ap, ap₂, _∙_}
 use mathlib.Core.List.{List, [], _∷_}
 use Prim.Native.Nat.{ℕ, zero, suc, _+_, _*_, _/_, _%_, _<_}
@@ -117,3 +119,8 @@ pub record AddedBy (row : List ℕ) (by : ℕ) (ms : List (List ℕ)) (r : List 
 
 pub record Raised (row : List ℕ) (a : ℕ) (r : List ℕ) : Type 0 where
   pub lanes : (h p : ℕ) → h < 2 → p < places m16 → valueAt h r p ≡ (px m16 p ⊕ toF a) ⊗ valueAt h row p
+
+pub record Moved (row : List ℕ) (q c : ℕ) (r : List ℕ) : Type 0 where
+  pub slopes : (p : ℕ) → valueAt 1 r p ≡ valueAt 1 row p
+  pub here : valueAt 0 r q ≡ valueAt 0 row q ⊕ toF c ⊗ valueAt 1 row q
+  pub elsewhere : (p : ℕ) → p < places m16 → p ≢ q → valueAt 0 r p ≡ valueAt 0 row p

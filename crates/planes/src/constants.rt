@@ -1,7 +1,8 @@
 // Planes that are known: one element at all places, and the points of the places.
 ghost use mathlib.Core.Path.{_≡_};
 ghost use Rattle.family.specs.Member.{m16, px, py};
-ghost use Rattle.planes.specs.Arrays.{Carries, spreadOf};
+ghost use Prim.Native.Nat.{_<_};
+ghost use Rattle.planes.specs.Arrays.{Carries, spreadOf, onlyAt};
 use crate::Planes;
 
 const ALL: u64 = 0xFFFF_FFFF_FFFF_FFFF;
@@ -15,6 +16,20 @@ pub fn spread(c: u8) -> Planes
         a / 2 % 2 * ALL,
         a / 4 % 2 * ALL,
         a / 8 % 2 * ALL,
+    ]
+}
+
+// An element at one place, and zero at the others.
+pub fn single(place: usize, c: u8) -> Planes
+    requires { ⌜ place < 64 ⌝ }
+    ensures { λ r. ⌜ Carries (onlyAt place c) r ⌝ }
+{
+    let a = c as u64;
+    [
+        (a % 2) << place,
+        (a / 2 % 2) << place,
+        (a / 4 % 2) << place,
+        (a / 8 % 2) << place,
     ]
 }
 

@@ -1,10 +1,14 @@
 // Rows of eight planes: the values of a polynomial Q0 + Q1 z at the places, four planes with a symbol for z at each place and four of Q1.
 ghost use mathlib.Core.Path.{_≡_};
-ghost use Rattle.planes.specs.Rows.{wholeOf, slopeOf, joinedOf, rowSum, doubledRow, MultiplesOf, AddedBy, Raised};
+ghost use Prim.Native.Nat.{_<_};
+ghost use Rattle.planes.specs.Rows.{wholeOf, slopeOf, joinedOf, rowSum, doubledRow, MultiplesOf, AddedBy, Raised, Moved};
 use crate::Planes;
+use crate::constants::single;
 use crate::constants::spread;
 use crate::constants::xs;
+use crate::lanes::at;
 use crate::lanes::times;
+use galois::product;
 
 pub type Row = [u64; 8];
 
@@ -97,4 +101,14 @@ pub fn raised(row: Row, a: u8) -> Row
 {
     let by = crate::lanes::sum(xs(), spread(a));
     joined(times(by, whole(row)), times(by, slope(row)))
+}
+
+// A row by another symbol at one place: the value there moves by a multiple of the slope.
+pub fn moved(row: Row, place: usize, change: u8) -> Row
+    requires { ⌜ place < 64 ⌝ }
+    ensures { λ r. ⌜ Moved row place change r ⌝ }
+{
+    let slopes = slope(row);
+    let by = product(change, at(slopes, place));
+    joined(crate::lanes::sum(whole(row), single(place, by)), slopes)
 }

@@ -23,8 +23,8 @@ use Rattle.tree.specs.Searching.{DecidedOf}
 abbrev only : Candidate → Found
 only held = record { answer = NoneNear; message = held .message; codeword = held .codeword; tests = 0 }
 
-pub only-sound : {k : ℕ} {columns : ℕ → List ℕ} {row : List ℕ} {held : Candidate} → CandidateOf k row held → Sound k columns (only held)
-only-sound C = sound-none refl (C .word) (C .behind) (C .encoded)
+pub only-sound : {k : ℕ} {columns : ℕ → List ℕ} {word row : List ℕ} {held : Candidate} → CandidateOf k word row held → Sound k columns (only held)
+only-sound C = sound-none refl (C .word-of) (C .behind) (C .encoded)
 
 module _ {k : ℕ} (rate : Ranged k) {columns : ℕ → List ℕ} {counts : List ℕ} {b : ℕ} (marked : Marked k columns counts b) (word ps row : List ℕ) (lead left : ℕ) where
   pub decided-even : (known : Found) → lead % 2 ≡ 0 → DecidedOf k columns word ps row lead left (missedOf known)
@@ -37,12 +37,12 @@ module _ {k : ℕ} (rate : Ranged k) {columns : ℕ → List ℕ} {counts : List
             (node-even m16 (openAt columns) (reachIn k columns) k columns (D .decided) P (D .all-open) (D .through) (D .leads) (D .decides) (workable rate) even .1);
       }
 
-  pub decided-odd : {held : Candidate} → CandidateOf k row held → (tests : ℕ) → WithinOf k counts b columns (held .codeword) word ps left tests
+  pub decided-odd : {held : Candidate} → CandidateOf k word row held → (tests : ℕ) → WithinOf k counts b columns (held .codeword) word ps left tests
       → DecidedOf k columns word ps row lead left (belowOf columns (only held) tests)
   decided-odd {held} C tests within =
       record {
         few = omega (arith, below-tests columns (only held) tests, within .few);
         finds = λ D P.
             governed-nearest (only-sound C) (workable rate) marked (expand columns word ps)
-            (candidate-only C columns (D .decided) P (D .all-open) (D .through) (D .leads) (D .decides)) tests (within .count P);
+            (candidate-only columns C (D .decided) P (D .all-open) (D .holds) (D .through) (D .leads) (D .decides)) tests (within .count P);
       }

@@ -7,15 +7,13 @@ use Prim.Native.Nat.{ℕ, _+_, _-_, _/_, _%_, _<_, _≤_}
 use native.Mathlib.Nat.{le-trans}
 use native.Mathlib.Decide.{ℕ-discrete}
 use native.Mathlib.Omega.{arith}
+use lib.Bits.{bitXor}
 use lib.ListN.{length, getD, take, drop, set, length-set}
 use Rattle.lists.specs.Every.{true-T}
-use Rattle.algebra.specs.Koetter.{Basis}
-use Rattle.galois.specs.Field16.{K16}
 use Rattle.basis.specs.Choice.{leadAt}
-use Rattle.basis.specs.Step.{classes, rowAt}
-use Rattle.interpolation.specs.Polynomial.{polynomials}
-use Rattle.interpolation.specs.Extending.{Extends}
-use Rattle.code.specs.Nodes.{ThroughNodes}
+use Rattle.basis.specs.Step.{classes, rowValues}
+use Rattle.interpolation.specs.Extending.{Stored, Extends}
+use Rattle.interpolation.specs.Parts.{valuesOf}
 use Rattle.family.specs.Nodes.{node}
 use Rattle.soft.specs.Column.{places}
 use Rattle.soft.specs.Doubt.{mostDoubt}
@@ -37,8 +35,6 @@ use Rattle.answers.specs.Better.{betterOf, better-tests, better-joins}
 use Rattle.known.specs.Known.{governsOf, WithinOf, belowOf}
 use Rattle.near.specs.Left.{places-rest, split-places, twice}
 use Rattle.known.specs.Governing.{below-tests, governs-only, governed-nearest}
-use Rattle.near.specs.Near as Near
-use Rattle.hermitian.specs.Present.{genus}
 
 -- the class of least lead, one more class with the parity
 pub lowest-turn : (leads : List ℕ) (parity q r p : ℕ) → q % 2 ≡ parity → p < classes → leadAt leads p ≤ leadAt leads r → leadAt leads p ≤ leadAt leads q
@@ -63,24 +59,27 @@ module _ {k : ℕ} (rate : Ranged k) (columns : ℕ → List ℕ) (leads : List 
         few = omega arith;
         finds = λ R P.
             nearest-missed known
-            (tree-spent m16 (openAt columns) (reachIn k columns) (workable rate) columns (R .decided) refl (R .basis) (λ r h e. omega (arith, L-is, low .lowest r h e)) .1);
+            (tree-spent m16 (openAt columns) (reachIn k columns) (workable rate) columns (R .decided) refl (R .stored .basis) (λ r h e. omega (arith, L-is, low .lowest r h e)) .1);
       }
 
   module _ {counts : List ℕ} {b : ℕ} (marked : Marked k columns counts b) (r : ℕ) (r-is : r ≡ reachOf k b) (class : ℕ) (close : leadAt leads class ≤ L) where
     pub node-decided : (word ps : List ℕ) (rows : List (List ℕ)) (f : Found) → class < classes → length ps ≡ left
         → leadAt leads class / 2 + left + r < places - b → DecidedOf k columns word ps (getD rows class []) (leadAt leads class) left f
         → SearchOf k columns word ps rows leads left f
-    unfolding polynomials rowAt
+    unfolding rowValues valuesOf
     node-decided word ps rows f within long decides D =
         record {
           few = D .few;
           finds = λ R P.
-              let h = R .basis .held class within (omega (arith, L-is)) in
+              let low : leadAt leads class ≤ limitOf k (blanksIn columns) = omega (arith, L-is) in
+              let h = R .stored .basis .held class within low in
               D .finds
               (record {
                 nodes = R .nodes;
                 decided = R .decided;
                 all-open = R .all-open;
+                polynomial = R .stored .polynomials class;
+                holds = R .stored .held class within low;
                 through = h .member;
                 leads = h .leads;
                 decides = omega (arith, long, decides, r-is, reach-marked marked, marked .number, open-count places columns);
@@ -117,18 +116,18 @@ module _ {k : ℕ} (rate : Ranged k) (columns : ℕ → List ℕ) (word : List �
             (governs-only sound (workable rate) marked (set word place symbol) ps l (sym test ∙ governs) Q) tests (counted .count Q);
       }
 
-  module _ (L : ℕ) (L-is : L ≡ limitOf k (blanksIn columns)) (rows′ : List (List ℕ)) (leads′ : List ℕ) (E : Extends L place symbol rows leads rows′ leads′) where
+  module _ (L : ℕ) (L-is : L ≡ limitOf k (blanksIn columns)) (rows′ : List (List ℕ)) (leads′ : List ℕ)
+      (E : Extends L place (bitXor (getD word place 0) symbol) rows leads rows′ leads′) where
     next-ready : Ready k columns word (place ∷ ps) rows leads → Places (place ∷ ps) → Ready k columns (set word place symbol) ps rows′ leads′
-    unfolding Near.mOf genus
     next-ready R (places-cons h fresh P) =
         record {
           nodes = node place symbol ∷ R .nodes;
           decided = decided-step m16 (openAt columns) symbol size h (true-T (openAt columns place) (R .all-open place (List·Memᴰ·head refl))) fresh (R .decided);
           all-open = λ p m. R .all-open p (List·Memᴰ·tail m);
-          basis =
-              subst (λ l. Basis K16 classes l (ThroughNodes (mOf k) (node place symbol ∷ R .nodes)) (polynomials (mOf k) rows′) (leadAt leads′)) L-is
-              (E .basis (mOf k) (omega (arith, rate .least)) (R .nodes)
-              (subst (λ l. Basis K16 classes l (ThroughNodes (mOf k) (R .nodes)) (polynomials (mOf k) rows) (leadAt leads)) (sym L-is) (R .basis)));
+          stored =
+              subst (λ l. Stored (mOf k) (set word place symbol) l (node place symbol ∷ R .nodes) rows′ leads′) L-is
+              (E .stored (mOf k) word (R .nodes) symbol (omega (arith, size)) refl
+              (subst (λ l. Stored (mOf k) word l (R .nodes) rows leads) (sym L-is) (R .stored)));
         }
 
     pub branch-node : (f : Found) → SearchOf k columns (set word place symbol) ps rows′ leads′ left f

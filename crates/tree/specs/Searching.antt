@@ -1,10 +1,10 @@
 -- What a node of the tree knows, and what it finds.
 --
 --   Lowest leads parity n r   r is a class with this parity, and of the first n of them none has a smaller lead
---   Ready k columns word ps rows leads   a basis up to the limit through the nodes decided so far: those of the word at the places that are not
---                          blank, but for the places ps, of which none is blank
---   Decides k columns word ps row lead   a row through these nodes, with this lead: its weight, which is half the lead, the places ps and T are less
---                          than the places that are not blank
+--   Ready k columns word ps rows leads   the rows have, by the word, the values of a basis up to the limit through the nodes decided so far: those of
+--                          the word at the places that are not blank, but for the places ps, of which none is blank
+--   Decides k columns word ps row lead   the row has the values of a Q through these nodes, with this lead: its weight, which is half the lead, the
+--                          places ps and T are less than the places that are not blank
 --   DecidedOf …            what is found by such a row
 --   SearchOf …             what a search of the tree finds
 --   BranchOf …             what a branch of a node finds
@@ -15,13 +15,14 @@ use Prim.Native.Nat.{ℕ, _+_, _/_, _%_, _^_, _<_, _≤_}
 use lib.ListN.{length, set}
 use Rattle.lists.specs.Count.{count}
 use Rattle.algebra.specs.Coefficients.{Lead}
-use Rattle.algebra.specs.Koetter.{Basis}
-use Rattle.galois.specs.Field16.{K16}
-use Rattle.rows.specs.Rows.{coef}
+use Rattle.galois.specs.Field16.{GF, K16}
+use Rattle.values.specs.Holds.{Holds}
 use Rattle.basis.specs.Choice.{leadAt}
 use Rattle.basis.specs.Step.{classes}
-use Rattle.interpolation.specs.Polynomial.{polynomial, polynomials}
+use Rattle.interpolation.specs.Extending.{Stored}
+use Rattle.interpolation.specs.Parts.{valuesOf}
 use Rattle.code.specs.Nodes.{ThroughNodes}
+use Rattle.family.specs.Member.{m16}
 use Rattle.family.specs.Nodes.{Node}
 use Rattle.soft.specs.Blank.{openAt}
 use Rattle.soft.specs.Column.{places}
@@ -39,14 +40,16 @@ pub record Ready (k : ℕ) (columns : ℕ → List ℕ) (word ps : List ℕ) (ro
   pub nodes : List Node
   pub decided : Decided columns word ps nodes
   pub all-open : (p : ℕ) → List·Memᴰ p ps → openAt columns p ≡ true
-  pub basis : Basis K16 classes (limitOf k (blanksIn columns)) (ThroughNodes (mOf k) nodes) (polynomials (mOf k) rows) (leadAt leads)
+  pub stored : Stored (mOf k) word (limitOf k (blanksIn columns)) nodes rows leads
 
 pub record Decides (k : ℕ) (columns : ℕ → List ℕ) (word ps row : List ℕ) (lead : ℕ) : Type 0 where
   pub nodes : List Node
   pub decided : Decided columns word ps nodes
   pub all-open : (p : ℕ) → List·Memᴰ p ps → openAt columns p ≡ true
-  pub through : ThroughNodes (mOf k) nodes (polynomial (mOf k) (coef row))
-  pub leads : Lead K16 (polynomial (mOf k) (coef row)) lead
+  pub polynomial : ℕ → GF
+  pub holds : Holds m16 (mOf k) word (valuesOf row) polynomial
+  pub through : ThroughNodes (mOf k) nodes polynomial
+  pub leads : Lead K16 polynomial lead
   pub decides : lead / 2 + length ps + reachIn k columns < count places (openAt columns)
 
 pub record DecidedOf (k : ℕ) (columns : ℕ → List ℕ) (word ps row : List ℕ) (lead left : ℕ) (f : Found) : Type 0 where

@@ -31,7 +31,7 @@ use known::Undecided;
 use known::below;
 use known::governs;
 use known::tests_within;
-use rows::Row;
+use planes::rows::Row;
 
 // Of two classes the one with the smaller lead.
 fn lower(leads: Leads, r: usize, q: usize) -> usize
@@ -81,7 +81,7 @@ fn decided(
     if lead % 2 == 0 {
         return missed(known);
     }
-    let held = candidate_of(row, k);
+    let held = candidate_of(row, k, word);
     let message = held.message;
     let codeword = held.codeword;
     let tests = tests_within(codeword, word, costs, k, undecided, counts, blanks);
@@ -123,7 +123,8 @@ fn branch(
     }
     let limit = largest_key(k, blanks);
     let mut next_leads = leads;
-    let next_rows = extend(rows, &mut next_leads, limit, place, symbol);
+    let change = word[place] ^ symbol;
+    let next_rows = extend(rows, &mut next_leads, limit, place, change);
     search(
         next_rows,
         next_leads,

@@ -28,7 +28,7 @@ encoded-requires c κs = search needs
 
 returns : tie.Need-returns
 returns c =
-    candidate-made (c .before .before .before .before .before .before .pre) _ _ _ _ _ _ (c .before .before .before .before .before .without-z .ensures)
+    candidate-made (c .before .before .before .before .before .before .pre) _ _ _ _ _ _ _ (c .before .before .before .before .before .without-z .ensures)
     (c .before .before .before .before .with-z .ensures) (c .before .before .before .top-order .ensures) (c .before .before .divide .ensures)
     (c .before .message-of .ensures) (c .encoded .ensures)
 

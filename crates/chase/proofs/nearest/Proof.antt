@@ -98,7 +98,7 @@ settle-requires c κs =
     let r = known-range _ (may-ask (c .before .before .before .before .before .before .before) .known) in
     let m = top-small r in
     let m-is = c .before .before .before .before .before .top-order .ensures in
-    (omega (arith, m, m-is), omega (arith, m, m-is), omega (arith, limit-small r (c .before .before .before .before .before .before .before .before .before .blanks .result), c .before .before .before .before .largest-key .ensures))
+    (omega (arith, m, m-is), omega (arith, limit-small r (c .before .before .before .before .before .before .before .before .before .blanks .result), c .before .before .before .before .largest-key .ensures))
 
 none-near-requires-6 : tie.Need-none-near-requires-6
 none-near-requires-6 c κs = search needs

@@ -124,7 +124,7 @@ search-claims t = (
 
 -- what the arrays' types say
 branch-lengths : (t : ℕ) (c : branch-lts.Start (branch-claims t) (branch-at t) branch.Post)
-    → length (c .args .word) ≡ 64
+    → length (c .args .t3) ≡ 64
 branch-lengths t c = search needs
 
 branch-array-write-next-word : (t : ℕ) → branch-lts.Need-array-write-next-word (branch-claims t) (branch-at t) branch.Post
@@ -154,6 +154,9 @@ branch-largest-key-requires : (t : ℕ) → branch-lts.Need-largest-key-requires
 branch-largest-key-requires t c κs =
     let h = c .before .before .before .pre .1 in
     (h .0, h .4 .few)
+
+branch-array-read-change : (t : ℕ) → branch-lts.Need-array-read-change (branch-claims t) (branch-at t) branch.Post
+branch-array-read-change t c = search needs
 
 branch-extend-requires : (t : ℕ) → branch-lts.Need-extend-requires (branch-claims t) (branch-at t) branch.Post
 branch-extend-requires t c κs =
@@ -333,6 +336,7 @@ pub +branch+branches+search-spec : {M : Type 1} → statement M
     (branch-below-requires t)
     (branch-returns t)
     (branch-largest-key-requires t)
+    (branch-array-read-change t)
     (branch-extend-requires t)
     (branch-search-requires t)
     (branch-returns-2 t))

@@ -1,37 +1,21 @@
--- Each class passed holds its discrepancy by the planes, which are those of the weights.
-use mathlib.Core.Path.{_≡_, ap, _∙_}
-use mathlib.Core.List.{List, [], _++_}
-use Prim.Native.Nat.{ℕ, _≤_, _-_}
-use native.Mathlib.Omega.{arith}
-use lib.ListN.{getD, drop, replicate}
+-- Each class passed holds its discrepancy.
 use borrow.Author.Needs.{needs}
-use Rattle.lists.specs.Listed.{listed, listed-start, listed-store, listed-end, listed-ext}
+use mathlib.Core.Path.{_≡_}
+use mathlib.Core.List.{_++_}
+use Prim.Native.Nat.{_≤_, _-_, _%_}
+use native.Mathlib.Omega.{arith}
+use lib.ListN.{drop, replicate}
+use Rattle.lists.specs.Listed.{listed, listed-start, listed-store, listed-end}
 use Rattle.basis.specs.Choice.{leadAt}
-use Rattle.rows.specs.Planes.{planesOf}
-use Rattle.basis.specs.Step.{rowAt, discrepancyAt, discrepancyOf, discrepancyOf-planes}
+use Rattle.basis.specs.Step.{discrepancyAt}
 use Rattle.basis.proofs.step.discrepancies.Statement.{statement}
 use Rattle.basis.proofs.step.discrepancies.Tie as tie
 
--- the discrepancy of class k by the planes
-unfoldable byPlanes : ℕ → List ℕ → List (List ℕ) → List (List ℕ) → ℕ → ℕ
-byPlanes limit leads rows planes k = discrepancyOf limit (getD leads k 0) (getD rows k []) planes
-
-all-classes : (limit : ℕ) (leads : List ℕ) (rows planes : List (List ℕ)) (weights : List ℕ) → planes ≡ planesOf weights
-    → listed 8 (byPlanes limit leads rows planes) ≡ listed 8 (discrepancyAt limit leads rows weights)
-unfolding byPlanes discrepancyAt rowAt leadAt
-all-classes limit leads rows planes weights e =
-    ap (λ p. listed 8 (byPlanes limit leads rows p)) e
-    ∙ listed-ext 8 (byPlanes limit leads rows (planesOf weights)) (discrepancyAt limit leads rows weights)
-    (λ k h. discrepancyOf-planes limit (getD leads k 0) (getD rows k []) weights)
-
 abbrev Inv-loop : tie.InvT-loop
-Inv-loop limit rows leads bits out₀ r₀ out r = (r ≤ 8) × (out ≡ listed r (byPlanes limit leads rows bits) ++ drop r (replicate 8 0))
+Inv-loop limit place rows leads out₀ r₀ out r = (r ≤ 8) × (out ≡ listed r (discrepancyAt limit leads rows (place % 64)) ++ drop r (replicate 8 0))
 
 abbrev μ-loop : tie.MeasureT-loop
-μ-loop limit rows leads bits out₀ r₀ out r = 8 - r
-
-planes-requires : tie.Need-planes-requires Inv-loop μ-loop
-planes-requires c κs = search needs
+μ-loop limit place rows leads out₀ r₀ out r = 8 - r
 
 loop-holds : tie.Need-loop-holds Inv-loop μ-loop
 loop-holds c = (search needs, listed-start _ _)
@@ -61,13 +45,13 @@ loop-less : tie.Need-loop-less Inv-loop μ-loop
 loop-less c = search needs
 
 loop-again : tie.Need-loop-again Inv-loop μ-loop
-unfolding byPlanes
+unfolding discrepancyAt leadAt
 loop-again c = (search needs, listed-store 0 _ (replicate 8 0) _ _ _ (search needs) (c .discrepancy .ensures) (c .before .before .before .loop .inv .1))
 
 returns : tie.Need-returns Inv-loop μ-loop
 returns c =
     let e : c .before .loop .r ≡ 8 = omega arith in
-    rw e at (listed-end _ (replicate 8 0) _ _ (search needs) (c .before .loop .inv .1)) ∙ all-classes _ _ _ _ _ (c .before .before .planes .ensures)
+    rw e at (listed-end _ (replicate 8 0) _ _ (search needs) (c .before .loop .inv .1))
 
 pub discrepancies-spec : {M : Type 1} → statement M
 discrepancies-spec =
@@ -75,7 +59,6 @@ discrepancies-spec =
     (tie.spec
     Inv-loop
     μ-loop
-    planes-requires
     loop-holds
     mul-discrepancy
     array-copy-out-discrepancy

@@ -1,6 +1,9 @@
--- A spent class is zero, any other the value.
+-- A spent class is zero, any other the symbol at the place.
 use borrow.Author.Needs.{needs}
+use mathlib.Core.Bool.{cond}
+use mathlib.Core.Path.{sym, ap, _∙_}
 use borrow.Author.Tests.{lt-ltb, le-ltb}
+use Rattle.planes.specs.Arrays.{symbolAt}
 use Rattle.basis.specs.Step.{discrepancyOf}
 use Rattle.basis.proofs.step.discrepancy.Statement.{statement}
 use Rattle.basis.proofs.step.discrepancy.Tie as tie
@@ -9,12 +12,17 @@ returns : tie.Need-returns
 unfolding discrepancyOf
 returns c = simp (lt-ltb _ _ (c .if1 .taken))
 
-dot-requires : tie.Need-dot-requires
-dot-requires c κs = search needs
+whole-requires : tie.Need-whole-requires
+whole-requires c κs = search needs
+
+at-requires : tie.Need-at-requires
+at-requires c κs = search needs
 
 returns-2 : tie.Need-returns-2
 unfolding discrepancyOf
-returns-2 c = simp (le-ltb _ _ (c .before .if1 .left), c .dot .ensures)
+returns-2 c =
+    let w = c .before .whole .ensures in
+    simp (le-ltb _ _ (c .before .before .if1 .left), c .at .ensures, w)
 
 pub discrepancy-spec : {M : Type 1} → statement M
-discrepancy-spec = tie.close (tie.spec returns dot-requires returns-2)
+discrepancy-spec = tie.close (tie.spec returns whole-requires at-requires returns-2)

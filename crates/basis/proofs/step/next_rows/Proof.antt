@@ -1,20 +1,20 @@
 -- Beyond the classes nothing changes. Else each row passed is cleared, and the row of the pivot is then replaced by the raised one.
+use borrow.Author.Needs.{needs}
 use mathlib.Core.Path.{_≡_}
 use mathlib.Core.List.{[]}
 use Prim.Native.Nat.{_-_}
 use lib.ListN.{length}
-use borrow.Author.Needs.{needs}
-use Rattle.lists.specs.Filled.{Filled, filled-start, filled-turn, filled-end}
-use Rattle.basis.specs.Step.{classes, cleared}
-use Rattle.basis.proofs.Rowwise.{cleared-is, no-step, step-stored}
+use Rattle.lists.specs.Passed.{Passed, passed-start, passed-turn}
+use Rattle.basis.specs.Step.{classes}
+use Rattle.basis.proofs.Rowwise.{Cleared, no-step, step-stored}
 use Rattle.basis.proofs.step.next_rows.Statement.{statement}
 use Rattle.basis.proofs.step.next_rows.Tie as tie
 
 abbrev Inv-loop : tie.InvT-loop
-Inv-loop at a rows ds pivot by out₀ r₀ out r = (length rows ≡ classes) × Filled rows (cleared at ds rows) r out
+Inv-loop at a rows ds pivot by pivots out₀ r₀ out r = (length rows ≡ classes) × Passed [] (Cleared ds by pivot rows) 0 r rows out
 
 abbrev μ-loop : tie.MeasureT-loop
-μ-loop at a rows ds pivot by out₀ r₀ out r = classes - r
+μ-loop at a rows ds pivot by pivots out₀ r₀ out r = classes - r
 
 returns : tie.Need-returns Inv-loop μ-loop
 returns c = no-step _ _ _ _ (c .if1 .taken)
@@ -31,8 +31,11 @@ array-read-inverse c = search needs
 inverse-requires : tie.Need-inverse-requires Inv-loop μ-loop
 inverse-requires c κs = search needs
 
+multiples-requires : tie.Need-multiples-requires Inv-loop μ-loop
+multiples-requires c κs = search needs
+
 loop-holds : tie.Need-loop-holds Inv-loop μ-loop
-loop-holds c = (search needs, filled-start _ _)
+loop-holds c = (search needs, passed-start [] _ 0 _)
 
 mul-next-row : tie.Need-mul-next-row Inv-loop μ-loop
 mul-next-row c = search needs
@@ -60,9 +63,9 @@ loop-less c = search needs
 
 loop-again : tie.Need-loop-again Inv-loop μ-loop
 loop-again c =
-    let a = c .before .before .before .before .before .before .before .args in
-    let i = c .before .before .before .loop .inv in
-    (i .0, filled-turn [] (i .1) _ (search needs) (cleared-is (a .at) (a .t2) (a .t1) _ _ _ (c .before .before .before .before .inverse .ensures) (c .next-row .ensures)))
+    let i = c .before .before .before .before .loop .inv in
+    let made = c .before .before .before .before .before .multiples .ensures in
+    (i .0, passed-turn [] _ _ (search needs) (search needs) (record { added = c .next-row .ensures .from _ made }) (i .1))
 
 raised-requires : tie.Need-raised-requires Inv-loop μ-loop
 raised-requires c κs = search needs
@@ -76,7 +79,7 @@ array-set-from-out-2 c = search needs
 returns-2 : tie.Need-returns-2 Inv-loop μ-loop
 returns-2 c =
     let i = c .before .before .loop .inv in
-    step-stored _ _ _ _ _ _ (search needs) (filled-end [] (i .1) classes (i .0) (c .before .loop-test .left)) (c .raised .ensures)
+    step-stored _ _ _ _ _ _ _ _ (search needs) (c .before .loop-test .left) (i .0) (c .before .before .before .before .inverse .ensures) (i .1) (c .raised .ensures)
 
 pub next-rows-spec : {M : Type 1} → statement M
 next-rows-spec =
@@ -89,6 +92,7 @@ next-rows-spec =
     array-copy-out-pivot
     array-read-inverse
     inverse-requires
+    multiples-requires
     loop-holds
     mul-next-row
     array-copy-out-next-row

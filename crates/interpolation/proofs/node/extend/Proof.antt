@@ -1,21 +1,25 @@
--- A place's own monomials and its own x.
-use Rattle.interpolation.proofs.Extended.{extends-own}
+-- No change: the step itself. Else the rows move by the change first.
 use borrow.Author.Needs.{needs}
+use Rattle.interpolation.proofs.Extended.{extends-kept, extends-moved}
 use Rattle.interpolation.proofs.node.extend.Statement.{statement}
 use Rattle.interpolation.proofs.node.extend.Tie as tie
 
-monomials-requires : tie.Need-monomials-requires
-monomials-requires c κs = search needs
-
-x-at-requires : tie.Need-x-at-requires
-x-at-requires c κs = search needs
-
-extend-by-requires : tie.Need-extend-by-requires
-extend-by-requires c κs = search needs
+extend-own-requires : tie.Need-extend-own-requires
+extend-own-requires c κs = search needs
 
 returns : tie.Need-returns
-returns c =
-    extends-own _ (search needs) (c .before .before .monomials .ensures) (c .before .x-at .ensures) (c .extend-by .ensures)
+returns c = extends-kept (c .before .before .if1 .taken) (c .extend-own .ensures)
+
+moved-rows-requires : tie.Need-moved-rows-requires
+moved-rows-requires c κs = search needs
+
+extend-own-requires-2 : tie.Need-extend-own-requires-2
+extend-own-requires-2 c κs = search needs
+
+returns-2 : tie.Need-returns-2
+returns-2 c = extends-moved _ (c .before .before .moved-rows .ensures) (c .extend-own2 .ensures)
 
 pub extend-spec : {M : Type 1} → statement M
-extend-spec = tie.close (tie.spec monomials-requires x-at-requires extend-by-requires returns)
+extend-spec =
+    tie.close
+    (tie.spec extend-own-requires returns moved-rows-requires extend-own-requires-2 returns-2)

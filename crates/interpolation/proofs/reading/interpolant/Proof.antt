@@ -1,9 +1,8 @@
 -- The row of least lead, scaled; or x^16 + x where that lead is above the limit.
-use mathlib.Core.Path.{ap, _∙_}
 use borrow.Author.Needs.{needs}
+use mathlib.Core.Path.{ap, _∙_}
 use Rattle.galois.specs.Field16.{K16, toF, toF-inverse}
 use Rattle.basis.specs.Choice.{leadAt}
-use Rattle.basis.specs.Step.{rowAt}
 use Rattle.interpolation.proofs.LeastRow.{read-held, read-spent}
 use Rattle.interpolation.proofs.reading.interpolant.Statement.{statement}
 use Rattle.interpolation.proofs.reading.interpolant.Tie as tie
@@ -22,13 +21,19 @@ field-equation-requires c κs = search needs
 
 returns : tie.Need-returns
 unfolding leadAt
-returns c = read-spent _ _ _ _ (c .before .before .lowest .ensures) _ (c .before .if1 .taken) (c .field-equation .ensures _)
+returns c = read-spent _ _ _ _ _ (c .before .before .lowest .ensures) _ (c .before .if1 .taken) (c .field-equation .ensures _)
 
 mul-row : tie.Need-mul-row
 mul-row c = search needs
 
 array-copy-out-row : tie.Need-array-copy-out-row
 array-copy-out-row c = search needs
+
+without-z-requires : tie.Need-without-z-requires
+without-z-requires c κs = search needs
+
+with-z-requires : tie.Need-with-z-requires
+with-z-requires c κs = search needs
 
 coefficient-requires : tie.Need-coefficient-requires
 coefficient-requires c κs = search needs
@@ -40,9 +45,10 @@ scaled-requires : tie.Need-scaled-requires
 scaled-requires c κs = search needs
 
 returns-2 : tie.Need-returns-2
-unfolding leadAt rowAt
+unfolding leadAt
 returns-2 c =
-    read-held _ _ _ _ (c .before .before .before .before .before .lowest .ensures) _ _ (search needs)
+    read-held _ _ _ _ _ (c .before .before .before .before .before .before .before .lowest .ensures) _ _ _ _ (c .before .before .before .before .without-z .ensures)
+    (c .before .before .before .with-z .ensures) (search needs)
     (ap toF (c .before .inverse .ensures) ∙ toF-inverse _ ∙ ap (K16 .inv) (c .before .before .coefficient .ensures)) (c .scaled .ensures _)
 
 pub interpolant-spec : {M : Type 1} → statement M
@@ -56,6 +62,8 @@ interpolant-spec =
     returns
     mul-row
     array-copy-out-row
+    without-z-requires
+    with-z-requires
     coefficient-requires
     inverse-requires
     scaled-requires

@@ -1,26 +1,25 @@
 -- Each byte passed is the product with the coefficient that it shows.
+use borrow.Author.Needs.{needs}
 use mathlib.Core.Path.{_≡_}
 use mathlib.Core.List.{_++_}
 use Prim.Native.Nat.{ℕ, _≤_, _-_}
 use native.Mathlib.Omega.{arith}
 use lib.ListN.{drop, replicate}
-use borrow.Author.Needs.{needs}
 use Rattle.lists.specs.Listed.{listed, listed-start, listed-store, listed-end}
 use Rattle.algebra.specs.Coefficients.{scale}
 use Rattle.galois.specs.Field16.{K16, toF}
-use Rattle.rows.specs.Rows.{coef}
 use Rattle.interpolant.specs.Reading.{byteOf}
-use Rattle.interpolation.specs.Polynomial.{polynomial}
+use Rattle.interpolation.specs.Parts.{polynomialOf}
 use Rattle.interpolation.proofs.Shown.{scaled-byte}
 use Rattle.interpolation.proofs.reading.scaled.Statement.{statement}
 use Rattle.interpolation.proofs.reading.scaled.Tie as tie
 
 abbrev Inv-loop : tie.InvT-loop
-Inv-loop row by out₀ i₀ out i =
-    (i ≤ 82) × ((M : ℕ) → out ≡ listed i (byteOf M (scale K16 (toF by) (polynomial M (coef row)))) ++ drop i (replicate 82 0))
+Inv-loop q0 q1 by out₀ i₀ out i =
+    (i ≤ 82) × ((M : ℕ) → out ≡ listed i (byteOf M (scale K16 (toF by) (polynomialOf M q0 q1))) ++ drop i (replicate 82 0))
 
 abbrev μ-loop : tie.MeasureT-loop
-μ-loop row by out₀ i₀ out i = 82 - i
+μ-loop q0 q1 by out₀ i₀ out i = 82 - i
 
 loop-holds : tie.Need-loop-holds Inv-loop μ-loop
 loop-holds c = (search needs, λ M. listed-start _ _)
@@ -42,7 +41,7 @@ loop-less c = search needs
 
 loop-again : tie.Need-loop-again Inv-loop μ-loop
 loop-again c =
-    (search needs, λ M. listed-store 0 _ (replicate 82 0) _ _ _ (search needs) (scaled-byte _ _ _ _ _ M (c .product .ensures) (c .before .shown .ensures M)) (c .before .before .before .loop .inv .1 M))
+    (search needs, λ M. listed-store 0 _ (replicate 82 0) _ _ _ (search needs) (scaled-byte _ _ _ _ _ _ M (c .product .ensures) (c .before .shown .ensures M)) (c .before .before .before .loop .inv .1 M))
 
 returns : tie.Need-returns Inv-loop μ-loop
 returns c = λ M.

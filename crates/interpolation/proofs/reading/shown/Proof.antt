@@ -1,6 +1,6 @@
--- Where the coefficient of a byte stands in a row: without z, at order 64, or with z.
-use native.Mathlib.Omega.{arith}
+-- Where the coefficient of a byte stands in the parts: without z, at order 64, or with z.
 use borrow.Author.Needs.{needs}
+use native.Mathlib.Omega.{arith}
 use Rattle.interpolation.proofs.Shown.{shown-plain, shown-last, shown-z}
 use Rattle.interpolation.proofs.reading.shown.Statement.{statement}
 use Rattle.interpolation.proofs.reading.shown.Tie as tie
@@ -9,10 +9,10 @@ array-read-result : tie.Need-array-read-result
 array-read-result c = search needs
 
 returns : tie.Need-returns
-returns c = shown-plain _ _ (c .if1 .taken)
+returns c = shown-plain _ _ _ (search needs)
 
 returns-2 : tie.Need-returns-2
-returns-2 c = shown-last _ _ (c .if2 .taken)
+returns-2 c = shown-last _ _ _ (search needs) (c .if2 .taken)
 
 sub-result : tie.Need-sub-result
 sub-result c = search needs
@@ -21,7 +21,7 @@ array-read-result-2 : tie.Need-array-read-result-2
 array-read-result-2 c = search needs
 
 returns-3 : tie.Need-returns-3
-returns-3 c = shown-z _ _ (omega arith) (search needs)
+returns-3 c = shown-z _ _ _ (omega arith)
 
 pub shown-spec : {M : Type 1} → statement M
 shown-spec =

@@ -4,14 +4,14 @@ use Rattle.interpolation.proofs.Settling.{extends-taken, extends-not}
 use Rattle.interpolation.proofs.settle.extend_if.Statement.{statement}
 use Rattle.interpolation.proofs.settle.extend_if.Tie as tie
 
-extend-by-requires : tie.Need-extend-by-requires
-extend-by-requires c κs = search needs
+extend-own-requires : tie.Need-extend-own-requires
+extend-own-requires c κs = search needs
 
 returns : tie.Need-returns
-returns c = extends-taken (c .before .before .if1 .taken) (c .extend-by .ensures)
+returns c = extends-taken (c .before .before .if1 .taken) (c .extend-own .ensures)
 
 returns-2 : tie.Need-returns-2
-returns-2 c = extends-not _ _ _ _ _ _ _ (c .if1 .left)
+returns-2 c = extends-not _ _ _ _ _ (c .if1 .left)
 
 pub extend-if-spec : {M : Type 1} → statement M
-extend-if-spec = tie.close (tie.spec extend-by-requires returns returns-2)
+extend-if-spec = tie.close (tie.spec extend-own-requires returns returns-2)

@@ -1,24 +1,29 @@
 -- Each class passed holds its first term.
-use mathlib.Core.Path.{refl}
+use borrow.Author.Needs.{needs}
 use mathlib.Core.List.{[]}
 use Prim.Native.Nat.{_-_}
 use lib.ListN.{replicate}
-use borrow.Author.Needs.{needs}
-use Rattle.lists.specs.Filled.{Filled, filled-start, filled-turn, filled-end}
-use Rattle.rows.specs.Rows.{rowWidth}
+use Rattle.lists.specs.Passed.{Passed, passed-start, passed-turn}
 use Rattle.basis.specs.Step.{classes}
-use Rattle.interpolation.specs.Start.{startBytes}
+use Rattle.interpolation.specs.Start.{YPowers}
+use Rattle.interpolation.proofs.Starting.{Started, rows-started}
 use Rattle.interpolation.proofs.start.start_rows.Statement.{statement}
 use Rattle.interpolation.proofs.start.start_rows.Tie as tie
 
 abbrev Inv-loop : tie.InvT-loop
-Inv-loop m out₀ r₀ out r = Filled (replicate classes (replicate rowWidth 0)) (startBytes m) r out
+Inv-loop m powers symbols out₀ r₀ out r = YPowers powers × Passed [] (Started m symbols) 0 r (replicate classes (replicate 8 0)) out
 
 abbrev μ-loop : tie.MeasureT-loop
-μ-loop m out₀ r₀ out r = classes - r
+μ-loop m powers symbols out₀ r₀ out r = classes - r
+
+y-powers-requires : tie.Need-y-powers-requires Inv-loop μ-loop
+y-powers-requires c κs = search needs
+
+planes-requires : tie.Need-planes-requires Inv-loop μ-loop
+planes-requires c κs = search needs
 
 loop-holds : tie.Need-loop-holds Inv-loop μ-loop
-loop-holds c = filled-start _ _
+loop-holds c = (c .before .y-powers .ensures, passed-start [] _ 0 _)
 
 start-row-requires : tie.Need-start-row-requires Inv-loop μ-loop
 start-row-requires c κs = search needs
@@ -36,10 +41,12 @@ loop-less : tie.Need-loop-less Inv-loop μ-loop
 loop-less c = search needs
 
 loop-again : tie.Need-loop-again Inv-loop μ-loop
-loop-again c = filled-turn [] (c .before .before .loop .inv) _ (search needs) (c .start-row .ensures)
+loop-again c =
+    let i = c .before .before .loop .inv in
+    (i .0, passed-turn [] _ _ (search needs) (search needs) (record { is = c .start-row .ensures }) (i .1))
 
 returns : tie.Need-returns Inv-loop μ-loop
-returns c = filled-end [] (c .before .loop .inv) classes refl (c .loop-test .left)
+returns c = rows-started _ _ _ _ _ _ (c .loop-test .left) (c .before .before .planes .ensures) (c .before .loop .inv .1)
 
 pub start-rows-spec : {M : Type 1} → statement M
 start-rows-spec =
@@ -47,6 +54,8 @@ start-rows-spec =
     (tie.spec
     Inv-loop
     μ-loop
+    y-powers-requires
+    planes-requires
     loop-holds
     start-row-requires
     mul-out

@@ -1,0 +1,17 @@
+-- The slopes are the values of Q1.
+use borrow.Author.Needs.{needs}
+use Rattle.interpolation.proofs.Splitting.{second-read}
+use Rattle.interpolation.proofs.parts.with_z.Statement.{statement}
+use Rattle.interpolation.proofs.parts.with_z.Tie as tie
+
+slope-requires : tie.Need-slope-requires
+slope-requires c κs = search needs
+
+coefficients-requires : tie.Need-coefficients-requires
+coefficients-requires c κs = search needs
+
+returns : tie.Need-returns
+returns c = second-read _ (c .before .slope .ensures) (c .coefficients .ensures)
+
+pub with-z-spec : {M : Type 1} → statement M
+with-z-spec = tie.close (tie.spec slope-requires coefficients-requires returns)

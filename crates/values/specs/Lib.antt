@@ -1,0 +1,3 @@
+pub mod Holds
+pub mod Step
+pub mod Start
