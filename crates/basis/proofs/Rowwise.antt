@@ -5,15 +5,16 @@
 use mathlib.Core.Path.{_≡_, refl, sym, ap, _∙_, subst}
 use mathlib.Core.List.{List, []}
 use mathlib.Core.Logic.{_≢_}
-use Prim.Native.Nat.{ℕ, _<_, _≤_}
+use Prim.Native.Nat.{ℕ, _+_, _<_, _≤_}
+use native.Mathlib.Nat.{le-refl}
 use native.Mathlib.Omega.{arith}
-use lib.ListN.{length, getD, set}
+use lib.ListN.{length, getD, set, length-set}
 use lib.Seq.{getD-set-same, getD-set-other}
-use Rattle.lists.specs.Passed.{Passed}
+use Rattle.lists.specs.Passed.{Passed, passed-turn}
 use Rattle.algebra.specs.Field.{Field}
 use Rattle.galois.specs.Gf16.{times, inverse}
 use Rattle.galois.specs.Field16.{K16, toF}
-use Rattle.planes.specs.Rows.{valueAt, Added, AddedBy, Raised, Moved}
+use Rattle.planes.specs.Rows.{valueAt, MultiplesOf, Added, AddedBy, Raised, Moved}
 use Rattle.basis.specs.Step.{classes, rowValues, NextRows, MovedRows}
 open Field K16 using (_⊕_, _⊗_)
 
@@ -24,8 +25,13 @@ pub record Cleared (ds : List ℕ) (by : ℕ) (pivot : List ℕ) (rows : List (L
 pub added-product : {row r : List ℕ} {ms : List (List ℕ)} {k : ℕ} (d by : ℕ) → k ≡ times d by → AddedBy row k ms r → AddedBy row (times d by) ms r
 added-product {row} {r} {ms} d by e h = subst (λ x. AddedBy row x ms r) e h
 
-pub no-step : (at a : ℕ) (ds : List ℕ) (rows : List (List ℕ)) → classes ≤ at → NextRows at a ds rows rows
-no-step at a ds rows h = record { none = λ b. refl; pivot = λ l. absurd (omega arith); other = λ l. absurd (omega arith) }
+-- a turn reads row k where no turn has stored yet
+pub cleared-turn : (ds : List ℕ) (by : ℕ) (pivot : List ℕ) (rows out : List (List ℕ)) (k : ℕ) (v : List ℕ) {ms : List (List ℕ)} → k < length rows
+    → Passed [] (Cleared ds by pivot rows) 0 k rows out → AddedBy (getD out k []) (times (getD ds k 0) by) ms v → MultiplesOf pivot ms
+    → Passed [] (Cleared ds by pivot rows) 0 (k + 1) rows (set out k v)
+cleared-turn ds by pivot rows out k v {ms} l P A made =
+    passed-turn [] (Cleared ds by pivot rows) v (omega arith) l
+    (record { added = subst (λ (row : List ℕ). Added row (times (getD ds k 0) by) pivot v) (P .later k (le-refl k)) (A .from pivot made) }) P
 
 pub step-stored : (at a : ℕ) (ds : List ℕ) (rows out : List (List ℕ)) (by i : ℕ) (last : List ℕ) → at < classes → classes ≤ i → length rows ≡ classes
     → by ≡ inverse (getD ds at 0) → Passed [] (Cleared ds by (getD rows at []) rows) 0 i rows out → Raised (getD rows at []) a last
@@ -33,10 +39,10 @@ pub step-stored : (at a : ℕ) (ds : List ℕ) (rows out : List (List ℕ)) (by 
 unfolding rowValues
 step-stored at a ds rows out by i last h done size b P R =
     record {
-      none = λ l. absurd (omega arith);
-      pivot = λ l p q k m.
+      as-long = length-set out at last ∙ P .as-long;
+      pivot = λ p q k m.
           ap (λ (row : List ℕ). valueAt p row q) (getD-set-same out at last [] (omega (arith, P .as-long))) ∙ R .lanes p q k m;
-      other = λ l r k n p q m.
+      other = λ r k n p q m.
           ap (λ (row : List ℕ). valueAt p row q) (getD-set-other out at r last [] n) ∙ P .stored r (omega arith) (omega arith) .added .lanes p q m
           ∙ ap (λ x. valueAt p (getD rows r []) q ⊕ toF (times (getD ds r 0) x) ⊗ valueAt p (getD rows at []) q) b;
     }
@@ -45,5 +51,11 @@ step-stored at a ds rows out by i last h done size b P R =
 pub record MovedRow (q c : ℕ) (rows : List (List ℕ)) (k : ℕ) (row : List ℕ) : Type 0 where
   pub is : Moved (getD rows k []) q c row
 
+pub moved-turn : (q c : ℕ) (rows out : List (List ℕ)) (k : ℕ) (v : List ℕ) → k < length rows → Passed [] (MovedRow q c rows) 0 k rows out
+    → Moved (getD out k []) q c v → Passed [] (MovedRow q c rows) 0 (k + 1) rows (set out k v)
+moved-turn q c rows out k v l P m =
+    passed-turn [] (MovedRow q c rows) v (omega arith) l
+    (record { is = subst (λ (row : List ℕ). Moved row q c v) (P .later k (le-refl k)) m }) P
+
 pub moved-stored : (q c : ℕ) (rows out : List (List ℕ)) (i : ℕ) → classes ≤ i → Passed [] (MovedRow q c rows) 0 i rows out → MovedRows q c rows out
-moved-stored q c rows out i done P = record { each = λ r l. P .stored r (omega arith) (omega arith) .is }
+moved-stored q c rows out i done P = record { as-long = P .as-long; each = λ r l. P .stored r (omega arith) (omega arith) .is }

@@ -6,7 +6,7 @@
 --   discrepancyAt           that of class r
 --   discrepancy-live, discrepancy-spent, discrepancy-small   as an element it is the value of the row; or it is zero; always a symbol
 --   NextRows at a ds rows out   out has the rows after a step at class at: the pivot's is multiplied by x + a, and another is cleared, by the multiple of
---                           the pivot's that takes its discrepancy away; where there is no class at, nothing changes
+--                           the pivot's that takes its discrepancy away
 --   MovedRows q c rows out  the same rows by another symbol at place q, c away from the old one
 use mathlib.Core.Path.{_≡_, refl, sym, ap, _∙_}
 use mathlib.Core.List.{List, []}
@@ -15,7 +15,7 @@ use mathlib.Core.Bool.{Bool, true, false, cond}
 use Prim.Native.Nat.{ℕ, _<_, _≤_}
 use native.Mathlib.Omega.{arith}
 use lib.Dec.{ltb}
-use lib.ListN.{getD}
+use lib.ListN.{length, getD}
 use borrow.Author.Tests.{lt-ltb, le-ltb}
 use Rattle.algebra.specs.Field.{Field}
 use Rattle.galois.specs.Gf16.{times, inverse}
@@ -57,10 +57,11 @@ module _ (L l : ℕ) (row : List ℕ) (p : ℕ) where
       go false = symbol-lt (wholeOf row) p
 
 pub record NextRows (at a : ℕ) (ds : List ℕ) (rows out : List (List ℕ)) : Type 0 where
-  pub none : classes ≤ at → out ≡ rows
-  pub pivot : at < classes → (h q : ℕ) → h < 2 → q < places m16 → rowValues out at h q ≡ (px m16 q ⊕ toF a) ⊗ rowValues rows at h q
-  pub other : at < classes → (r : ℕ) → r < classes → r ≢ at → (h q : ℕ) → h < 2
+  pub as-long : length out ≡ length rows
+  pub pivot : (h q : ℕ) → h < 2 → q < places m16 → rowValues out at h q ≡ (px m16 q ⊕ toF a) ⊗ rowValues rows at h q
+  pub other : (r : ℕ) → r < classes → r ≢ at → (h q : ℕ) → h < 2
       → rowValues out r h q ≡ rowValues rows r h q ⊕ toF (times (getD ds r 0) (inverse (getD ds at 0))) ⊗ rowValues rows at h q
 
 pub record MovedRows (q c : ℕ) (rows out : List (List ℕ)) : Type 0 where
+  pub as-long : length out ≡ length rows
   pub each : (r : ℕ) → r < classes → Moved (getD rows r []) q c (getD out r [])

@@ -1,6 +1,7 @@
 // One step of Kötter's algorithm on the eight rows and their leads.
 ghost use mathlib.Core.Path.{_≡_};
 ghost use Prim.Native.Nat.{_<_, _%_};
+ghost use lib.ListN.{length};
 ghost use Rattle.lists.specs.Listed.{listed};
 ghost use Rattle.galois.specs.Gf16.{times};
 ghost use Rattle.planes.specs.Rows.{AddedBy};
@@ -30,8 +31,9 @@ fn discrepancy(row: Row, lead: usize, limit: usize, place: usize) -> u8
     at(whole(row), place)
 }
 
-pub fn discrepancies(rows: Rows, leads: Leads, limit: usize, place: usize) -> [u8; CLASSES]
-    ensures { λ r. ⌜ r ≡ listed 8 (discrepancyAt limit leads rows (place % 64)) ⌝ }
+pub fn discrepancies(rows: &Rows, leads: Leads, limit: usize, place: usize) -> [u8; CLASSES]
+    requires { ⌜ length (now rows) ≡ 8 ⌝ }
+    ensures { λ r. ⌜ r ≡ listed 8 (discrepancyAt limit leads (now (rows .entry)) (place % 64)) ⌝ }
 {
     let mut out = [0u8; CLASSES];
     let mut r = 0;
@@ -79,36 +81,32 @@ fn next_row(row: Row, d: u8, by: u8, pivots: &Multiples) -> Row
     added(row, product(d, by), pivots)
 }
 
-// The rows after a step at class `at`, where the place's x is a; with no such class they stay.
-pub fn next_rows(rows: Rows, ds: [u8; CLASSES], at: usize, a: u8) -> Rows
-    ensures { λ r. ⌜ NextRows at a ds rows r ⌝ }
+// The rows after a step at class `at`, where the place's x is a. They are changed where they stand.
+pub fn next_rows(rows: &mut Rows, ds: [u8; CLASSES], at: usize, a: u8)
+    requires { ⌜ (length (now rows) ≡ 8) × (at < 8) ⌝ }
+    ensures { λ _. ⌜ NextRows at a ds (now (rows .entry)) (now (rows .exit)) ⌝ }
 {
-    if CLASSES <= at {
-        return rows;
-    }
     let pivot = rows[at];
     let by = inverse(ds[at]);
     let pivots = multiples(pivot);
-    let mut out = rows;
     let mut r = 0;
     while r < CLASSES {
-        out[r] = next_row(rows[r], ds[r], by, &pivots);
+        let row = rows[r];
+        rows[r] = next_row(row, ds[r], by, &pivots);
         r += 1;
     }
-    out[at] = raised(pivot, a);
-    out
+    rows[at] = raised(pivot, a);
 }
 
 // The rows by another symbol at one place.
-pub fn moved_rows(rows: Rows, place: usize, change: u8) -> Rows
-    requires { ⌜ place < 64 ⌝ }
-    ensures { λ r. ⌜ MovedRows place change rows r ⌝ }
+pub fn moved_rows(rows: &mut Rows, place: usize, change: u8)
+    requires { ⌜ (length (now rows) ≡ 8) × (place < 64) ⌝ }
+    ensures { λ _. ⌜ MovedRows place change (now (rows .entry)) (now (rows .exit)) ⌝ }
 {
-    let mut out = rows;
     let mut r = 0;
     while r < CLASSES {
-        out[r] = moved(rows[r], place, change);
+        let row = rows[r];
+        rows[r] = moved(row, place, change);
         r += 1;
     }
-    out
 }

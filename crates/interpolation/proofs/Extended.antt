@@ -71,7 +71,7 @@ module _ (L : ℕ) (rows : List (List ℕ)) (leads : List ℕ) (p : ℕ) (inside
         go (one s f) = live at h (s .passes .nonzero)
 
     pub extends-same : classes ≤ at → ExtendsOwn L p rows leads rows leads
-    extends-same h = record { as-long = refl; stored = λ M word ns S. stepped-stored m16 S p inside (go chosen) }
+    extends-same h = record { rows-long = refl; as-long = refl; stored = λ M word ns S. stepped-stored m16 S p inside (go chosen) }
       where
         go : Chosen classes ds leads at → Stepped m16 L p (rowValues rows) (leadAt leads) (rowValues rows) (leadAt leads)
         go (none q z) = same (λ r l u. sym (element r l u) ∙ ap toF (z r l) ∙ toF-zero) (λ r l. refl) (λ r l u a b c d. refl)
@@ -82,6 +82,7 @@ module _ (L : ℕ) (rows : List (List ℕ)) (leads : List ℕ) (p : ℕ) (inside
     unfolding leadAt
     extends-raised rows′ x h size x-is next =
         record {
+          rows-long = next .as-long;
           as-long = length-set leads at (getD leads at 0 + 8);
           stored = λ M word ns S. stepped-stored m16 S p inside (go chosen);
         }
@@ -93,9 +94,9 @@ module _ (L : ℕ) (rows : List (List ℕ)) (leads : List ℕ) (p : ℕ) (inside
         go (none q z) = absurd (omega arith)
         go (one s f) =
             raised-at at (pivot at s) (getD-set-same leads at _ 0 (omega arith)) (λ r l n. getD-set-other leads at r _ 0 n)
-            (λ k q a b. next .pivot h k q a b ∙ ap (λ y. (px m16 q ⊕ y) ⊗ rowValues rows at k q) point)
+            (λ k q a b. next .pivot k q a b ∙ ap (λ y. (px m16 q ⊕ y) ⊗ rowValues rows at k q) point)
             (λ r l n u k q a b.
-            next .other h r l n k q a
+            next .other r l n k q a
             ∙ ap (λ y. rowValues rows r k q ⊕ y ⊗ rowValues rows at k q)
             (toF-times (getD ds r 0) (inverse (getD ds at 0))
             ∙ ap₂ (λ y z. y ⊗ z) (element r l u) (toF-inverse (getD ds at 0) ∙ ap (K16 .inv) (element at h (live at h (s .passes .nonzero))))))
@@ -110,11 +111,12 @@ change-there word p z q n = ap (λ x. toF (getD word q 0) ⊕ toF x) (getD-set-o
 
 module _ {L p c : ℕ} {rows : List (List ℕ)} {leads : List ℕ} {rows′ : List (List ℕ)} {leads′ : List ℕ} where
   -- what `extend_own` makes of rows that are moved
-  extends-by : (between : List (List ℕ))
+  extends-by : (between : List (List ℕ)) → length between ≡ length rows
       → ((M : ℕ) (word : List ℕ) (ns : List Node) (z : ℕ) → p < length word → c ≡ bitXor (getD word p 0) z → Stored M word L ns rows leads → Stored M (set word p z) L ns between leads)
       → ExtendsOwn L p between leads rows′ leads′ → Extends L p c rows leads rows′ leads′
-  extends-by between move E =
+  extends-by between long move E =
       record {
+        rows-long = E .rows-long ∙ long;
         as-long = E .as-long;
         stored = λ M word ns z h e S.
             subst (λ s. Stored M (set word p z) L (node p s ∷ ns) rows′ leads′) (getD-set-same word p z 0 h) (E .stored M (set word p z) ns (move M word ns z h e S));
@@ -122,7 +124,7 @@ module _ {L p c : ℕ} {rows : List (List ℕ)} {leads : List ℕ} {rows′ : Li
 
   pub extends-moved : (between : List (List ℕ)) → MovedRows p c rows between → ExtendsOwn L p between leads rows′ leads′ → Extends L p c rows leads rows′ leads′
   unfolding rowValues
-  extends-moved between moved E = extends-by between (λ M word ns z h e S. moved-stored m16 S (set word p z) (λ r q l k. whole word z h e r q l k (ℕ-discrete q p)) (λ r q l k. moved .each r l .slopes q)) E
+  extends-moved between moved E = extends-by between (moved .as-long) (λ M word ns z h e S. moved-stored m16 S (set word p z) (λ r q l k. whole word z h e r q l k (ℕ-discrete q p)) (λ r q l k. moved .each r l .slopes q)) E
     where
       whole : (word : List ℕ) (z : ℕ) → p < length word → c ≡ bitXor (getD word p 0) z → (r q : ℕ) → r < classes → q < places m16 → Dec (q ≡ p)
           → rowValues between r 0 q ≡ rowValues rows r 0 q ⊕ (toF (getD word q 0) ⊕ toF (getD (set word p z) q 0)) ⊗ rowValues rows r 1 q
@@ -136,7 +138,7 @@ module _ {L p c : ℕ} {rows : List (List ℕ)} {leads : List ℕ} {rows′ : Li
 
   -- no change: the symbols are the same elements, though not always the same numbers
   pub extends-kept : c ≡ 0 → ExtendsOwn L p rows leads rows′ leads′ → Extends L p c rows leads rows′ leads′
-  extends-kept no-change E = extends-by rows (λ M word ns z h e S. moved-stored m16 S (set word p z) (λ r q l k. whole word z h e r q (ℕ-discrete q p)) (λ r q l k. refl)) E
+  extends-kept no-change E = extends-by rows refl (λ M word ns z h e S. moved-stored m16 S (set word p z) (λ r q l k. whole word z h e r q (ℕ-discrete q p)) (λ r q l k. refl)) E
     where
       apart : (word : List ℕ) (z : ℕ) → p < length word → c ≡ bitXor (getD word p 0) z → (q : ℕ) → Dec (q ≡ p) → toF (getD word q 0) ⊕ toF (getD (set word p z) q 0) ≡ 𝟘
       apart word z h e q (yes i) =

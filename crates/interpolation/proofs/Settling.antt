@@ -22,11 +22,12 @@ use Rattle.interpolation.specs.Settled.{settled, settled-nil, settled-su
 pub extends-taken : {L p flag : ℕ} {rows : List (List ℕ)} {leads : List ℕ} {rows′ : List (List ℕ)} {leads′ : List ℕ} → flag ≡ 1
     → ExtendsOwn L p rows leads rows′ leads′ → ExtendsIf L p flag rows leads rows′ leads′
 extends-taken {L} {p} {flag} {rows} {leads} {rows′} {leads′} e t =
-    subst (λ f. ExtendsIf L p f rows leads rows′ leads′) (sym e) (record { as-long = t .as-long; stored = t .stored })
+    subst (λ f. ExtendsIf L p f rows leads rows′ leads′) (sym e) (record { rows-long = t .rows-long; as-long = t .as-long; stored = t .stored })
 
 pub extends-not : (L p flag : ℕ) (rows : List (List ℕ)) (leads : List ℕ) → flag ≢ 1 → ExtendsIf L p flag rows leads rows leads
 extends-not L p flag rows leads e =
     record {
+      rows-long = refl;
       as-long = refl;
       stored = λ M word ns S. subst (λ b. Stored M word L (cond b (node p (getD word p 0) ∷ ns) ns) rows leads) (sym (ne-eqb flag 1 e)) S;
     }

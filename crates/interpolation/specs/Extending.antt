@@ -19,10 +19,12 @@ abbrev pub Stored : ℕ → List ℕ → ℕ → List Node → List (List ℕ) �
 Stored M word L ns rows leads = Values.Stored m16 M word L ns (rowValues rows) (leadAt leads)
 
 pub record ExtendsOwn (L p : ℕ) (rows : List (List ℕ)) (leads : List ℕ) (rows′ : List (List ℕ)) (leads′ : List ℕ) : Type 0 where
+  pub rows-long : length rows′ ≡ length rows
   pub as-long : length leads′ ≡ length leads
   pub stored : (M : ℕ) (word : List ℕ) (ns : List Node) → Stored M word L ns rows leads → Stored M word L (node p (getD word p 0) ∷ ns) rows′ leads′
 
 pub record Extends (L p c : ℕ) (rows : List (List ℕ)) (leads : List ℕ) (rows′ : List (List ℕ)) (leads′ : List ℕ) : Type 0 where
+  pub rows-long : length rows′ ≡ length rows
   pub as-long : length leads′ ≡ length leads
   pub stored : (M : ℕ) (word : List ℕ) (ns : List Node) (z : ℕ) → p < length word → c ≡ bitXor (getD word p 0) z → Stored M word L ns rows leads
       → Stored M (set word p z) L (node p z ∷ ns) rows′ leads′

@@ -16,6 +16,7 @@ settled word flags zero = []
 settled word flags (suc p) = cond (eqb (getD flags p 0) 1) (node p (getD word p 0) ∷ settled word flags p) (settled word flags p)
 
 pub record ExtendsIf (L p flag : ℕ) (rows : List (List ℕ)) (leads : List ℕ) (rows′ : List (List ℕ)) (leads′ : List ℕ) : Type 0 where
+  pub rows-long : length rows′ ≡ length rows
   pub as-long : length leads′ ≡ length leads
   pub stored : (M : ℕ) (word : List ℕ) (ns : List Node) → Stored M word L ns rows leads
       → Stored M word L (cond (eqb flag 1) (node p (getD word p 0) ∷ ns) ns) rows′ leads′

@@ -10,14 +10,13 @@ use basis::Leads;
 use basis::Rows;
 
 // A place whose flag is not 1 changes nothing.
-fn extend_if(rows: Rows, leads: &mut Leads, limit: usize, place: usize, flag: u8) -> Rows
-    requires { ⌜ (length (now leads) ≡ 8) × (limit ≤ 127) × (place < 64) ⌝ }
-    ensures { λ r. ⌜ ExtendsIf limit place flag rows (now (leads .entry)) r (now (leads .exit)) ⌝ }
+fn extend_if(rows: &mut Rows, leads: &mut Leads, limit: usize, place: usize, flag: u8)
+    requires { ⌜ (length (now rows) ≡ 8) × (length (now leads) ≡ 8) × (limit ≤ 127) × (place < 64) ⌝ }
+    ensures { λ _. ⌜ ExtendsIf limit place flag (now (rows .entry)) (now (leads .entry)) (now (rows .exit)) (now (leads .exit)) ⌝ }
 {
     if flag == 1 {
-        return extend_own(rows, leads, limit, place);
+        extend_own(rows, leads, limit, place);
     }
-    rows
 }
 
 // In place order, from the start basis: the places with flag 1, each with the word's symbol.
@@ -35,8 +34,7 @@ pub fn settle(
     let mut rows = crate::start::start_rows(m, word);
     let mut place = 0;
     while place < PLACES {
-        let next = extend_if(rows, leads, limit, place, flags[place]);
-        rows = next;
+        extend_if(&mut rows, leads, limit, place, flags[place]);
         place += 1;
     }
     rows

@@ -122,9 +122,10 @@ fn branch(
         return below(known, tests, costs);
     }
     let limit = largest_key(k, blanks);
+    let mut next_rows = rows;
     let mut next_leads = leads;
     let change = word[place] ^ symbol;
-    let next_rows = extend(rows, &mut next_leads, limit, place, change);
+    extend(&mut next_rows, &mut next_leads, limit, place, change);
     search(
         next_rows,
         next_leads,

@@ -160,18 +160,19 @@ branch-array-read-change t c = search needs
 
 branch-extend-requires : (t : ℕ) → branch-lts.Need-extend-requires (branch-claims t) (branch-at t) branch.Post
 branch-extend-requires t c κs =
-    let l = subst (λ n. n ≤ 127) (sym (c .before .largest-key .ensures)) (limit-small (c .before .before .before .before .before .pre .1 .0) _) in
-    (search needs, l, search needs)
+    let l = subst (λ n. n ≤ 127) (sym (c .before .before .largest-key .ensures)) (limit-small (c .before .before .before .before .before .before .pre .1 .0) _) in
+    (search needs, search needs, l, search needs)
 
 branch-search-requires : (t : ℕ) → branch-lts.Need-search-requires (branch-claims t) (branch-at t) branch.Post
 branch-search-requires t c κs =
-    let h = c .before .before .before .before .before .before .pre in
+    let h = c .before .before .before .before .before .before .before .pre in
     (omega (arith, h .0), (h .1 .0, h .1 .1, h .1 .3, h .1 .4))
 
 branch-returns-2 : (t : ℕ) → branch-lts.Need-returns-2 (branch-claims t) (branch-at t) branch.Post
 branch-returns-2 t c =
-    let h = c .before .before .before .before .before .before .before .pre .1 in
-    (branch-node (h .0) _ _ _ _ _ _ _ _ (branch-lengths t (c .before .before .before .before .before .before .before)) _ (c .before .before .before .largest-key .ensures ∙ limit-marked (h .4)) _ _ (c .before .extend .ensures) _ (c .search .ensures .0), c .search .ensures .1)
+    let s = c .before .before .before .before .before .before .before .before in
+    let h = s .pre .1 in
+    (branch-node (h .0) _ _ _ _ _ _ _ _ (branch-lengths t s) _ (c .before .before .before .before .largest-key .ensures ∙ limit-marked (h .4)) _ _ (c .before .extend .ensures) _ (c .search .ensures .0), c .search .ensures .1)
 
 branches-lengths : (t : ℕ) (c : branches-lts.Start (branches-claims t) (branches-at t) branches.Post)
     → length (c .args .t6 .doubtful) ≡ 8

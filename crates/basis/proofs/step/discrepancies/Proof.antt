@@ -4,7 +4,7 @@ use mathlib.Core.Path.{_≡_}
 use mathlib.Core.List.{_++_}
 use Prim.Native.Nat.{_≤_, _-_, _%_}
 use native.Mathlib.Omega.{arith}
-use lib.ListN.{drop, replicate}
+use lib.ListN.{length, drop, replicate}
 use Rattle.lists.specs.Listed.{listed, listed-start, listed-store, listed-end}
 use Rattle.basis.specs.Choice.{leadAt}
 use Rattle.basis.specs.Step.{discrepancyAt}
@@ -12,19 +12,19 @@ use Rattle.basis.proofs.step.discrepancies.Statement.{statement}
 use Rattle.basis.proofs.step.discrepancies.Tie as tie
 
 abbrev Inv-loop : tie.InvT-loop
-Inv-loop limit place rows leads out₀ r₀ out r = (r ≤ 8) × (out ≡ listed r (discrepancyAt limit leads rows (place % 64)) ++ drop r (replicate 8 0))
+Inv-loop rows limit place leads out₀ r₀ out r = (r ≤ 8) × (length rows ≡ 8) × (out ≡ listed r (discrepancyAt limit leads rows (place % 64)) ++ drop r (replicate 8 0))
 
 abbrev μ-loop : tie.MeasureT-loop
-μ-loop limit place rows leads out₀ r₀ out r = 8 - r
+μ-loop rows limit place leads out₀ r₀ out r = 8 - r
 
 loop-holds : tie.Need-loop-holds Inv-loop μ-loop
-loop-holds c = (search needs, listed-start _ _)
+loop-holds c = (search needs, search needs, listed-start _ _)
 
 mul-discrepancy : tie.Need-mul-discrepancy Inv-loop μ-loop
 mul-discrepancy c = search needs
 
-array-copy-out-discrepancy : tie.Need-array-copy-out-discrepancy Inv-loop μ-loop
-array-copy-out-discrepancy c = search needs
+element-copy-out-discrepancy : tie.Need-element-copy-out-discrepancy Inv-loop μ-loop
+element-copy-out-discrepancy c = search needs
 
 mul-discrepancy-2 : tie.Need-mul-discrepancy-2 Inv-loop μ-loop
 mul-discrepancy-2 c = search needs
@@ -46,12 +46,14 @@ loop-less c = search needs
 
 loop-again : tie.Need-loop-again Inv-loop μ-loop
 unfolding discrepancyAt leadAt
-loop-again c = (search needs, listed-store 0 _ (replicate 8 0) _ _ _ (search needs) (c .discrepancy .ensures) (c .before .before .before .loop .inv .1))
+loop-again c =
+    let i = c .before .before .before .loop .inv in
+    (search needs, i .1, listed-store 0 _ (replicate 8 0) _ _ _ (search needs) (c .discrepancy .ensures) (i .2))
 
 returns : tie.Need-returns Inv-loop μ-loop
 returns c =
     let e : c .before .loop .r ≡ 8 = omega arith in
-    rw e at (listed-end _ (replicate 8 0) _ _ (search needs) (c .before .loop .inv .1))
+    rw e at (listed-end _ (replicate 8 0) _ _ (search needs) (c .before .loop .inv .2))
 
 pub discrepancies-spec : {M : Type 1} → statement M
 discrepancies-spec =
@@ -61,7 +63,7 @@ discrepancies-spec =
     μ-loop
     loop-holds
     mul-discrepancy
-    array-copy-out-discrepancy
+    element-copy-out-discrepancy
     mul-discrepancy-2
     array-read-discrepancy
     discrepancy-requires

@@ -1,38 +1,38 @@
 -- Each row passed has moved.
 use borrow.Author.Needs.{needs}
-use mathlib.Core.Path.{_≡_}
+use mathlib.Core.Path.{_≡_, _∙_}
 use mathlib.Core.List.{[]}
 use Prim.Native.Nat.{_-_}
 use lib.ListN.{length}
-use Rattle.lists.specs.Passed.{Passed, passed-start, passed-turn}
+use Rattle.lists.specs.Passed.{Passed, passed-start}
 use Rattle.basis.specs.Step.{classes}
-use Rattle.basis.proofs.Rowwise.{MovedRow, moved-stored}
+use Rattle.basis.proofs.Rowwise.{MovedRow, moved-turn, moved-stored}
 use Rattle.basis.proofs.step.moved_rows.Statement.{statement}
 use Rattle.basis.proofs.step.moved_rows.Tie as tie
 
 abbrev Inv-loop : tie.InvT-loop
-Inv-loop place change rows out₀ r₀ out r = (length rows ≡ classes) × Passed [] (MovedRow place change rows) 0 r rows out
+Inv-loop rows₀ place change r₀ rows r = (length rows₀ ≡ classes) × (length rows ≡ classes) × Passed [] (MovedRow place change rows₀) 0 r rows₀ rows
 
 abbrev μ-loop : tie.MeasureT-loop
-μ-loop place change rows out₀ r₀ out r = classes - r
+μ-loop rows₀ place change r₀ rows r = classes - r
 
 loop-holds : tie.Need-loop-holds Inv-loop μ-loop
-loop-holds c = (search needs, passed-start [] _ 0 _)
+loop-holds c = (search needs, search needs, passed-start [] _ 0 _)
 
-mul-moved : tie.Need-mul-moved Inv-loop μ-loop
-mul-moved c = search needs
+mul-row : tie.Need-mul-row Inv-loop μ-loop
+mul-row c = search needs
 
-array-copy-out-moved : tie.Need-array-copy-out-moved Inv-loop μ-loop
-array-copy-out-moved c = search needs
+element-copy-out-row : tie.Need-element-copy-out-row Inv-loop μ-loop
+element-copy-out-row c = search needs
 
 moved-requires : tie.Need-moved-requires Inv-loop μ-loop
 moved-requires c κs = search needs
 
-mul-out : tie.Need-mul-out Inv-loop μ-loop
-mul-out c = search needs
+mul-t7 : tie.Need-mul-t7 Inv-loop μ-loop
+mul-t7 c = search needs
 
-array-set-from-out : tie.Need-array-set-from-out Inv-loop μ-loop
-array-set-from-out c = search needs
+element-set-from-rows : tie.Need-element-set-from-rows Inv-loop μ-loop
+element-set-from-rows c = search needs
 
 add-r : tie.Need-add-r Inv-loop μ-loop
 add-r c = search needs
@@ -43,10 +43,11 @@ loop-less c = search needs
 loop-again : tie.Need-loop-again Inv-loop μ-loop
 loop-again c =
     let i = c .before .before .before .loop .inv in
-    (i .0, passed-turn [] _ _ (search needs) (search needs) (record { is = c .moved .ensures }) (i .1))
+    let P = moved-turn _ _ _ _ _ _ (search needs) (i .2) (c .moved .ensures) in
+    (i .0, P .as-long ∙ i .0, P)
 
 returns : tie.Need-returns Inv-loop μ-loop
-returns c = moved-stored _ _ _ _ _ (c .loop-test .left) (c .before .loop .inv .1)
+returns c = moved-stored _ _ _ _ _ (c .loop-test .left) (c .before .loop .inv .2)
 
 pub moved-rows-spec : {M : Type 1} → statement M
 moved-rows-spec =
@@ -55,11 +56,11 @@ moved-rows-spec =
     Inv-loop
     μ-loop
     loop-holds
-    mul-moved
-    array-copy-out-moved
+    mul-row
+    element-copy-out-row
     moved-requires
-    mul-out
-    array-set-from-out
+    mul-t7
+    element-set-from-rows
     add-r
     loop-less
     loop-again

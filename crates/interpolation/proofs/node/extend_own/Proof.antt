@@ -39,7 +39,7 @@ next-rows-requires c κs = search needs
 
 returns-2 : tie.Need-returns-2
 returns-2 c =
-    extends-raised _ _ _ _ (search needs) _ (c .before .before .before .before .discrepancies .ensures) _ (c .before .before .before .choice .ensures) _ _ (search needs) (search needs)
+    extends-raised _ _ _ _ (search needs) _ (c .before .before .before .before .before .discrepancies .ensures) _ (c .before .before .before .before .choice .ensures) _ _ (search needs) (search needs)
     (c .before .x-at .ensures) (c .next-rows .ensures)
 
 pub extend-own-spec : {M : Type 1} → statement M

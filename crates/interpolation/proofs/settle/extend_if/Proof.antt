@@ -8,7 +8,7 @@ extend-own-requires : tie.Need-extend-own-requires
 extend-own-requires c κs = search needs
 
 returns : tie.Need-returns
-returns c = extends-taken (c .before .before .if1 .taken) (c .extend-own .ensures)
+returns c = extends-taken (c .before .before .before .if1 .taken) (c .extend-own .ensures)
 
 returns-2 : tie.Need-returns-2
 returns-2 c = extends-not _ _ _ _ _ (c .if1 .left)

@@ -15,7 +15,7 @@ use Rattle.interpolation.proofs.settle.settle.Tie as tie
 
 abbrev Inv-loop : tie.InvT-loop
 Inv-loop m limit leads₀ flags rows₀ place₀ leads rows place =
-    (place ≤ 64) × (length leads ≡ 8)
+    (place ≤ 64) × (length leads ≡ 8) × (length rows ≡ 8)
     × ((word : List ℕ) → Stored m word limit (settled word flags 0) rows₀ leads₀ → Stored m word limit (settled word flags place) rows leads)
 
 abbrev μ-loop : tie.MeasureT-loop
@@ -30,13 +30,15 @@ start-rows-requires c κs = search needs
 loop-holds : tie.Need-loop-holds Inv-loop μ-loop
 loop-holds c =
     let e = c .before .start-leads .ensures in
-    (search needs, ap length e ∙ listed-length 8 (first 4 _), λ word S. S)
+    (search needs, ap length e ∙ listed-length 8 (first 4 _), search needs, λ word S. S)
 
 array-read-extend-if : tie.Need-array-read-extend-if Inv-loop μ-loop
 array-read-extend-if c = search needs
 
 extend-if-requires : tie.Need-extend-if-requires Inv-loop μ-loop
-extend-if-requires c κs = search needs
+extend-if-requires c κs =
+    let i = c .before .before .before .loop .inv in
+    (i .2, i .1, search needs, search needs)
 
 add-place : tie.Need-add-place Inv-loop μ-loop
 add-place c = search needs
@@ -46,14 +48,14 @@ loop-less c = search needs
 
 loop-again : tie.Need-loop-again Inv-loop μ-loop
 loop-again c =
-    let i = c .before .before .before .loop .inv in
-    (search needs, c .extend-if .ensures .as-long ∙ i .1, λ word S. settle-turn _ _ word _ _ _ _ _ _ (c .extend-if .ensures) (i .2 word S))
+    let i = c .before .before .before .before .loop .inv in
+    (search needs, c .extend-if .ensures .as-long ∙ i .1, c .extend-if .ensures .rows-long ∙ i .2, λ word S. settle-turn _ _ word _ _ _ _ _ _ (c .extend-if .ensures) (i .3 word S))
 
 returns : tie.Need-returns Inv-loop μ-loop
 returns c =
     let e : c .before .loop .place ≡ 64 = omega arith in
     let start = settle-start _ _ _ _ _ _ (c .before .before .before .start-leads .ensures) (c .before .before .start-rows .ensures) in
-    rw e at (c .before .loop .inv .2 _ start)
+    rw e at (c .before .loop .inv .3 _ start)
 
 pub settle-spec : {M : Type 1} → statement M
 settle-spec =
