@@ -2,9 +2,8 @@
 --
 --   Cleared ds by pivot rows   of row k: what is stored is the row and a multiple of the pivot's
 --   step-stored                the pivot's row is the last to be stored
-use mathlib.Core.Path.{_≡_, refl, sym, ap, _∙_, subst}
+use mathlib.Core.Path.{_≡_, ap, _∙_, subst}
 use mathlib.Core.List.{List, []}
-use mathlib.Core.Logic.{_≢_}
 use Prim.Native.Nat.{ℕ, _+_, _<_, _≤_}
 use native.Mathlib.Nat.{le-refl}
 use native.Mathlib.Omega.{arith}

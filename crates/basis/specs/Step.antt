@@ -8,7 +8,7 @@
 --   NextRows at a ds rows out   out has the rows after a step at class at: the pivot's is multiplied by x + a, and another is cleared, by the multiple of
 --                           the pivot's that takes its discrepancy away
 --   MovedRows q c rows out  the same rows by another symbol at place q, c away from the old one
-use mathlib.Core.Path.{_≡_, refl, sym, ap, _∙_}
+use mathlib.Core.Path.{_≡_, sym, ap, _∙_}
 use mathlib.Core.List.{List, []}
 use mathlib.Core.Logic.{_≢_}
 use mathlib.Core.Bool.{Bool, true, false, cond}

@@ -1,22 +1,19 @@
 -- From the settled places to the root of the tree: nodes, the known rates, and the blank places.
-use mathlib.Core.Bool.{Bool, true, false, not, cond}
+use mathlib.Core.Bool.{Bool, true, false, not}
 use mathlib.Core.Path.{_≡_, refl, sym, ap, _∙_, subst, subst₂}
-use mathlib.Core.List.{List, _∷_, List·Memᴰ, List·Memᴰ·head, List·Memᴰ·tail, List·Memᴰ·cases-cons, List·Memᴰ·not-nil}
-use mathlib.Core.Logic.{⊎-elim}
-use Prim.Native.Nat.{ℕ, zero, suc, _-_, _*_, _<_, _≤_}
-use native.Mathlib.Nat.{eq-or-lt-of-le, le-of-suc-le-suc, le-step}
+use mathlib.Core.List.{List, List·Memᴰ}
+use Prim.Native.Nat.{ℕ, _-_, _*_, _<_, _≤_}
 use native.Mathlib.Omega.{arith}
-use lib.Dec.{T, eqb}
+use lib.Dec.{T}
 use lib.ListN.{length, getD, take, drop, length-take}
-use borrow.Author.Tests.{eq-eqb, eqb-true}
 use Rattle.lists.specs.Count.{count}
 use Rattle.lists.specs.Every.{true-T, T-true}
 use Rattle.family.specs.Member as Family
 use Rattle.family.specs.Member.{Member, m16}
-use Rattle.family.specs.Nodes.{Node, node}
 use Rattle.code.specs.Encoding.{knownRate}
 use Rattle.code.specs.Rates.{known-bounds}
-use Rattle.interpolation.specs.Settled.{settled, settled-nil, settled-suc}
+use Rattle.interpolation.specs.Settled.{settled}
+use Rattle.interpolation.specs.Flagged.{settled-member, settled-only}
 use Rattle.near.specs.Here.{mOf, limitOf, blankLimit, blanksIn}
 use Rattle.near.specs.Tree.{Places, places-unblanked, Decided}
 use Rattle.near.specs.Flags.{Flagged}
@@ -45,45 +42,16 @@ known-range k e = let h = known-bounds k e in record { least = omega arith; most
 -- ---- the nodes of the settled places
 
 module _ (word flags : List ℕ) where
-  settled-inside : (m : ℕ) (n : Node) → List·Memᴰ n (settled word flags m) → (p : ℕ) × (p < m) × (getD flags p 0 ≡ 1) × (n ≡ node p (getD word p 0))
-  settled-inside zero n i = absurd (List·Memᴰ·not-nil (subst (List·Memᴰ n) (settled-nil word flags) i))
-  settled-inside (suc m) n i =
-      go (eqb (getD flags m 0) 1) refl (subst (List·Memᴰ n) (settled-suc word flags m) i) (settled-inside m n)
-    where
-      go : (b : Bool) → eqb (getD flags m 0) 1 ≡ b
-          → List·Memᴰ n (cond b (node m (getD word m 0) ∷ settled word flags m) (settled word flags m))
-          → (List·Memᴰ n (settled word flags m) → (p : ℕ) × (p < m) × (getD flags p 0 ≡ 1) × (n ≡ node p (getD word p 0)))
-          → (p : ℕ) × (p < suc m) × (getD flags p 0 ≡ 1) × (n ≡ node p (getD word p 0))
-      go true e j ih =
-          ⊎-elim (λ (q : n ≡ node m (getD word m 0)). (m, omega arith, eqb-true (getD flags m 0) 1 e, q))
-          (λ a. let r = ih a in (r .0, le-step (r .1), r .2, r .3)) (List·Memᴰ·cases-cons j)
-      go false e j ih = let r = ih j in (r .0, le-step (r .1), r .2, r .3)
-
-  settled-covers : (m p : ℕ) → p < m → getD flags p 0 ≡ 1 → List·Memᴰ (node p (getD word p 0)) (settled word flags m)
-  settled-covers zero p h e = absurd (omega arith)
-  settled-covers (suc m) p h e =
-      subst (List·Memᴰ (node p (getD word p 0))) (sym (settled-suc word flags m))
-      (⊎-elim
-      (λ (q : p ≡ m).
-      subst (λ b. List·Memᴰ (node p (getD word p 0)) (cond b (node m (getD word m 0) ∷ settled word flags m) (settled word flags m)))
-      (sym (eq-eqb (getD flags m 0) 1 (ap (λ x. getD flags x 0) (sym q) ∙ e))) (List·Memᴰ·head (ap (λ x. node x (getD word x 0)) q)))
-      (λ a. later (eqb (getD flags m 0) 1) (settled-covers m p a e)) (eq-or-lt-of-le (le-of-suc-le-suc h)))
-    where
-      later : (b : Bool) → List·Memᴰ (node p (getD word p 0)) (settled word flags m)
-          → List·Memᴰ (node p (getD word p 0)) (cond b (node m (getD word m 0) ∷ settled word flags m) (settled word flags m))
-      later true a = List·Memᴰ·tail a
-      later false a = a
-
   -- those of the places that count, where the flags are 1 at the settled ones of these and nowhere else
   decided-by : (𝓜 : Member) (counts : ℕ → Bool) (ps : List ℕ) → ((p : ℕ) → p < Family.places 𝓜 → getD flags p 0 ≡ 1 → T (counts p) × (¬ List·Memᴰ p ps))
       → ((p : ℕ) → p < Family.places 𝓜 → T (counts p) → ¬ List·Memᴰ p ps → getD flags p 0 ≡ 1) → Decided 𝓜 counts word ps (settled word flags (Family.places 𝓜))
   decided-by 𝓜 counts ps off on =
       record {
         inside = λ n m.
-            let r = settled-inside (Family.places 𝓜) n m in
-            let q = off (r .0) (r .1) (r .2) in
-            (r .0, r .1, q .0, q .1, r .3);
-        covers = λ p h t n. settled-covers (Family.places 𝓜) p h (on p h t n);
+            let r = settled-only word flags (Family.places 𝓜) n m in
+            let q = off (r .at) (r .below) (r .flag) in
+            (r .at, r .below, q .0, q .1, r .is);
+        covers = λ p h t n. settled-member word flags (Family.places 𝓜) p h (on p h t n);
       }
 
   pub settled-decided : (𝓜 : Member) (counts : ℕ → Bool) (ps : List ℕ) → Flagged (Family.places 𝓜) counts ps flags

@@ -4,24 +4,24 @@
 use mathlib.Core.Logic.{_≢_}
 use mathlib.Core.Path.{_≡_, sym, ap, ap₂, _∙_}
 use mathlib.Core.List.{List}
-use Prim.Native.Nat.{ℕ, _+_, _-_, _*_, _/_, _%_, _<_, _≤_}
+use Prim.Native.Nat.{ℕ, _-_, _<_, _≤_}
 use native.Mathlib.Decide.{decLt, ℕ-discrete}
 use native.Mathlib.Omega.{arith}
 use lib.ListN.{getD, List·getD-eq-default}
-use Rattle.lists.specs.Listed.{listed, listed-at, listed-length}
+use Rattle.lists.specs.Listed.{listed-at, listed-length}
 use Rattle.algebra.specs.Field.{Field, mul-zero, zero-mul, mul-one, mul-assoc}
-use Rattle.algebra.specs.Sum.{sum, sum-ext, sum-scale, sum-scale-right, sum-swap, sum-single, sum-zero}
+use Rattle.algebra.specs.Sum.{sum, sum-ext, sum-scale, sum-scale-right, sum-swap, sum-single}
 use Rattle.algebra.specs.Coefficients.{Below, unit, unit-at, unit-off}
 use Rattle.algebra.specs.Weighted.{weighted-of}
 use Rattle.galois.specs.BinaryField.{GF, K, size, toF, toF-zero}
 use Rattle.hermitian.specs.Present.{Present, decPresent}
 use Rattle.hermitian.specs.Ring.{Fn}
 use Rattle.hermitian.specs.Value.{Val, monomial}
-use Rattle.hermitian.specs.Orders.{order, xPower, yPower, order-of, isPresent}
+use Rattle.hermitian.specs.Orders.{order, xPower, yPower, order-of}
 use Rattle.family.specs.Member.{Member, places, px, py}
 use Rattle.family.specs.Points.{x-below, rest-below}
 use Rattle.family.specs.Evaluation.{present-yes, present-no}
-use Rattle.family.specs.Extraction.{symbolOf, extractedAt, dualAt, powersAt, dual-powers, toF-symbolOf}
+use Rattle.family.specs.Extraction.{extractedAt, dualAt, powersAt, dual-powers, toF-symbolOf}
 use Rattle.coefficients.specs.Duals.{coefficientAt, coefficientsOf}
 
 module _ (𝓜 : Member) {f : ℕ → GF (𝓜 .gf)} (fn : Fn (K (𝓜 .gf)) (𝓜 .w) f) (ends : Below (K (𝓜 .gf)) f (places 𝓜)) (v : List ℕ)

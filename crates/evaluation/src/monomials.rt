@@ -2,9 +2,7 @@
 ghost use mathlib.Core.Path.{_≡_};
 ghost use Prim.Native.Nat.{_%_};
 ghost use Rattle.lists.specs.Listed.{listed};
-ghost use Rattle.code.specs.Evaluation.{monomialAt};
 ghost use Rattle.evaluation.specs.Table.{digitIn, entryIn};
-use crate::table::table;
 
 // The number that a digit of a table shows; 0 beyond its end.
 fn digit(table: &[u8], at: usize) -> u8
@@ -28,12 +26,4 @@ pub fn monomials_in(table: &[u8], place: usize) -> [u8; 64]
         order += 1;
     }
     out
-}
-
-// The monomials of one place, for one who asks for no other.
-pub fn monomials(place: usize) -> [u8; 64]
-    ensures { λ r. ⌜ r ≡ listed 64 (monomialAt (place % 64)) ⌝ }
-{
-    let monomials = table();
-    monomials_in(&monomials, place)
 }

@@ -4,7 +4,7 @@
 --   withoutZ, withZ       Q0 and Q1: the coefficients without and with z, by order
 --   joined M a b          the Q with Q0 = a and Q1 = b
 --   without-joined, with-joined   taking apart undoes joining
---   joined-plus, joined-scale, joined-shift   sums, multiples and multiplication by x, part by part
+--   without-shift, with-shift   multiplication by x, part by part
 --   fn-withoutZ, fn-withZ, interpolant-joined   the parts are functions on the curve, and two such make a Q
 --   below-withoutZ, below-withZ, below-joined   where the parts end, and where Q ends
 --   lead-joined           where Q0 ends M above the lead of Q1, that term with z is the lead of Q
@@ -18,7 +18,7 @@ use Prim.Native.Nat.{ℕ, suc, _+_, _-_, _*_, _/_, _%_, _<_, _≤_}
 use native.Mathlib.Decide.{decLe, ℕ-discrete}
 use native.Mathlib.Omega.{arith}
 use Rattle.algebra.specs.Field.{Field, add-zero, mul-zero}
-use Rattle.algebra.specs.Coefficients.{choose, choose-yes, choose-no, plus, scale, shift, shift-high, shift-low, Below, Lead, below-mono, below-plus, below-scale, below-shift, unit, unit-off, lead-unit}
+use Rattle.algebra.specs.Coefficients.{choose, choose-yes, choose-no, shift, shift-high, shift-low, Below, Lead, below-mono, below-plus, below-scale, below-shift, unit, unit-off, lead-unit}
 use Rattle.algebra.specs.Subspace.{Space}
 use Rattle.algebra.specs.Koetter.{Basis, start}
 use Rattle.hermitian.specs.Present.{Present}
@@ -82,18 +82,6 @@ module _ {F : Type 0} (K : Field F) where
             let e : k ≡ 2 * (k / 2) + 1 = omega arith in
             ap c e ∙ g (k / 2) (omega arith) ∙ sym (h (k / 2) (omega arith)) ∙ ap d (sym e)
 
-    pub joined-plus : (a b c d : ℕ → F) → joined M (plus K a c) (plus K b d) ≡ plus K (joined M a b) (joined M c d)
-    joined-plus a b c d =
-        parts-ext (gap-joined _ _) (λ k h. ap₂ (λ x y. x ⊕ y) (gap-joined a b k h) (gap-joined c d k h) ∙ add-zero K 𝟘)
-        (without-joined _ _ ∙ sym (ap₂ (plus K) (without-joined a b) (without-joined c d)))
-        (with-joined _ _ ∙ sym (ap₂ (plus K) (with-joined a b) (with-joined c d)))
-
-    pub joined-scale : (x : F) (a b : ℕ → F) → joined M (scale K x a) (scale K x b) ≡ scale K x (joined M a b)
-    joined-scale x a b =
-        parts-ext (gap-joined _ _) (λ k h. ap (λ y. x ⊗ y) (gap-joined a b k h) ∙ mul-zero K x)
-        (without-joined _ _ ∙ sym (ap (scale K x) (without-joined a b)))
-        (with-joined _ _ ∙ sym (ap (scale K x) (with-joined a b)))
-
     pub without-shift : (w : ℕ) (c : ℕ → F) → withoutZ (shift K (2 * w) c) ≡ shift K w (withoutZ c)
     without-shift w c = fun-ext (λ o. go o (decLe w o))
       where
@@ -121,12 +109,6 @@ module _ {F : Type 0} (K : Field F) where
             let e : 2 * (o + M) + 1 - 2 * w ≡ 2 * (o - w + M) + 1 = omega arith in
             shift-high K (2 * w) (2 * (o + M) + 1) c (omega arith) ∙ ap c e ∙ sym (shift-high K w o (withZ M c) l)
         go o (no l) = gap-read w c g (o + M) (omega arith) ∙ sym (shift-low K w o (withZ M c) (omega arith))
-
-    pub joined-shift : (w : ℕ) (a b : ℕ → F) → joined M (shift K w a) (shift K w b) ≡ shift K (2 * w) (joined M a b)
-    joined-shift w a b =
-        parts-ext (gap-joined _ _) (λ k h. gap-read w (joined M a b) (gap-joined a b) k (omega arith))
-        (without-joined _ _ ∙ sym (without-shift w (joined M a b) ∙ ap (shift K w) (without-joined a b)))
-        (with-joined _ _ ∙ sym (with-shift w (joined M a b) (gap-joined a b) ∙ ap (shift K w) (with-joined a b)))
 
     pub below-joined : {a b : ℕ → F} {m n : ℕ} (N : ℕ) → 2 * m ≤ N → 2 * (n + M) ≤ N → Below K a m → Below K b n → Below K (joined M a b) N
     below-joined {a} {b} {m} {n} N hm hn p q = record { zero-from = λ k l. go k l (ℕ-discrete (k % 2) 0) (decLe M (k / 2)) }

@@ -13,8 +13,8 @@ use Rattle.lists.specs.Listed.{listed, listed-at}
 use Rattle.lists.specs.Smallest.{Smallest}
 use Rattle.algebra.specs.Field.{Field, add-zero, add-self, zero-mul}
 use Rattle.algebra.specs.Koetter.{Pivot}
-use Rattle.galois.specs.Gf16.{times, inverse}
-use Rattle.galois.specs.Field16.{GF, K16, toF, toF-add, toF-times, toF-inverse, toF-zero, toF-injective}
+use Rattle.galois.specs.Gf16.{inverse}
+use Rattle.galois.specs.Field16.{K16, toF, toF-add, toF-times, toF-inverse, toF-zero, toF-injective}
 use Rattle.family.specs.Member.{m16, places, px}
 use Rattle.family.specs.Nodes.{Node, node}
 use Rattle.curve.specs.Curve.{xOf}

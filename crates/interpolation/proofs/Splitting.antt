@@ -3,7 +3,7 @@ use mathlib.Core.Path.{_≡_, sym, ap, ap₂, _∙_}
 use mathlib.Core.List.{List}
 use Prim.Native.Nat.{ℕ, _<_}
 use native.Mathlib.Nat.{mod-eq-of-lt}
-use Rattle.lists.specs.Listed.{listed, listed-ext}
+use Rattle.lists.specs.Listed.{listed-ext}
 use Rattle.algebra.specs.Field.{Field}
 use Rattle.galois.specs.Field16.{K16, value, value-toF}
 use Rattle.family.specs.Member.{m16, places}

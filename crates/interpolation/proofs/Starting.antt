@@ -7,7 +7,7 @@ use native.Mathlib.Omega.{arith}
 use lib.ListN.{getD}
 use Rattle.lists.specs.Passed.{Passed}
 use Rattle.algebra.specs.Field.{Field}
-use Rattle.algebra.specs.Power.{pow, pow-nil, pow-suc, pow-one}
+use Rattle.algebra.specs.Power.{pow-nil, pow-suc, pow-one}
 use Rattle.galois.specs.Field16.{K16, toF, toF-zero, toF-one}
 use Rattle.hermitian.specs.Keys.{key, zPower, first, first-even, first-odd}
 use Rattle.family.specs.Member.{m16, places, py}

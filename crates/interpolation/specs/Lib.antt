@@ -1,6 +1,6 @@
 pub mod Start
 pub mod Extending
 pub mod Settled
-pub mod Through
+pub mod Flagged
 pub mod Parts
 pub mod Reading

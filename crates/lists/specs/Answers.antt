@@ -5,7 +5,7 @@
 --   Answers cost P o      o is none and nothing has P; or o is some m, which has P and beats every other word that has P
 --   answers-unique        there is one answer
 --   answers-some, answers-none  what it says of the word answered, and where there is none
---   answers-iff, answers-cost   it depends on P and on the cost only by what they say of words
+--   answers-iff           it depends on P only by what it says of words
 --   better cost o o′      the better of two answers; better-answers: it answers 'P or Q' where they answer P and Q
 --   firstThat test ws     the first word of ws that passes: an answer where all cost the same (free)
 --   cheapest cost test ws the cheapest of those that pass, the first of them where costs are equal
@@ -76,15 +76,6 @@ module _ {cost : List ℕ → ℕ} {P : List ℕ → Type 0} where
   pub answers-iff : {Q : List ℕ → Type 0} {o : Option (List ℕ)} → ((m : List ℕ) → P m ↔ Q m) → Answers cost P o → Answers cost Q o
   answers-iff i (nobody f) = nobody (λ m q. f m (i m .1 q))
   answers-iff i (best p f) = best (i _ .0 p) (λ n q. f n (i n .1 q))
-
-  pub answers-cost : {dues : List ℕ → ℕ} {o : Option (List ℕ)} → ((m : List ℕ) → P m → cost m ≡ dues m) → Answers cost P o → Answers dues P o
-  answers-cost i (nobody f) = nobody f
-  answers-cost {dues} i (best {m = m} p f) = best p (λ n q. go n q (f n q))
-    where
-      go : (n : List ℕ) → P n → NoWorse cost m n → NoWorse dues m n
-      go n q (inl e) = inl e
-      go n q (inr (cheaper h)) = inr (cheaper (omega (arith, i m p, i n q)))
-      go n q (inr (earlier e h)) = inr (earlier (sym (i m p) ∙ e ∙ i n q) h)
 
 -- one of two answers, by a test
 abbrev pub pick : Bool → Option (List ℕ) → Option (List ℕ) → Option (List ℕ)

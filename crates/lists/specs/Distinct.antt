@@ -69,14 +69,6 @@ and-assoc false b c = refl
 
 -- ---- one list after another
 
-pub among-nil : (p : ℕ) → among p [] ≡ false
-unfolding among
-among-nil p = refl
-
-pub among-one : (p x : ℕ) → among p (x ∷ []) ≡ true → x ≡ p
-unfolding among
-among-one p x a = eqb-true x p (sym (or-false (eqb x p)) ∙ a)
-
 pub among-append : (p : ℕ) (l m : List ℕ) → among p (l ++ m) ≡ (among p l || among p m)
 unfolding among
 among-append p [] m = refl

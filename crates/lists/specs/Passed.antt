@@ -3,14 +3,11 @@
 --   Passed d P from i before out   out is as long as before, P k holds of the entry k for from ≤ k < i, and the other entries are those of before
 --   passed-start   before the loop
 --   passed-turn    a turn that stores v, of which P i holds, at i
---   passed-end     after the loop, at the index where it ends
---   passed-join    a loop that goes on where another ended
-use mathlib.Core.Path.{_≡_, refl, sym, ap, _∙_, subst}
+use mathlib.Core.Path.{_≡_, refl, sym, _∙_, subst}
 use mathlib.Core.List.{List}
 use mathlib.Core.Logic.{⊎-elim}
-use Prim.Native.Nat.{ℕ, suc, _+_, _<_, _≤_}
+use Prim.Native.Nat.{ℕ, _+_, _<_, _≤_}
 use native.Mathlib.Nat.{eq-or-lt-of-le, le-of-suc-le-suc}
-use native.Mathlib.Decide.{decLt}
 use native.Mathlib.Numerals.{add-one}
 use native.Mathlib.Omega.{arith}
 use lib.ListN.{length, getD, set, length-set}
@@ -40,26 +37,3 @@ module _ {A : Type 0} (d : A) (P : ℕ → A → Type 0) where
         earlier = λ k a. getD-set-other out i k v d (λ (e : k ≡ i). absurd (omega arith)) ∙ h .earlier k a;
         later = λ k a. getD-set-other out i k v d (λ (e : k ≡ i). absurd (omega arith)) ∙ h .later k (omega arith);
       }
-
-  pub passed-end : {from i : ℕ} {before out : List A} (n : ℕ) → n ≤ i → i ≤ n → Passed from i before out → Passed from n before out
-  passed-end n a b h =
-      record {
-        as-long = h .as-long;
-        stored = λ k l r. h .stored k l (omega arith);
-        earlier = h .earlier;
-        later = λ k l. h .later k (omega arith);
-      }
-
-  pub passed-join : {from mid i : ℕ} {before between out : List A} → from ≤ mid → mid ≤ i → Passed from mid before between → Passed mid i between out
-      → Passed from i before out
-  passed-join {from} {mid} {i} {before} {between} {out} a b p q =
-      record {
-        as-long = q .as-long ∙ p .as-long;
-        stored = λ k l r. go k l r (decLt k mid);
-        earlier = λ k l. q .earlier k (omega arith) ∙ p .earlier k l;
-        later = λ k l. q .later k l ∙ p .later k (omega arith);
-      }
-    where
-      go : (k : ℕ) → from ≤ k → k < i → Dec (k < mid) → P k (getD out k d)
-      go k l r (yes h) = subst (P k) (sym (q .earlier k h)) (p .stored k l h)
-      go k l r (no h) = q .stored k (omega arith) r

@@ -8,11 +8,10 @@
 --   productOf a b, product-element   the product in every lane
 --   spreadOf c, spread-carries       one symbol at every place
 --   onlyAt q c p       the symbol c at place q, and zero at the others; only-here, only-off
---   carries-sum, carries-product     sums and products of what is carried
 --   everywhere a       an element at every place; symbolsOf word: a word's symbols by place
 use mathlib.Core.Bool.{cond}
 use mathlib.Core.Logic.{_≢_}
-use mathlib.Core.Path.{_≡_, sym, ap, ap₂, _∙_}
+use mathlib.Core.Path.{_≡_, sym, ap, _∙_}
 use mathlib.Core.List.{List, [], _∷_}
 use Prim.Native.Nat.{ℕ, zero, suc, _+_, _-_, _*_, _/_, _%_, _^_, _<_}
 use native.Mathlib.Omega.{arith}
@@ -90,13 +89,6 @@ module _ (a b : List ℕ) where
   pub product-element : (p : ℕ) → elementAt productOf p ≡ elementAt a p ⊗ elementAt b p
   unfolding Elements.element lane fromBits planesIn Product.productOf
   product-element p = ap toF (lane-product (planesIn a) (planesIn b) p) ∙ toF-times _ _
-
-module _ (u v : ℕ → GF) (a b : List ℕ) (ca : Carries u a) (cb : Carries v b) where
-  pub carries-sum : Carries (λ p. u p ⊕ v p) (sumOf a b)
-  carries-sum = record { lanes = λ p l. sum-element a b p ∙ ap₂ (λ x y. x ⊕ y) (ca .lanes p l) (cb .lanes p l) }
-
-  pub carries-product : Carries (λ p. u p ⊗ v p) (productOf a b)
-  carries-product = record { lanes = λ p l. product-element a b p ∙ ap₂ (λ x y. x ⊗ y) (ca .lanes p l) (cb .lanes p l) }
 
 -- all bits of a plane
 abbrev pub allOnes : ℕ

@@ -5,20 +5,20 @@
 --   bitAt-zero, bitAt-above  0 has no bit, and a number below 2 ^ p none at p
 --   bitAt-suc, bitAt-down    bits of a number divided by two, and by any power of it: they move down
 --   bitAt-up, bitAt-under    of a multiple: they move up, and none is left below
---   bitAt-kept, bitAt-cut    of a remainder by a power of two: those below the power, and none above
+--   bitAt-kept               of a remainder by a power of two: those below the power
 --   bitAt-ones, bitAt-spread 2 ^ n − 1 has every bit below n, and its multiple by a bit has that bit there
 --   fromBits n f             the number with the bits f 0, …, f (n − 1), lowest first
 --   fromBits-lt, fromBits-ext, fromBits-xor   below 2 ^ n; equal bits; sums of bits
---   bitAt-fromBits, bitAt-beyond   its bits are f's, and none from n on
+--   bitAt-fromBits           its bits are f's
 --   bitsFrom n i f           the number with the bits f i, …, f (n − 1): one step down doubles it and adds a bit
 --   fromBits-bitAt           the number with the bits of a is a, below 2 ^ n
 use mathlib.Core.Path.{_≡_, refl, sym, ap, ap₂, _∙_}
-use Prim.Native.Nat.{ℕ, zero, suc, _+_, _-_, _*_, _/_, _%_, _^_, _<_, _≤_}
-use native.Mathlib.Nat.{zero-mul, one-mul, mod-one, div-eq-of-lt, mod-lt, lt-of-lt-of-le, pow-suc}
+use Prim.Native.Nat.{ℕ, zero, suc, _+_, _-_, _*_, _/_, _%_, _^_, _<_}
+use native.Mathlib.Nat.{zero-mul, one-mul, mod-one, div-eq-of-lt, pow-suc}
 use native.Mathlib.Numerals.{one-add, add-one}
 use native.Mathlib.Omega.{arith}
 use lib.Bits.{bitAnd, bitXor, and-shr, and-mod, xor-shr, xor-mod, xor-block, shifted-half, shifted-even}
-use lib.Pow.{pow-pos, pow-mono, shr-shr, shl-shr, mod-pow-add, mod-mod-pow, field}
+use lib.Pow.{pow-pos, shr-shr, shl-shr, mod-pow-add, mod-mod-pow, field}
 
 unfoldable pub bitAt : ℕ → ℕ → ℕ
 bitAt a p = a / 2 ^ p % 2
@@ -74,9 +74,6 @@ bitAt-kept a p n h =
     let e : (n - suc p) + 1 + p ≡ n = omega arith in
     ap (λ (k : ℕ). a % 2 ^ k / 2 ^ p % 2) (sym e) ∙ ap (λ (x : ℕ). x % 2) (field a ((n - suc p) + 1) p) ∙ mod-mod-pow (a / 2 ^ p) (n - suc p) 1
 
-pub bitAt-cut : (a p n : ℕ) → n ≤ p → bitAt (a % 2 ^ n) p ≡ 0
-bitAt-cut a p n h = bitAt-above (a % 2 ^ n) p (lt-of-lt-of-le (mod-lt a (pow-pos n)) (pow-mono h))
-
 -- all bits below n
 pub bitAt-ones : (n p : ℕ) → p < n → bitAt (2 ^ n - 1) p ≡ 1
 bitAt-ones zero p h = absurd (omega arith)
@@ -127,9 +124,6 @@ bitAt-fromBits (suc n) f b zero h = rw fromBits-suc (bitAt-first _ ∙ omega (ar
 bitAt-fromBits (suc n) f b (suc k) h =
     let e : (fromBits n (λ k. f (suc k)) * 2 + f 0) / 2 ≡ fromBits n (λ k. f (suc k)) = omega (arith, b 0) in
     rw fromBits-suc (bitAt-suc _ k ∙ ap (λ (x : ℕ). bitAt x k) e ∙ bitAt-fromBits n _ (λ k. b (suc k)) k (omega arith))
-
-pub bitAt-beyond : (n : ℕ) (f : ℕ → ℕ) → ((k : ℕ) → f k < 2) → (k : ℕ) → n ≤ k → bitAt (fromBits n f) k ≡ 0
-bitAt-beyond n f b k h = bitAt-above (fromBits n f) k (lt-of-lt-of-le (fromBits-lt n f b) (pow-mono h))
 
 pub fromBits-bitAt : (n a : ℕ) → fromBits n (bitAt a) ≡ a % 2 ^ n
 unfolding fromBits

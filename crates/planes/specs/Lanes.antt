@@ -4,10 +4,10 @@
 --   lane n f p         the number at lane p of n planes: below 2 ^ n (lane-lt)
 --   bitAt-lane         its bits are those of the planes at p
 --   lane-by            a lane whose bits are those of v holds v, below 2 ^ n
---   lane-ext           equal planes have equal lanes
+--   lane-like, lane-zero    lanes whose bits are equal; no planes
 --   lane-xor           exclusive or adds in every lane
 --   lane-down          planes divided by 2 ^ k hold lane k + p at lane p
---   lane-up, lane-under, lane-over    multiplied by 2 ^ k and cut at a width: lane p at k + p, and 0 in lanes below and beyond
+--   lane-up, lane-under    multiplied by 2 ^ k and cut at a width: lane p at k + p, and 0 in lanes below
 --   lane-kept, lane-emptied    a mask keeps the lanes of its bits, and empties the others
 --   lanewise           an operation of & and ^ that is right on the bits of all numbers below 2 ^ n is right in every lane
 use mathlib.Core.Path.{_≡_, sym, ap, _∙_}
@@ -42,9 +42,6 @@ module _ (n : ℕ) where
   pub lane-like : (f g : Planes) (p q : ℕ) → ((b : ℕ) → b < n → bitAt (f b) p ≡ bitAt (g b) q) → lane n f p ≡ lane n g q
   unfolding lane
   lane-like f g p q h = fromBits-ext n _ _ h
-
-  pub lane-ext : (f g : Planes) (p : ℕ) → ((b : ℕ) → b < n → f b ≡ g b) → lane n f p ≡ lane n g p
-  lane-ext f g p h = lane-like f g p p (λ b l. ap (λ x. bitAt x p) (h b l))
 
   pub lane-zero : (p : ℕ) → lane n (λ b. 0) p ≡ 0
   lane-zero p = lane-by _ p 0 (λ b l. bitAt-zero p ∙ sym (bitAt-zero b)) ∙ mod-eq-of-lt (pow-pos n)

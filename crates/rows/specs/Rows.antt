@@ -3,9 +3,8 @@
 --   rowWidth, plainWidth, xOrder   96 and 64: the entries of a row, and those without z; 4, the order of x
 --   coef row      the coefficient function of a row, by position; zero beyond its end (coef-beyond)
 --   dot c d       the sum of the products, position by position
---   raise c       x times a row of coefficients: each part moves up by four orders, and what leaves its part is lost
 --   weighed e z   the values of the terms by position: e by order, then z times e by order
---   raise-…, weighed-…   these two, part by part
+--   weighed-…     these, part by part
 --   value-times-toF      the byte of a product
 use mathlib.Core.Path.{_≡_, refl, sym, ap, _∙_}
 use mathlib.Core.List.{List}
@@ -43,34 +42,6 @@ coef-beyond row i h = ap toF (List·getD-eq-default row 0 h) ∙ toF-zero
 
 unfoldable pub dot : (ℕ → GF) → (ℕ → GF) → ℕ → GF
 dot c d n = sum K16 n (λ i. c i ⊗ d i)
-
-unfoldable pub raise : (ℕ → GF) → ℕ → GF
-raise c i = choose (decLt i 4) 𝟘 (choose (decLt i 64) (c (i - 4)) (choose (decLt i 68) 𝟘 (choose (decLt i 96) (c (i - 4)) 𝟘)))
-
-module _ (c : ℕ → GF) (i : ℕ) where
-  pub raise-first : i < 4 → raise c i ≡ 𝟘
-  unfolding raise
-  raise-first h = choose-yes (decLt i 4) _ _ h
-
-  pub raise-plain : 4 ≤ i → i < 64 → raise c i ≡ c (i - 4)
-  unfolding raise
-  raise-plain a b = choose-no (decLt i 4) _ _ (omega arith) ∙ choose-yes (decLt i 64) _ _ b
-
-  pub raise-seam : 64 ≤ i → i < 68 → raise c i ≡ 𝟘
-  unfolding raise
-  raise-seam a b = choose-no (decLt i 4) _ _ (omega arith) ∙ choose-no (decLt i 64) _ _ (omega arith) ∙ choose-yes (decLt i 68) _ _ b
-
-  pub raise-z : 68 ≤ i → i < 96 → raise c i ≡ c (i - 4)
-  unfolding raise
-  raise-z a b =
-      choose-no (decLt i 4) _ _ (omega arith) ∙ choose-no (decLt i 64) _ _ (omega arith) ∙ choose-no (decLt i 68) _ _ (omega arith)
-      ∙ choose-yes (decLt i 96) _ _ b
-
-  pub raise-beyond : 96 ≤ i → raise c i ≡ 𝟘
-  unfolding raise
-  raise-beyond a =
-      choose-no (decLt i 4) _ _ (omega arith) ∙ choose-no (decLt i 64) _ _ (omega arith) ∙ choose-no (decLt i 68) _ _ (omega arith)
-      ∙ choose-no (decLt i 96) _ _ (omega arith)
 
 unfoldable pub weighed : (ℕ → GF) → GF → ℕ → GF
 weighed e z i = choose (decLt i 64) (e i) (choose (decLt i 96) (z ⊗ e (i - 64)) 𝟘)

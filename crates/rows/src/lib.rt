@@ -4,7 +4,7 @@ ghost use mathlib.Core.Path.{_≡_};
 ghost use Prim.Native.Nat.{_<_};
 ghost use Rattle.lists.specs.Listed.{listed};
 ghost use Rattle.rows.specs.Rows.{rowWidth};
-ghost use Rattle.rows.specs.Bytes.{weighedAt, addedAt, movedAt, raisedAt};
+ghost use Rattle.rows.specs.Bytes.{weighedAt};
 ghost use Rattle.rows.specs.Planes.{planeAt, planesOf, pickedOf, summedOf, dotOf};
 use galois::product;
 use galois::reduced;
@@ -94,47 +94,4 @@ pub fn dot(row: Row, weights: Planes) -> u8
     let four = weights[2];
     let eight = weights[3];
     reduced(summed(row, one, two, four, eight))
-}
-
-// The row and a multiple of another.
-pub fn added(row: Row, by: u8, other: Row) -> Row
-    ensures { λ r. ⌜ r ≡ listed rowWidth (addedAt row by other) ⌝ }
-{
-    let mut out = [0u8; ROW];
-    let mut i = 0;
-    while i < ROW {
-        out[i] = row[i] ^ product(other[i], by);
-        i += 1;
-    }
-    out
-}
-
-// The order of x, and where the terms with z begin that it moves to.
-const X: usize = 4;
-
-const X_TIMES_Z: usize = PLAIN + X;
-
-// x times a row; what leaves its part is lost.
-fn moved(row: Row) -> Row
-    ensures { λ r. ⌜ r ≡ listed rowWidth (movedAt row) ⌝ }
-{
-    let mut out = [0u8; ROW];
-    let mut i = X;
-    while i < PLAIN {
-        out[i] = row[i - X];
-        i += 1;
-    }
-    let mut k = X_TIMES_Z;
-    while k < ROW {
-        out[k] = row[k - X];
-        k += 1;
-    }
-    out
-}
-
-// x + a times a row: it vanishes where x is a.
-pub fn raised(row: Row, a: u8) -> Row
-    ensures { λ r. ⌜ r ≡ listed rowWidth (raisedAt row a) ⌝ }
-{
-    added(moved(row), a, row)
 }

@@ -10,7 +10,7 @@
 --   first-value             the value of Q0
 --   Stored M word L ns rows leads   there are polynomials that are a basis up to L of the Q through the nodes ns, and the rows have their
 --                           values, for the classes that are not spent
-use mathlib.Core.Path.{_≡_, sym, ap, ap₂, _∙_, subst}
+use mathlib.Core.Path.{_≡_, sym, ap₂, _∙_, subst}
 use mathlib.Core.List.{List}
 use Prim.Native.Nat.{ℕ, _*_, _<_, _≤_}
 use native.Mathlib.Omega.{arith}

@@ -22,7 +22,6 @@ use Rattle.hermitian.specs.Value.{Val, monomial, val-unit}
 use Rattle.hermitian.specs.Keys.{Term, key, plain, timesZ, zPower, firstTerm, first, first-even, first-odd, first-key}
 use Rattle.hermitian.specs.Interpolant.{Interpolant, withoutZ, withZ, interpolant-unit, interpolant-start}
 use Rattle.family.specs.Member.{Member, places, px, py}
-use Rattle.family.specs.Nodes.{node, sampleAt}
 use Rattle.values.specs.Holds.{Values, Holds, Stored}
 
 -- ---- one term

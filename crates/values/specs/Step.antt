@@ -5,8 +5,7 @@
 --                       among those of another discrepancy is raised, and the others are cleared by it
 --   stepped-stored      what stores a basis of the Q through some nodes, stores then one of the Q that vanish at this place too
 --   moved-stored        what stores a basis by one word, stores it by another, where the values have moved by the slopes
---   stored-ext          rows and leads that agree with these store the same
-use mathlib.Core.Path.{_≡_, refl, sym, ap, _∙_, subst}
+use mathlib.Core.Path.{_≡_, refl, sym, subst}
 use mathlib.Core.List.{List, _∷_, List·Memᴰ·head, List·Memᴰ·tail, List·Memᴰ·cases-cons}
 use mathlib.Core.Logic.{_≢_}
 use Prim.Native.Nat.{ℕ, _+_, _*_, _<_, _≤_}
@@ -42,15 +41,6 @@ module _ (𝓜 : Member) where
 
   module _ {M : ℕ} {word : List ℕ} {L : ℕ} {ns : List Node} {rows : ℕ → Values 𝓜} {leads : ℕ → ℕ} (S : Stored 𝓜 M word L ns rows leads) where
     open Stored S using (polynomials, basis, held)
-
-    pub stored-ext : {rows′ : ℕ → Values 𝓜} {leads′ : ℕ → ℕ} → ((r : ℕ) → r < 2 * w → leads′ r ≡ leads r)
-        → ((r : ℕ) → r < 2 * w → leads r ≤ L → (h q : ℕ) → h < 2 → q < places 𝓜 → rows′ r h q ≡ rows r h q) → Stored 𝓜 M word L ns rows′ leads′
-    stored-ext el er =
-        record {
-          polynomials = polynomials;
-          basis = basis-ext (K gf) (2 * w) L el (λ r h u. refl) basis;
-          held = λ r h u. let u′ : leads r ≤ L = omega (arith, el r h) in holds-ext 𝓜 (er r h u′) (held r h u′);
-        }
 
     pub moved-stored : {rows′ : ℕ → Values 𝓜} (word′ : List ℕ)
         → ((r p : ℕ) → r < 2 * w → p < places 𝓜 → rows′ r 0 p ≡ rows r 0 p ⊕ (toF gf (getD word p 0) ⊕ toF gf (getD word′ p 0)) ⊗ rows r 1 p)

@@ -1,9 +1,6 @@
 -- A spent class is zero, any other the symbol at the place.
 use borrow.Author.Needs.{needs}
-use mathlib.Core.Bool.{cond}
-use mathlib.Core.Path.{sym, ap, _∙_}
 use borrow.Author.Tests.{lt-ltb, le-ltb}
-use Rattle.planes.specs.Arrays.{symbolAt}
 use Rattle.basis.specs.Step.{discrepancyOf}
 use Rattle.basis.proofs.step.discrepancy.Statement.{statement}
 use Rattle.basis.proofs.step.discrepancy.Tie as tie
