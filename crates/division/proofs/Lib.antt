@@ -1,3 +1,4 @@
 pub mod Leading
 pub mod Less
 pub mod Turns
+pub mod Folding

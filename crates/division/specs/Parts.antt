@@ -1,7 +1,7 @@
 -- The lead of a function, and multiplication by y, on numbers.
 --
 --   lowerAt, foldedAt, yAt     the two terms of y times a function, and their sum
---   folded-beyond              no second term above order 53
+--   lower-…, folded-…          these terms, case by case; folded-beyond: no second term above order 53
 --   LeadFound c r              r is the lead of c, an order below 64; 0 where c is zero
 --   cut f                      f up to order 63
 --   coef-y                     what the array holds as a coefficient function
@@ -29,6 +29,22 @@ lowerAt c o = cond (ltb o 5) 0 (getD c (o - 5) 0)
 
 unfoldable pub foldedAt : List ℕ → ℕ → ℕ
 foldedAt c o = cond (eqb (o % 4) 1) (getD c (o + 10) 0) 0
+
+pub lower-first : (c : List ℕ) (o : ℕ) → o < 5 → lowerAt c o ≡ 0
+unfolding lowerAt
+lower-first c o h = ap (λ b. cond b 0 (getD c (o - 5) 0)) (lt-ltb o 5 h)
+
+pub lower-next : (c : List ℕ) (o : ℕ) → 5 ≤ o → lowerAt c o ≡ getD c (o - 5) 0
+unfolding lowerAt
+lower-next c o h = ap (λ b. cond b 0 (getD c (o - 5) 0)) (le-ltb o 5 h)
+
+pub folded-here : (c : List ℕ) (o : ℕ) → o % 4 ≡ 1 → foldedAt c o ≡ getD c (o + 10) 0
+unfolding foldedAt
+folded-here c o h = ap (λ b. cond b (getD c (o + 10) 0) 0) (eq-eqb (o % 4) 1 h)
+
+pub folded-off : (c : List ℕ) (o : ℕ) → ¬ (o % 4 ≡ 1) → foldedAt c o ≡ 0
+unfolding foldedAt
+folded-off c o h = ap (λ b. cond b (getD c (o + 10) 0) 0) (ne-eqb (o % 4) 1 h)
 
 -- an array of 64 has nothing above order 63
 pub folded-beyond : (c : List ℕ) (o : ℕ) → length c ≡ plainWidth → 53 < o → 0 ≡ foldedAt c o
@@ -73,24 +89,22 @@ pub coef-cut : (g : ℕ → ℕ) (f : ℕ → GF) → ((o : ℕ) → o < plainWi
 coef-cut g f h = coef-listed plainWidth g (cut f) (λ o l. h o l ∙ sym (cut-low f o l)) (λ o l. cut-high f o l)
 
 lower-is : (c : List ℕ) (o : ℕ) → toF (lowerAt c o) ≡ shift K16 5 (coef c) o
-unfolding lowerAt
 lower-is c o = go (decLt o 5)
   where
     go : Dec (o < 5) → toF (lowerAt c o) ≡ shift K16 5 (coef c) o
-    go (yes h) = ap toF (ap (λ b. cond b 0 (getD c (o - 5) 0)) (lt-ltb o 5 h)) ∙ toF-zero ∙ sym (shift-low K16 5 o (coef c) h)
+    go (yes h) = ap toF (lower-first c o h) ∙ toF-zero ∙ sym (shift-low K16 5 o (coef c) h)
     go (no h) =
         let l : 5 ≤ o = omega arith in
-        ap toF (ap (λ b. cond b 0 (getD c (o - 5) 0)) (le-ltb o 5 l)) ∙ sym (coef-at c (o - 5)) ∙ sym (shift-high K16 5 o (coef c) l)
+        ap toF (lower-next c o l) ∙ sym (coef-at c (o - 5)) ∙ sym (shift-high K16 5 o (coef c) l)
 
 folded-is : (c : List ℕ) (o : ℕ) → toF (foldedAt c o) ≡ top K16 4 (coef c) (o + 10)
-unfolding foldedAt
 folded-is c o = go (ℕ-discrete (o % 4) 1)
   where
     go : Dec (o % 4 ≡ 1) → toF (foldedAt c o) ≡ top K16 4 (coef c) (o + 10)
     go (yes h) =
-        ap toF (ap (λ b. cond b (getD c (o + 10) 0) 0) (eq-eqb (o % 4) 1 h)) ∙ sym (coef-at c (o + 10)) ∙ sym (top-at K16 4 (coef c) (o + 10) (omega arith))
+        ap toF (folded-here c o h) ∙ sym (coef-at c (o + 10)) ∙ sym (top-at K16 4 (coef c) (o + 10) (omega arith))
     go (no h) =
-        ap toF (ap (λ b. cond b (getD c (o + 10) 0) 0) (ne-eqb (o % 4) 1 h)) ∙ toF-zero
+        ap toF (folded-off c o h) ∙ toF-zero
         ∙ sym (top-off K16 4 (coef c) (o + 10) (λ (e : suc ((o + 10) % 4) ≡ 4). absurd (omega arith)))
 
 pub coef-y : (c : List ℕ) → coef (listed plainWidth (yAt c)) ≡ cut (timesY K16 4 (coef c))

@@ -1,6 +1,7 @@
 // The division: from the top order down, each coefficient of the quotient takes a multiple of the divisor away.
 ghost use mathlib.Core.Path.{_≡_};
 ghost use Prim.Native.Nat.{_<_, _-_, _*_, _/_, _%_};
+ghost use lib.ListN.{length};
 ghost use Rattle.lists.specs.Listed.{listed};
 ghost use Rattle.rows.specs.Rows.{plainWidth};
 ghost use Rattle.division.specs.Dividing.{lessAt, nextAt, yPowers, Divided};
@@ -17,17 +18,16 @@ fn y_powers(c: [u8; 64]) -> [[u8; 64]; 4]
     [c, first, second, third]
 }
 
-// The rest and a multiple of a function moved up by some orders.
-fn less(rest: [u8; 64], by: u8, function: [u8; 64], up: usize) -> [u8; 64]
-    ensures { λ r. ⌜ r ≡ listed plainWidth (lessAt rest by function up) ⌝ }
+// The rest and a multiple of a function moved up by some orders; the rest is changed where it stands.
+fn less(rest: &mut [u8; 64], by: u8, function: [u8; 64], up: usize)
+    requires { ⌜ length (now rest) ≡ plainWidth ⌝ }
+    ensures { λ _. ⌜ now (rest .exit) ≡ listed plainWidth (lessAt (now (rest .entry)) by function up) ⌝ }
 {
-    let mut out = rest;
     let mut k = up;
     while k < 64 {
-        out[k] = rest[k] ^ product(function[k - up], by);
+        rest[k] = rest[k] ^ product(function[k - up], by);
         k += 1;
     }
-    out
 }
 
 // The next coefficient of the quotient; none stands at an absent order.
@@ -68,9 +68,7 @@ pub fn divide(q0: [u8; 64], q1: [u8; 64], m: usize) -> [u8; 64]
     while 0 < left {
         left -= 1;
         let a = next_at(rest, lead + left, left, by);
-        // by its own name first: a call's result is not laid into an array that is there already
-        let next = less(rest, a, powers[left % 4], x_moves(left));
-        rest = next;
+        less(&mut rest, a, powers[left % 4], x_moves(left));
         out[left] = a;
     }
     out

@@ -3,7 +3,7 @@ ghost use mathlib.Core.Path.{_≡_};
 ghost use Prim.Native.Nat.{_<_};
 ghost use Rattle.lists.specs.Listed.{listed};
 ghost use Rattle.rows.specs.Rows.{plainWidth};
-ghost use Rattle.division.specs.Parts.{lowerAt, foldedAt, yAt, LeadFound};
+ghost use Rattle.division.specs.Parts.{yAt, LeadFound};
 
 // The highest order whose coefficient is not zero; 0 where all are.
 pub fn lead(c: [u8; 64]) -> usize
@@ -19,40 +19,21 @@ pub fn lead(c: [u8; 64]) -> usize
     0
 }
 
-// What comes to an order from five below: y times a monomial without y^3.
-fn lower_at(c: [u8; 64], order: usize) -> u8
-    requires { ⌜ order < plainWidth ⌝ }
-    ensures { λ r. ⌜ r ≡ lowerAt c order ⌝ }
-{
-    if order < 5 {
-        return 0;
-    }
-    c[order - 5]
-}
-
-// What comes to an order from ten above: y^4 is x^5 and y, and this is the y.
-fn folded_at(c: [u8; 64], order: usize) -> u8
-    requires { ⌜ order < plainWidth ⌝ }
-    ensures { λ r. ⌜ r ≡ foldedAt c order ⌝ }
-{
-    if order % 4 != 1 {
-        return 0;
-    }
-    if 53 < order {
-        return 0;
-    }
-    c[order + 10]
-}
-
-// y times a function; what passes order 63 is lost.
+// y times a function. To an order comes what stands five below: y times a monomial without y^3; what passes order 63 is lost. The orders that
+// leave 1 modulo 4 also get what stands ten above: y^4 is x^5 and y, and this is the y. Above order 53 nothing stands there.
 pub fn times_y(c: [u8; 64]) -> [u8; 64]
     ensures { λ r. ⌜ r ≡ listed plainWidth (yAt c) ⌝ }
 {
     let mut out = [0u8; 64];
-    let mut o = 0;
+    let mut o = 5;
     while o < 64 {
-        out[o] = lower_at(c, o) ^ folded_at(c, o);
+        out[o] = c[o - 5];
         o += 1;
+    }
+    let mut folded = 1;
+    while folded < 54 {
+        out[folded] = out[folded] ^ c[folded + 10];
+        folded += 4;
     }
     out
 }

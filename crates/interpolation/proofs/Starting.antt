@@ -19,7 +19,7 @@ use Rattle.planes.specs.Rows.{valueAt, joinedOf, whole-joined, slope-joined}
 use Rattle.planes.specs.Arrays as Arrays
 use Rattle.values.specs.Start.{yPowerAt}
 use Rattle.basis.specs.Step.{classes, rowValues}
-use Rattle.interpolation.specs.Start.{YPowers, StartRow, StartRows}
+use Rattle.interpolation.specs.Start.{YPowers, StartRow, Started}
 open Field K16 using (_⊗_, 𝟘)
 
 -- ---- powers of y
@@ -78,23 +78,26 @@ module _ (M r : ℕ) (h : r < classes) (powers : List (List ℕ)) (P : YPowers p
       power p l = ap (λ v. elementAt v p) ey ∙ P .entries ((r / 2 + (4 - M % 4)) % 4) (omega arith) .lanes p l
 
 -- ---- all rows
-pub record Started (M : ℕ) (symbols : List ℕ) (r : ℕ) (row : List ℕ) : Type 0 where
+pub record FirstTerm (M : ℕ) (symbols : List ℕ) (r : ℕ) (row : List ℕ) : Type 0 where
   pub is : StartRow M r symbols row
 
 pub rows-started : (M i : ℕ) (word symbols : List ℕ) (before out : List (List ℕ)) → classes ≤ i → Carries (symbolsOf word) symbols
-    → Passed [] (Started M symbols) 0 i before out → StartRows M word out
+    → Passed [] (FirstTerm M symbols) 0 i before out → Started M word before out
 unfolding rowValues
 rows-started M i word symbols before out done carried P =
     record {
-      without-z = λ r h z.
-          let s = P .stored r (omega arith) (omega arith) .is in
-          record { whole = s .plain-whole z; slope = s .plain-slope z };
-      with-z = λ r h n.
-          let s = P .stored r (omega arith) (omega arith) .is in
-          record {
-            whole = λ p l. s .z-whole n p l ∙ ap (λ a. a ⊗ yPowerAt m16 (zPower 4 M (r / 2)) p) (carried .lanes p l);
-            slope = s .z-slope n;
-          };
+      as-long = P .as-long;
+      are = record {
+        without-z = λ r h z.
+            let s = P .stored r (omega arith) (omega arith) .is in
+            record { whole = s .plain-whole z; slope = s .plain-slope z };
+        with-z = λ r h n.
+            let s = P .stored r (omega arith) (omega arith) .is in
+            record {
+              whole = λ p l. s .z-whole n p l ∙ ap (λ a. a ⊗ yPowerAt m16 (zPower 4 M (r / 2)) p) (carried .lanes p l);
+              slope = s .z-slope n;
+            };
+      };
     }
 
 -- ---- the first key

@@ -3,11 +3,12 @@
 --   YPowers t            the powers of y below the fourth at all places, in planes
 --   StartRow M r s row   the row of the first term of class r: a power of y, or with z that power times the symbols s, and the power as slope
 --   StartRows M word rows   so are all rows, with the word's symbols
+--   Started M word before rows   they are laid where as many rows stood
 use mathlib.Core.List.{List, []}
 use mathlib.Core.Logic.{_≢_}
 use mathlib.Core.Path.{_≡_}
 use Prim.Native.Nat.{ℕ, _/_, _%_, _<_}
-use lib.ListN.{getD}
+use lib.ListN.{length, getD}
 use Rattle.algebra.specs.Field.{Field}
 use Rattle.galois.specs.Field16.{K16}
 use Rattle.hermitian.specs.Keys.{zPower}
@@ -30,3 +31,7 @@ pub record StartRow (M r : ℕ) (symbols row : List ℕ) : Type 0 where
 
 abbrev pub StartRows : ℕ → List ℕ → List (List ℕ) → Type 0
 StartRows M word rows = Values.StartRows m16 M word (rowValues rows)
+
+pub record Started (M : ℕ) (word : List ℕ) (before rows : List (List ℕ)) : Type 0 where
+  pub as-long : length rows ≡ length before
+  pub are : StartRows M word rows

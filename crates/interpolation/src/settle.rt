@@ -6,6 +6,7 @@ ghost use Rattle.interpolation.specs.Extending.{Stored};
 ghost use Rattle.interpolation.specs.Settled.{settled, ExtendsIf};
 use crate::PLACES;
 use crate::node::extend_own;
+use basis::CLASSES;
 use basis::Leads;
 use basis::Rows;
 
@@ -31,7 +32,8 @@ pub fn settle(
     ensures { λ r. ⌜ Stored m word limit (settled word flags 64) r (now (leads .exit)) ⌝ }
 {
     *leads = crate::start::start_leads(m);
-    let mut rows = crate::start::start_rows(m, word);
+    let mut rows = [[0u64; 8]; CLASSES];
+    crate::start::start_rows(&mut rows, m, word);
     let mut place = 0;
     while place < PLACES {
         extend_if(&mut rows, leads, limit, place, flags[place]);

@@ -1,10 +1,11 @@
 // The rows and leads before the first place: in each class the power of y of least key, with or without z.
 ghost use mathlib.Core.Path.{_≡_};
 ghost use Prim.Native.Nat.{_<_, _≤_};
+ghost use lib.ListN.{length};
 ghost use Rattle.lists.specs.Listed.{listed};
 ghost use Rattle.hermitian.specs.Keys.{first};
 ghost use Rattle.planes.specs.Arrays.{Carries, symbolsOf};
-ghost use Rattle.interpolation.specs.Start.{YPowers, StartRow, StartRows};
+ghost use Rattle.interpolation.specs.Start.{YPowers, StartRow, Started};
 use crate::PLACES;
 use basis::CLASSES;
 use basis::Leads;
@@ -39,18 +40,18 @@ fn start_row(r: usize, m: usize, powers: [Planes; 4], symbols: Planes) -> Row
     joined(times(symbols, y), y)
 }
 
-pub fn start_rows(m: usize, word: [u8; PLACES]) -> Rows
-    ensures { λ rows. ⌜ StartRows m word rows ⌝ }
+// They are laid where the rows stand.
+pub fn start_rows(rows: &mut Rows, m: usize, word: [u8; PLACES])
+    requires { ⌜ length (now rows) ≡ 8 ⌝ }
+    ensures { λ _. ⌜ Started m word (now (rows .entry)) (now (rows .exit)) ⌝ }
 {
     let powers = y_powers();
     let symbols = planes(word);
-    let mut out = [[0u64; 8]; CLASSES];
     let mut r = 0;
     while r < CLASSES {
-        out[r] = start_row(r, m, powers, symbols);
+        rows[r] = start_row(r, m, powers, symbols);
         r += 1;
     }
-    out
 }
 
 fn start_lead(r: usize, m: usize) -> usize

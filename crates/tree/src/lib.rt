@@ -96,8 +96,8 @@ fn decided(
 
 // One branch of a node: the place is decided with the symbol. Where the known codeword governs it, its test words are only counted.
 fn branch(
-    rows: Rows,
-    leads: Leads,
+    mut rows: Rows,
+    mut leads: Leads,
     word: Word,
     costs: &[u16],
     k: usize,
@@ -122,13 +122,11 @@ fn branch(
         return below(known, tests, costs);
     }
     let limit = largest_key(k, blanks);
-    let mut next_rows = rows;
-    let mut next_leads = leads;
     let change = word[place] ^ symbol;
-    extend(&mut next_rows, &mut next_leads, limit, place, change);
+    extend(&mut rows, &mut leads, limit, place, change);
     search(
-        next_rows,
-        next_leads,
+        rows,
+        leads,
         next_word,
         costs,
         k,

@@ -1,22 +1,24 @@
--- `less` meets its contract: each position passed holds the sum there.
-use Prim.Native.Nat.{_≤_, _-_}
+-- Each position passed holds the sum there.
 use borrow.Author.Needs.{needs}
-use Rattle.lists.specs.Passed.{Passed, passed-start, passed-turn}
-use Rattle.division.proofs.Less.{Taken, taken-at, taken-all}
+use mathlib.Core.Path.{_≡_, _∙_}
+use Prim.Native.Nat.{_≤_, _-_}
+use lib.ListN.{length}
+use Rattle.lists.specs.Passed.{Passed, passed-start}
+use Rattle.division.proofs.Less.{Taken, taken-turn, taken-all}
 use Rattle.division.proofs.dividing.less.Statement.{statement}
 use Rattle.division.proofs.dividing.less.Tie as tie
 
 abbrev Inv-loop : tie.InvT-loop
-Inv-loop by up rest function out₀ k₀ out k = (up ≤ k) × Passed 0 (Taken rest by function up) up k rest out
+Inv-loop rest₀ by up function k₀ rest k = (up ≤ k) × (length rest₀ ≡ 64) × (length rest ≡ 64) × Passed 0 (Taken rest₀ by function up) up k rest₀ rest
 
 abbrev μ-loop : tie.MeasureT-loop
-μ-loop by up rest function out₀ k₀ out k = 64 - k
+μ-loop rest₀ by up function k₀ rest k = 64 - k
 
 loop-holds : tie.Need-loop-holds Inv-loop μ-loop
-loop-holds c = (search needs, passed-start _ _ _ _)
+loop-holds c = (search needs, search needs, search needs, passed-start _ _ _ _)
 
-array-read-out : tie.Need-array-read-out Inv-loop μ-loop
-array-read-out c = search needs
+element-copy-out-rest : tie.Need-element-copy-out-rest Inv-loop μ-loop
+element-copy-out-rest c = search needs
 
 sub-product : tie.Need-sub-product Inv-loop μ-loop
 sub-product c = search needs
@@ -27,8 +29,8 @@ array-read-product c = search needs
 product-requires : tie.Need-product-requires Inv-loop μ-loop
 product-requires c κs = search needs
 
-array-write-out : tie.Need-array-write-out Inv-loop μ-loop
-array-write-out c = search needs
+element-write-rest : tie.Need-element-write-rest Inv-loop μ-loop
+element-write-rest c = search needs
 
 add-k : tie.Need-add-k Inv-loop μ-loop
 add-k c = search needs
@@ -37,10 +39,13 @@ loop-less : tie.Need-loop-less Inv-loop μ-loop
 loop-less c = search needs
 
 loop-again : tie.Need-loop-again Inv-loop μ-loop
-loop-again c = (search needs, passed-turn 0 _ _ (search needs) (search needs) (taken-at _ _ _ _ _ _ (search needs) (c .product .ensures)) (c .before .before .loop .inv .1))
+loop-again c =
+    let i = c .before .before .before .loop .inv in
+    let P = taken-turn _ _ _ _ _ _ _ (i .0) (search needs) (c .product .ensures) (i .3) in
+    (search needs, i .1, P .as-long ∙ i .1, P)
 
 returns : tie.Need-returns Inv-loop μ-loop
-returns c = taken-all _ _ _ _ _ (search needs) (c .loop-test .left) (c .before .loop .inv .1)
+returns c = taken-all _ _ _ _ _ (c .before .loop .inv .2) (c .loop-test .left) (c .before .loop .inv .3)
 
 pub less-spec : {M : Type 1} → statement M
 less-spec =
@@ -49,11 +54,11 @@ less-spec =
     Inv-loop
     μ-loop
     loop-holds
-    array-read-out
+    element-copy-out-rest
     sub-product
     array-read-product
     product-requires
-    array-write-out
+    element-write-rest
     add-k
     loop-less
     loop-again

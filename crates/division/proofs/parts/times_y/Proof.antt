@@ -1,43 +1,80 @@
--- `times_y` meets its contract: the loop stores the sum of the two terms of each order.
-use mathlib.Core.Path.{refl, ap₂}
-use Prim.Native.Nat.{_-_}
-use lib.Bits.{bitXor}
-use lib.ListN.{replicate}
+-- Each order passed holds what stood five below; then each passed again has both terms.
 use borrow.Author.Needs.{needs}
-use Rattle.lists.specs.Filled.{Filled, filled-start, filled-turn, filled-end}
-use Rattle.division.specs.Parts.{yAt}
+use mathlib.Core.Path.{_≡_, refl}
+use Prim.Native.Nat.{_≤_, _-_, _%_}
+use native.Mathlib.Omega.{arith}
+use lib.ListN.{length, replicate}
+use Rattle.lists.specs.Passed.{Passed, passed-start, passed-turn}
+use Rattle.division.proofs.Folding.{Below, lower-all, Folded, folded-start, folded-turn, folded-end}
 use Rattle.division.proofs.parts.times_y.Statement.{statement}
 use Rattle.division.proofs.parts.times_y.Tie as tie
 
 abbrev Inv-loop : tie.InvT-loop
-Inv-loop c out₀ o₀ out o = Filled (replicate 64 0) (yAt c) o out
+Inv-loop c out₀ o₀ out o = (5 ≤ o) × Passed 0 (Below c) 5 o (replicate 64 0) out
 
 abbrev μ-loop : tie.MeasureT-loop
 μ-loop c out₀ o₀ out o = 64 - o
 
-loop-holds : tie.Need-loop-holds Inv-loop μ-loop
-loop-holds c = filled-start _ _
+abbrev Inv-loop2 : tie.InvT-loop2
+Inv-loop2 c out₀ o folded₀ out folded = (folded % 4 ≡ 1) × (folded ≤ 57) × (length c ≡ 64) × (length out ≡ 64) × Folded c folded out
 
-lower-at-requires : tie.Need-lower-at-requires Inv-loop μ-loop
-lower-at-requires c κs = search needs
+abbrev μ-loop2 : tie.MeasureT-loop2
+μ-loop2 c out₀ o folded₀ out folded = 64 - folded
 
-folded-at-requires : tie.Need-folded-at-requires Inv-loop μ-loop
-folded-at-requires c κs = search needs
+loop-holds : tie.Need-loop-holds Inv-loop μ-loop Inv-loop2 μ-loop2
+loop-holds c = (search needs, passed-start _ _ _ _)
 
-array-write-out : tie.Need-array-write-out Inv-loop μ-loop
+sub-out : tie.Need-sub-out Inv-loop μ-loop Inv-loop2 μ-loop2
+sub-out c = search needs
+
+array-read-out : tie.Need-array-read-out Inv-loop μ-loop Inv-loop2 μ-loop2
+array-read-out c = search needs
+
+array-write-out : tie.Need-array-write-out Inv-loop μ-loop Inv-loop2 μ-loop2
 array-write-out c = search needs
 
-add-o : tie.Need-add-o Inv-loop μ-loop
+add-o : tie.Need-add-o Inv-loop μ-loop Inv-loop2 μ-loop2
 add-o c = search needs
 
-loop-less : tie.Need-loop-less Inv-loop μ-loop
+loop-less : tie.Need-loop-less Inv-loop μ-loop Inv-loop2 μ-loop2
 loop-less c = search needs
 
-loop-again : tie.Need-loop-again Inv-loop μ-loop
-loop-again c = filled-turn 0 (c .before .before .before .loop .inv) _ (search needs) (ap₂ bitXor (c .before .lower-at .ensures) (c .folded-at .ensures))
+loop-again : tie.Need-loop-again Inv-loop μ-loop Inv-loop2 μ-loop2
+loop-again c =
+    let i = c .before .loop .inv in
+    (search needs, passed-turn 0 _ _ (i .0) (search needs) refl (i .1))
 
-returns : tie.Need-returns Inv-loop μ-loop
-returns c = filled-end 0 (c .before .loop .inv) 64 refl (c .loop-test .left)
+loop2-holds : tie.Need-loop2-holds Inv-loop μ-loop Inv-loop2 μ-loop2
+loop2-holds c =
+    let F = folded-start _ _ (lower-all _ _ (c .loop-test .left) (c .before .loop .inv .1)) in
+    (search needs, search needs, search needs, F .as-long, F)
+
+array-read-out-2 : tie.Need-array-read-out-2 Inv-loop μ-loop Inv-loop2 μ-loop2
+array-read-out-2 c = search needs
+
+add-out : tie.Need-add-out Inv-loop μ-loop Inv-loop2 μ-loop2
+add-out c = search needs
+
+array-read-out-3 : tie.Need-array-read-out-3 Inv-loop μ-loop Inv-loop2 μ-loop2
+array-read-out-3 c = search needs
+
+array-write-out-2 : tie.Need-array-write-out-2 Inv-loop μ-loop Inv-loop2 μ-loop2
+array-write-out-2 c = search needs
+
+add-folded : tie.Need-add-folded Inv-loop μ-loop Inv-loop2 μ-loop2
+add-folded c = search needs
+
+loop2-less : tie.Need-loop2-less Inv-loop μ-loop Inv-loop2 μ-loop2
+loop2-less c = search needs
+
+loop2-again : tie.Need-loop2-again Inv-loop μ-loop Inv-loop2 μ-loop2
+loop2-again c =
+    let i = c .before .loop2 .inv in
+    let F = folded-turn _ _ _ (search needs) (i .0) (i .4) in
+    (omega arith, omega arith, i .2, F .as-long, F)
+
+returns : tie.Need-returns Inv-loop μ-loop Inv-loop2 μ-loop2
+returns c = folded-end _ _ _ (c .before .loop2 .inv .2) (c .loop2-test .left) (c .before .loop2 .inv .4)
 
 pub times-y-spec : {M : Type 1} → statement M
 times-y-spec =
@@ -45,11 +82,21 @@ times-y-spec =
     (tie.spec
     Inv-loop
     μ-loop
+    Inv-loop2
+    μ-loop2
     loop-holds
-    lower-at-requires
-    folded-at-requires
+    sub-out
+    array-read-out
     array-write-out
     add-o
     loop-less
     loop-again
+    loop2-holds
+    array-read-out-2
+    add-out
+    array-read-out-3
+    array-write-out-2
+    add-folded
+    loop2-less
+    loop2-again
     returns)

@@ -29,8 +29,8 @@ start-rows-requires c κs = search needs
 
 loop-holds : tie.Need-loop-holds Inv-loop μ-loop
 loop-holds c =
-    let e = c .before .start-leads .ensures in
-    (search needs, ap length e ∙ listed-length 8 (first 4 _), search needs, λ word S. S)
+    let e = c .before .before .start-leads .ensures in
+    (search needs, ap length e ∙ listed-length 8 (first 4 _), c .start-rows .ensures .as-long, λ word S. S)
 
 array-read-extend-if : tie.Need-array-read-extend-if Inv-loop μ-loop
 array-read-extend-if c = search needs
@@ -54,7 +54,7 @@ loop-again c =
 returns : tie.Need-returns Inv-loop μ-loop
 returns c =
     let e : c .before .loop .place ≡ 64 = omega arith in
-    let start = settle-start _ _ _ _ _ _ (c .before .before .before .start-leads .ensures) (c .before .before .start-rows .ensures) in
+    let start = settle-start _ _ _ _ _ _ (c .before .before .before .before .start-leads .ensures) (c .before .before .start-rows .ensures .are) in
     rw e at (c .before .loop .inv .3 _ start)
 
 pub settle-spec : {M : Type 1} → statement M
