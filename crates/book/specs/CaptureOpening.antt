@@ -9,8 +9,9 @@ use Prim.Native.Nat.{ℕ, _+_, _*_}
 use lib.Dec.{eqb, leb}
 use lib.ListN.{length, getD, take, drop}
 use Rattle.refusals.specs.Refusal.{wrongVersion, wrongLength}
+use Rattle.soft.specs.Doubt.{mostDoubt}
 use Rattle.book.specs.Book.{Entry, Outcome}
-use Rattle.book.specs.Capture.{bodyLength, recordsOf}
+use Rattle.book.specs.Capture.{bodyLength, captureLength, recordsOf}
 use Rattle.book.specs.Here.{places, refusedOpening, openOf, onAccepted, deliverRow}
 
 abbrev pub rateIn : List ℕ → ℕ
@@ -26,7 +27,7 @@ abbrev pub recordsIn : List ℕ → List Entry
 recordsIn bytes = recordsOf places (drop (5 + doubtIn bytes) bytes)
 
 unfoldable pub sizeFits : List ℕ → Bool
-sizeFits bytes = leb 2117 (length bytes) && leb (length bytes) 2125
+sizeFits bytes = leb (captureLength 0) (length bytes) && leb (length bytes) (captureLength mostDoubt)
 
 unfoldable pub versionFits : List ℕ → Bool
 versionFits bytes = eqb (getD bytes 0 0) 1

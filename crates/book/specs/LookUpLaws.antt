@@ -17,6 +17,7 @@ use lib.Seq.{length-take-le, drop-drop}
 use borrow.Author.Tests.{eq-eqb, ne-eqb, lt-ltb, le-ltb}
 use Rattle.refusals.specs.Refusal.{accepted}
 use Rattle.lists.specs.Distinct.{among, below, below-take, below-drop, distinct-all}
+use Rattle.soft.specs.Doubt.{mostDoubt}
 use Rattle.soft.specs.Column.{costsFrom}
 use Rattle.soft.specs.CostBytes.{costBytes}
 use Rattle.book.specs.Book.{columnIn, Outcome}
@@ -56,7 +57,7 @@ record-found p (suc n) bytes a = go (eqb (getD bytes 0 0) p) refl a (record-foun
 
 pub record Located (bytes : List ℕ) (p : ℕ) : Type 0 where
   pub sized : length bytes ≡ captureLength (doubtIn bytes)
-  pub few : doubtIn bytes ≤ 8
+  pub few : doubtIn bytes ≤ mostDoubt
   pub within : recordWith p places (drop (5 + doubtIn bytes) bytes) < places
 
 pub look-up-above : (bytes : List ℕ) (p : ℕ) → places ≤ p → lookUpOf bytes p ≡ []

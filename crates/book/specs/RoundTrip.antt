@@ -21,6 +21,7 @@ use lib.Seq.{take-at, drop-at, length-take-le, drop-drop}
 use borrow.Author.Tests.{eqb-true, eqb-false, eq-eqb, ne-eqb, le-leb, leb-true}
 use Rattle.refusals.specs.Refusal.{accepted, wrongSize, placeMissing}
 use Rattle.lists.specs.Distinct.{below, below-drop, below-at, and-left, and-right, and-both}
+use Rattle.soft.specs.Doubt.{mostDoubt}
 use Rattle.book.specs.Model.{modem64}
 use Rattle.book.specs.Book.{Entry, Book, newBook, columnIn, Outcome}
 use Rattle.book.specs.Capture.{bodyLength, captureLength, rowBytes, recordsOf, captureOf}
@@ -56,9 +57,9 @@ module _ (book : Book) (proper : Proper book) where
   unfolding sizeFits
   written-size =
       let a : length (captureOf book) ≡ captureLength (length (book .doubtful)) = capture-length book proper in
-      let b : length (book .doubtful) ≤ 8 = list-short modem64 (book .doubtful) (proper .list-fit) in
-      and-both (leb 2117 (length (captureOf book))) (leb (length (captureOf book)) 2125)
-      (le-leb 2117 (length (captureOf book)) (omega arith)) (le-leb (length (captureOf book)) 2125 (omega arith))
+      let b : length (book .doubtful) ≤ mostDoubt = list-short modem64 (book .doubtful) (proper .list-fit) in
+      and-both (leb (captureLength 0) (length (captureOf book))) (leb (length (captureOf book)) (captureLength mostDoubt))
+      (le-leb (captureLength 0) (length (captureOf book)) (omega arith)) (le-leb (length (captureOf book)) (captureLength mostDoubt) (omega arith))
 
   written-version : versionFits (captureOf book) ≡ true
   unfolding versionFits captureOf
@@ -144,11 +145,11 @@ module _ (book : Book) (out : List ℕ) where
 -- ---- opening, then writing
 
 -- what the first three checks say
-pub size-range : (bytes : List ℕ) → sizeFits bytes ≡ true → (2117 ≤ length bytes) × (length bytes ≤ 2125)
+pub size-range : (bytes : List ℕ) → sizeFits bytes ≡ true → (captureLength 0 ≤ length bytes) × (length bytes ≤ captureLength mostDoubt)
 unfolding sizeFits
 size-range bytes s = (
-  leb-true 2117 (length bytes) (and-left (leb 2117 (length bytes)) (leb (length bytes) 2125) s),
-  leb-true (length bytes) 2125 (and-right (leb 2117 (length bytes)) (leb (length bytes) 2125) s),
+  leb-true (captureLength 0) (length bytes) (and-left (leb (captureLength 0) (length bytes)) (leb (length bytes) (captureLength mostDoubt)) s),
+  leb-true (length bytes) (captureLength mostDoubt) (and-right (leb (captureLength 0) (length bytes)) (leb (length bytes) (captureLength mostDoubt)) s),
 )
 
 pub version-one : (bytes : List ℕ) → versionFits bytes ≡ true → getD bytes 0 0 ≡ 1

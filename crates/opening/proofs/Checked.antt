@@ -9,9 +9,10 @@ use lib.ListN.{length, getD, take, drop}
 use borrow.Author.Tests.{le-leb, lt-leb, eq-eqb, ne-eqb}
 use Rattle.refusals.specs.Refusal.{accepted, wrongVersion, wrongLength}
 use Rattle.lists.specs.Distinct.{and-both}
+use Rattle.soft.specs.Doubt.{mostDoubt}
 use Rattle.book.specs.Model.{modem64}
 use Rattle.book.specs.Columns.{agree-sym}
-use Rattle.book.specs.Capture.{bodyLength, recordsOf}
+use Rattle.book.specs.Capture.{bodyLength, captureLength, recordsOf}
 use Rattle.book.specs.CaptureOpening.{rateIn, doubtIn, recordsIn, sizeFits, versionFits, lengthIn, lengthFits, openWith, openCaptureOf}
 use Rattle.book.specs.CaptureCases.{open-size, open-version, open-length, open-checked, with-on, with-refused}
 use Rattle.book.specs.AlikeDelivery.{agreed-path, agreed-trans, row-alike}
@@ -24,20 +25,20 @@ use Rattle.capture.specs.Rest.{rest-whole}
 use Rattle.opening.proofs.Delivering.{opening-agreed}
 
 module _ (bytes : List ℕ) where
-  pub too-short : length bytes < 2117 → Opening (openCaptureOf bytes) (refusedWith wrongLength)
+  pub too-short : length bytes < captureLength 0 → Opening (openCaptureOf bytes) (refusedWith wrongLength)
   unfolding sizeFits
-  too-short h = rw (open-size bytes (ap (λ b. b && leb (length bytes) 2125) (lt-leb 2117 (length bytes) h))) (refused-opens wrongLength)
+  too-short h = rw (open-size bytes (ap (λ b. b && leb (length bytes) (captureLength mostDoubt)) (lt-leb (captureLength 0) (length bytes) h))) (refused-opens wrongLength)
 
-  pub too-long : 2125 < length bytes → Opening (openCaptureOf bytes) (refusedWith wrongLength)
+  pub too-long : captureLength mostDoubt < length bytes → Opening (openCaptureOf bytes) (refusedWith wrongLength)
   unfolding sizeFits
   too-long h =
-      rw (open-size bytes (ap (λ b. leb 2117 (length bytes) && b) (lt-leb (length bytes) 2125 h) ∙ and-false (leb 2117 (length bytes))))
+      rw (open-size bytes (ap (λ b. leb (captureLength 0) (length bytes) && b) (lt-leb (length bytes) (captureLength mostDoubt) h) ∙ and-false (leb (captureLength 0) (length bytes))))
       (refused-opens wrongLength)
 
-  module _ (least : 2117 ≤ length bytes) (most : length bytes ≤ 2125) where
+  module _ (least : captureLength 0 ≤ length bytes) (most : length bytes ≤ captureLength mostDoubt) where
     sized : sizeFits bytes ≡ true
     unfolding sizeFits
-    sized = and-both (leb 2117 (length bytes)) (leb (length bytes) 2125) (le-leb 2117 (length bytes) least) (le-leb (length bytes) 2125 most)
+    sized = and-both (leb (captureLength 0) (length bytes)) (leb (length bytes) (captureLength mostDoubt)) (le-leb (captureLength 0) (length bytes) least) (le-leb (length bytes) (captureLength mostDoubt) most)
 
     pub other-version : (getD bytes 0 0 ≡ 1 → ⊥) → Opening (openCaptureOf bytes) (refusedWith wrongVersion)
     unfolding versionFits

@@ -6,6 +6,7 @@ ghost use Prim.Native.Nat.{_<_};
 ghost use Rattle.lists.specs.Distinct.{among};
 ghost use Rattle.lists.specs.Block.{putBlock};
 ghost use Rattle.lists.specs.Padded.{padded};
+ghost use Rattle.soft.specs.Doubt.{mostDoubt};
 ghost use Rattle.book.specs.Here.{places, width, fitPlaces};
 ghost use Rattle.session.specs.View.{newSession, allTaken};
 ghost use Rattle.session.specs.Calls.{refusedWith, openedOf, declinedWith, Delivery, deniedWith, Withdrawal};
@@ -63,7 +64,7 @@ fn fit_places(list: &[u8]) -> bool
 
 // The first eight places of a list, with zeros behind them.
 fn padded_list(list: &[u8]) -> [u8; MOST_DOUBT]
-    ensures { λ r. ⌜ r ≡ padded 8 (now (list .entry)) ⌝ }
+    ensures { λ r. ⌜ r ≡ padded mostDoubt (now (list .entry)) ⌝ }
 {
     let mut out = [0u8; MOST_DOUBT];
     copy(list, &mut out);

@@ -7,6 +7,7 @@ use native.Mathlib.Omega.{arith}
 use lib.ListN.{length, take}
 use Rattle.refusals.specs.Refusal.{accepted, wrongSize, placeMissing}
 use Rattle.lists.specs.Listed.{listed-ext}
+use Rattle.soft.specs.Doubt.{mostDoubt}
 use Rattle.book.specs.Model.{modem64}
 use Rattle.book.specs.Book.{Entry}
 use Rattle.book.specs.Capture.{rowBytes, captureLength, captureOf}
@@ -31,7 +32,7 @@ bytes f = f .bytes
 
 module _ (s : Session) (before : List ℕ) where
   -- a session record that was built by hand
-  pub writing-long : 8 < s .doubt → Writing s before wrongSize before
+  pub writing-long : mostDoubt < s .doubt → Writing s before wrongSize before
   writing-long h =
       record {
         number = λ good. absurd (omega (arith, good .doubt-fits));

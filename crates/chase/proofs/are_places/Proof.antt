@@ -5,6 +5,7 @@ use Prim.Native.Nat.{_-_, _<_, _≤_}
 use native.Mathlib.Omega.{arith}
 use lib.ListN.{length, take}
 use Rattle.lists.specs.Distinct.{below, distinct}
+use Rattle.soft.specs.Doubt.{mostDoubt}
 use Rattle.soft.specs.Total.{everywhere}
 use Rattle.chase.specs.Places.{arePlaces, Flagged}
 use Rattle.near.specs.Flags as Family
@@ -15,7 +16,7 @@ use Rattle.chase.proofs.are_places.Tie as tie
 
 abbrev Inv-loop : tie.InvT-loop
 Inv-loop doubt doubtful unnamed₀ i₀ unnamed i =
-    (i ≤ doubt) × (length doubtful ≡ 8) × (length unnamed ≡ 64) × Flagged everywhere (take i doubtful) unnamed × (arePlaces (take i doubtful) ≡ true)
+    (i ≤ doubt) × (length doubtful ≡ mostDoubt) × (length unnamed ≡ 64) × Flagged everywhere (take i doubtful) unnamed × (arePlaces (take i doubtful) ≡ true)
 
 abbrev μ-loop : tie.MeasureT-loop
 μ-loop doubt doubtful unnamed₀ i₀ unnamed i = doubt - i
@@ -33,7 +34,7 @@ cast-place c = search needs
 returns : tie.Need-returns Inv-loop μ-loop
 returns c =
     let i = c .before .before .loop .inv in
-    let h : c .before .before .before .args .doubt ≤ 8 = search needs in
+    let h : c .before .before .before .args .doubt ≤ mostDoubt = search needs in
     let b : c .before .before .loop .i < c .before .before .before .args .doubt = search needs in
     sym (places-above _ _ _ (i .1) h b (c .if1 .taken))
 
@@ -43,7 +44,7 @@ array-read-if2 c = search needs
 returns-2 : tie.Need-returns-2 Inv-loop μ-loop
 returns-2 c =
     let i = c .before .before .before .loop .inv in
-    let h : c .before .before .before .before .args .doubt ≤ 8 = search needs in
+    let h : c .before .before .before .before .args .doubt ≤ mostDoubt = search needs in
     let b : c .before .before .before .loop .i < c .before .before .before .before .args .doubt = search needs in
     sym (places-again _ _ _ (i .1) h b _ (c .before .if1 .left) (c .if2 .taken) (i .3))
 
@@ -59,7 +60,7 @@ loop-less c = search needs
 loop-again : tie.Need-loop-again Inv-loop μ-loop
 loop-again c =
     let i = c .before .before .before .loop .inv in
-    let h : c .before .before .before .before .args .doubt ≤ 8 = search needs in
+    let h : c .before .before .before .before .args .doubt ≤ mostDoubt = search needs in
     let b : c .before .before .before .loop .i < c .before .before .before .before .args .doubt = search needs in
     let n : c .before .before .before .loop .i < length (c .before .before .before .before .args .t1) = omega (arith, i .1) in
     let t = places-turn _ _ _ n (c .before .if1 .left) (c .if2 .left) (i .3) (i .4) in

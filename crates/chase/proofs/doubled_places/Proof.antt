@@ -4,6 +4,7 @@ use Prim.Native.Nat.{_<_, _≤_, _-_}
 use native.Mathlib.Omega.{arith}
 use lib.ListN.{length, take}
 use Rattle.lists.specs.Padded.{padded}
+use Rattle.soft.specs.Doubt.{mostDoubt}
 use Rattle.soft.specs.Blank.{flagAt, unblanked}
 use Rattle.chase.proofs.Doubling.{doubled-start, doubled-turn, doubled-end, count-start, count-turn, count-fits}
 use borrow.Author.Needs.{needs}
@@ -12,14 +13,14 @@ use Rattle.chase.proofs.doubled_places.Tie as tie
 
 abbrev Inv-loop : tie.InvT-loop
 Inv-loop doubt counts doubtful places₀ count₀ i₀ places count i =
-    (i ≤ doubt) × (length doubtful ≡ 8) × (count ≤ i) × (count ≡ length (unblanked (flagAt counts) (take i doubtful)))
-    × (places ≡ padded 8 (unblanked (flagAt counts) (take i doubtful)))
+    (i ≤ doubt) × (length doubtful ≡ mostDoubt) × (count ≤ i) × (count ≡ length (unblanked (flagAt counts) (take i doubtful)))
+    × (places ≡ padded mostDoubt (unblanked (flagAt counts) (take i doubtful)))
 
 abbrev μ-loop : tie.MeasureT-loop
 μ-loop doubt counts doubtful places₀ count₀ i₀ places count i = doubt - i
 
 loop-holds : tie.Need-loop-holds Inv-loop μ-loop
-loop-holds c = (search needs, search needs, search needs, count-start (flagAt (c .args .counts)) (c .args .t1), doubled-start (flagAt (c .args .counts)) (c .args .t1) 8)
+loop-holds c = (search needs, search needs, search needs, count-start (flagAt (c .args .counts)) (c .args .t1), doubled-start (flagAt (c .args .counts)) (c .args .t1) mostDoubt)
 
 array-read-place : tie.Need-array-read-place Inv-loop μ-loop
 array-read-place c = search needs
@@ -59,7 +60,7 @@ loop-again c =
       i .1,
       count-fits (flagAt (s .before .args .counts)) (s .before .args .t1) _ _ counted,
       counted,
-      doubled-turn (flagAt (s .before .args .counts)) (s .before .args .t1) (s .loop .i) n 8 _ _ _ _ (i .4) (i .3) b (c .before .with-place .ensures),
+      doubled-turn (flagAt (s .before .args .counts)) (s .before .args .t1) (s .loop .i) n mostDoubt _ _ _ _ (i .4) (i .3) b (c .before .with-place .ensures),
     )
 
 returns : tie.Need-returns Inv-loop μ-loop

@@ -4,6 +4,7 @@ use mathlib.Core.Logic.{inl, inr}
 use native.Mathlib.Omega.{arith}
 use lib.ListN.{length, take}
 use lib.Seq.{length-take-le}
+use Rattle.soft.specs.Doubt.{mostDoubt}
 use Rattle.session.specs.declared.Session.{Session}
 use Rattle.session.specs.declared.Opened.{Opened}
 use Rattle.session.specs.AnsweringLaws.{closing-by-hand, closing-wrong-size, closing-early, closing-decoded}
@@ -40,13 +41,13 @@ returns-4 c = closing-by-hand _ _ _ _ (λ good. omega (arith, good .doubt-fits, 
 
 array-share-prefix-doubtful : tie.Need-array-share-prefix-doubtful
 array-share-prefix-doubtful c =
-    let l : length (c .before .before .before .before .before .before .before .before .before .before .args .session .doubtful) ≡ 8 = search needs in
+    let l : length (c .before .before .before .before .before .before .before .before .before .before .args .session .doubtful) ≡ mostDoubt = search needs in
     omega arith
 
 slice-aggregate-open : tie.Need-slice-aggregate-open
 slice-aggregate-open c =
     let s : Session = c .before .before .before .before .before .before .before .before .before .before .before .args .session in
-    let l : length (s .doubtful) ≡ 8 = search needs in
+    let l : length (s .doubtful) ≡ mostDoubt = search needs in
     sym (length-take-le (s .doubt) (s .doubtful) (omega arith))
 
 open-requires : tie.Need-open-requires

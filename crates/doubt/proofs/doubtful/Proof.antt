@@ -1,5 +1,6 @@
 -- `doubt::doubtful` meets its contract: the places chosen by the keys are the doubtful ones, and without doubt there are none.
 use borrow.Author.Needs.{needs}
+use Rattle.soft.specs.Doubt.{mostDoubt}
 use Rattle.doubt.specs.Keys.{keyed-apart, chosen-doubtful}
 use Rattle.doubt.specs.Picked.{picked-same}
 use Rattle.doubt.proofs.Turns.{skipped-places, skipped-count}
@@ -7,7 +8,7 @@ use Rattle.doubt.proofs.doubtful.Statement.{statement}
 use Rattle.doubt.proofs.doubtful.Tie as tie
 
 returns : tie.Need-returns
-returns c = record { places = skipped-places _ _ _ (c .if1 .taken) 8; count = skipped-count _ _ _ (c .if1 .taken) }
+returns c = record { places = skipped-places _ _ _ (c .if1 .taken) mostDoubt; count = skipped-count _ _ _ (c .if1 .taken) }
 
 keys-of-requires : tie.Need-keys-of-requires
 keys-of-requires c κs = search needs

@@ -5,6 +5,7 @@ use native.Mathlib.Omega.{arith}
 use borrow.Author.Needs.{needs}
 use Rattle.lists.specs.Count.{count, count-nil, count-turn, kept, kept-length}
 use Rattle.lists.specs.Padded.{padded}
+use Rattle.soft.specs.Doubt.{mostDoubt}
 use Rattle.doubt.specs.Keys.{far}
 use Rattle.doubt.specs.Bound.{belowAt, chosen-below}
 use Rattle.doubt.specs.Picked.{picked-same}
@@ -14,7 +15,7 @@ use Rattle.doubt.proofs.picked_by.Tie as tie
 
 abbrev Inv-loop : tie.InvT-loop
 Inv-loop doubt keys bound out₀ found₀ place₀ out found place =
-    (place ≤ 64) × (found ≤ place) × (found ≡ count place (belowAt keys bound)) × (out ≡ padded 8 (kept place (belowAt keys bound)))
+    (place ≤ 64) × (found ≤ place) × (found ≡ count place (belowAt keys bound)) × (out ≡ padded mostDoubt (kept place (belowAt keys bound)))
 
 abbrev μ-loop : tie.MeasureT-loop
 μ-loop doubt keys bound out₀ found₀ place₀ out found place = 64 - place
@@ -23,7 +24,7 @@ bound-of-requires : tie.Need-bound-of-requires Inv-loop μ-loop
 bound-of-requires c κs = search needs
 
 loop-holds : tie.Need-loop-holds Inv-loop μ-loop
-loop-holds c = (omega arith, omega arith, sym (count-nil _), places-start 8 _)
+loop-holds c = (omega arith, omega arith, sym (count-nil _), places-start mostDoubt _)
 
 mul-taken : tie.Need-mul-taken Inv-loop μ-loop
 mul-taken c = search needs
@@ -58,7 +59,7 @@ loop-again c =
       omega arith,
       omega arith,
       count-turn _ _ _ _ (i .2) (c .bit .ensures .0),
-      places-turn 8 _ _ _ _ _ _ (i .3) (i .2) refl (c .before .with-place .ensures),
+      places-turn mostDoubt _ _ _ _ _ _ (i .3) (i .2) refl (c .before .with-place .ensures),
     )
 
 returns : tie.Need-returns Inv-loop μ-loop

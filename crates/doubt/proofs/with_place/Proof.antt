@@ -4,6 +4,7 @@ use native.Mathlib.Omega.{arith}
 use lib.ListN.{length}
 use lib.Seq.{set-out}
 use borrow.Author.Needs.{needs}
+use Rattle.soft.specs.Doubt.{mostDoubt}
 use Rattle.doubt.proofs.with_place.Statement.{statement}
 use Rattle.doubt.proofs.with_place.Tie as tie
 
@@ -16,7 +17,7 @@ returns c = simp (c .before .if1 .taken)
 returns-2 : tie.Need-returns-2
 returns-2 c =
     let a = c .before .before .args in
-    let l : length (a .list) ≡ 8 = search needs in
+    let l : length (a .list) ≡ mostDoubt = search needs in
     simp (c .before .if1 .taken) (sym (set-out (a .list) (a .at) (a .place) (omega arith)))
 
 returns-3 : tie.Need-returns-3

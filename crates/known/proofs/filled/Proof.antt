@@ -2,6 +2,7 @@
 use mathlib.Core.Path.{_≡_, refl, sym, _∙_}
 use Prim.Native.Nat.{_-_, _<_, _≤_}
 use lib.ListN.{length, take, drop}
+use Rattle.soft.specs.Doubt.{mostDoubt}
 use Rattle.soft.specs.Column.{places}
 use Rattle.known.specs.Known.{filledOf}
 use Rattle.near.specs.Written.{written-turn, written-end}
@@ -11,7 +12,7 @@ use Rattle.known.proofs.filled.Tie as tie
 
 abbrev Inv-loop : tie.InvT-loop
 Inv-loop codeword doubtful doubt out₀ i₀ out i =
-    (length doubtful ≡ 8) × (length out ≡ 64)
+    (length doubtful ≡ mostDoubt) × (length out ≡ 64)
     × (filledOf codeword out₀ (drop i₀ (take doubt doubtful)) ≡ filledOf codeword out (drop i (take doubt doubtful)))
 
 abbrev μ-loop : tie.MeasureT-loop
@@ -44,7 +45,7 @@ loop-less c = search needs
 loop-again : tie.Need-loop-again Inv-loop μ-loop
 loop-again c =
     let i = c .before .loop .inv in
-    let h : c .before .before .before .before .args .undecided .doubt ≤ 8 = search needs in
+    let h : c .before .before .before .before .args .undecided .doubt ≤ mostDoubt = search needs in
     let b : c .before .loop .i < c .before .before .before .before .args .undecided .doubt = search needs in
     (i .0, search needs, i .2 ∙ written-turn places _ _ _ _ _ (i .0) h b refl)
 

@@ -3,6 +3,7 @@ use mathlib.Core.Path.{_≡_, sym, subst}
 use Prim.Native.Nat.{_≤_}
 use native.Mathlib.Omega.{arith}
 use lib.ListN.{length}
+use Rattle.soft.specs.Doubt.{mostDoubt}
 use Rattle.candidate.specs.Ranged.{reach-small}
 use Rattle.near.specs.Left.{rest-length}
 use Rattle.near.specs.Near as Near
@@ -46,7 +47,7 @@ sub-result c = omega arith
 returns : tie.Need-returns
 returns c =
     let s = c .before .before .before .before .before .before in
-    let l : length (s .args .undecided .doubtful) ≡ 8 = search needs in
+    let l : length (s .args .undecided .doubtful) ≡ mostDoubt = search needs in
     governs-by _ _ _ _ _ _ _ _ _ _ _ (rest-length _ _ _ l (s .pre .1 .0) (s .pre .1 .1)) (c .before .before .before .before .filled .ensures) (c .before .before .before .distance .ensures)
     (c .before .reach .ensures) (c .least-distance .ensures)
 

@@ -7,6 +7,7 @@ use lib.Seq.{length-take-le}
 use borrow.Author.Needs.{needs}
 use borrow.Author.Tests.{not-true, not-false}
 use Rattle.lists.specs.Over.{over-same}
+use Rattle.soft.specs.Doubt.{mostDoubt}
 use Rattle.interpolant.specs.Reading.{reading-size}
 use Rattle.code.specs.Encoding.{knownRate}
 use Rattle.code.specs.Rates.{known-bounds}
@@ -51,7 +52,7 @@ open-places-requires c κs = search needs
 
 array-share-prefix-doubtful : tie.Need-array-share-prefix-doubtful
 array-share-prefix-doubtful c =
-    let l : length (c .before .before .before .before .before .before .before .before .before .before .before .before .before .args .session .doubtful) ≡ 8 = search needs in
+    let l : length (c .before .before .before .before .before .before .before .before .before .before .before .before .before .args .session .doubtful) ≡ mostDoubt = search needs in
     omega (arith, c .before .before .before .before .before .before .before .if3 .left)
 
 slice-aggregate-flags : tie.Need-slice-aggregate-flags

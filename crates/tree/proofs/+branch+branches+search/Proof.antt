@@ -4,6 +4,7 @@ use Prim.Native.Nat.{ℕ, _+_, _*_, _<_, _≤_}
 use native.Mathlib.Nat.{le-trans}
 use native.Mathlib.Omega.{arith}
 use lib.ListN.{length}
+use Rattle.soft.specs.Doubt.{mostDoubt}
 use Rattle.basis.specs.Choice.{leadAt}
 use Rattle.soft.specs.Column.{bestOf, secondOf}
 use Rattle.answers.specs.Answered.{Sound, sound-missed}
@@ -175,7 +176,7 @@ branch-returns-2 t c =
     (branch-node (h .0) _ _ _ _ _ _ _ _ (branch-lengths t s) _ (c .before .before .before .before .largest-key .ensures ∙ limit-marked (h .4)) _ _ (c .before .extend .ensures) _ (c .search .ensures .0), c .search .ensures .1)
 
 branches-lengths : (t : ℕ) (c : branches-lts.Start (branches-claims t) (branches-at t) branches.Post)
-    → length (c .args .t6 .doubtful) ≡ 8
+    → length (c .args .t6 .doubtful) ≡ mostDoubt
 branches-lengths t c = search needs
 
 branches-sub-place : (t : ℕ) → branches-lts.Need-sub-place (branches-claims t) (branches-at t) branches.Post
@@ -223,7 +224,7 @@ branches-returns t c =
     )
 
 search-lengths : (t : ℕ) (c : search-lts.Start (search-claims t) (search-at t) search′.Post)
-    → length (c .args .undecided .doubtful) ≡ 8
+    → length (c .args .undecided .doubtful) ≡ mostDoubt
 search-lengths t c = search needs
 
 search-largest-key-requires : (t : ℕ) → search-lts.Need-largest-key-requires (search-claims t) (search-at t) search′.Post

@@ -8,6 +8,7 @@ use lib.ListN.{length, set, take, length-set}
 use lib.Seq.{length-take-le}
 use borrow.Rule.Slice.PartMut.{same-len-mid}
 use Rattle.lists.specs.Over.{over-same}
+use Rattle.soft.specs.Doubt.{mostDoubt}
 use Rattle.capture.specs.Calls.{headBytes}
 use Rattle.capture.specs.Rest.{rest-length}
 use Rattle.writing.proofs.Parts.{five-stores, head-end}
@@ -43,13 +44,13 @@ slice-write-out-5 c = simp length-set (omega arith)
 
 array-share-prefix-list : tie.Need-array-share-prefix-list
 array-share-prefix-list c =
-    let l : length (c .before .args .t2) ≡ 8 = search needs in
+    let l : length (c .before .args .t2) ≡ mostDoubt = search needs in
     omega (arith, c .before .pre .0)
 
 slice-aggregate-copy : tie.Need-slice-aggregate-copy
 slice-aggregate-copy c =
     let s = c .before .before in
-    let l : length (s .args .t2) ≡ 8 = search needs in
+    let l : length (s .args .t2) ≡ mostDoubt = search needs in
     sym (length-take-le (s .args .count) (s .args .t2) (omega (arith, s .pre .0)))
 
 sub-copy : tie.Need-sub-copy
@@ -79,7 +80,7 @@ returns c =
     let a = s .args in
     let n : ℕ = 2114 + a .count in
     let stored : List ℕ = set (set (set (set (set (a .out .now) 0 1) 1 (n / 256)) 2 (n % 256)) 3 (a .rate)) 4 (a .count) in
-    let l : length (a .t2) ≡ 8 = search needs in
+    let l : length (a .t2) ≡ mostDoubt = search needs in
     let list : List ℕ = take (a .count) (a .t2) in
     let m : length list ≡ a .count = length-take-le (a .count) (a .t2) (omega (arith, s .pre .0)) in
     let room = rest-length 5 (a .count) stored (five-stores (a .out .now) 1 (n / 256) (n % 256) (a .rate) (a .count) ∙ s .pre .1) in
