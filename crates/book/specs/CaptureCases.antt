@@ -1,8 +1,11 @@
 -- Opening a capture, case by case: which refusal it gets, and what an accepted one is.
 --
---   open-size, open-version, open-length, open-rate, open-list   a refusal by each check in turn
---   with-on, with-refused   opening with a rate and a list and then delivering goes on, or is refused, as the opening is
---   open-checked, open-with   the first three checks passed: opening with its rate and list, and then delivering its records in their order
+--   open-size, open-version, open-length, open-unknown, open-misfit, open-unfit   a refusal by each check in turn
+--   open-rate, open-list, open-with   opening with a rate and a list and then delivering: refused by the rate or the list, or the records delivered
+--   with-on              it goes on as an accepted opening does
+--   open-suited, open-checked   the first three checks passed, and d suits the version: opening with its rate and list, and then delivering its records
+--                        in their order
+--   open-refused         the first three checks passed, and a rate or list that opening refuses: the number that opening gives
 --   capture-refused      a refused capture hands back what a refused opening does: a new book of rate 39 with an empty list
 --   bookIn bytes         the rate, the list and the records that a capture holds, as a book
 --   opens-any-order      a capture that passes the checks of its head, and has different places of the modem in its records, is accepted, in whatever order
@@ -24,7 +27,7 @@ use Rattle.code.specs.Encoding.{knownRate}
 use Rattle.book.specs.Model.{modem64}
 use Rattle.book.specs.Book.{Entry, Book, newBook, taken, Outcome}
 use Rattle.book.specs.Delivery.{withEntry}
-use Rattle.book.specs.CaptureOpening.{rateIn, listIn, recordsIn, sizeFits, versionFits, lengthFits, openWith, openCaptureOf}
+use Rattle.book.specs.CaptureOpening.{rateIn, listIn, recordsIn, sizeFits, versionFits, lengthFits, suitsVersion, openWith, openVersioned, openCaptureOf}
 use Rattle.lists.specs.Distinct.{below, distinct}
 use Rattle.book.specs.RowDelivery.{extended, refused-number, row-above, row-taken, row-next, row-none, row-delivered, row-accepted, refused-row}
 use Rattle.book.specs.RowLaws.{placesOf, open-accepted, open-refused-rate, open-refused-list, new-proper}
@@ -49,10 +52,19 @@ module _ (bytes : List ℕ) where
   unfolding openCaptureOf
   open-length s v l = rw (s, v, l)
 
-  pub open-checked : sizeFits bytes ≡ true → versionFits bytes ≡ true → lengthFits bytes ≡ true
-      → openCaptureOf bytes ≡ openWith (rateIn bytes) (listIn bytes) (recordsIn bytes)
-  unfolding openCaptureOf
-  open-checked s v l = rw (s, v, l)
+  module _ (s : sizeFits bytes ≡ true) (v : versionFits bytes ≡ true) (l : lengthFits bytes ≡ true) where
+    pub open-unknown : knownRate (rateIn bytes) ≡ false → openCaptureOf bytes ≡ refusedOpening unknownRate
+    unfolding openCaptureOf openVersioned
+    open-unknown r = rw (s, v, l, r)
+
+    pub open-misfit : knownRate (rateIn bytes) ≡ true → suitsVersion bytes ≡ false → openCaptureOf bytes ≡ refusedOpening wrongDoubt
+    unfolding openCaptureOf openVersioned
+    open-misfit r m = rw (s, v, l, r, m)
+
+    open-known : knownRate (rateIn bytes) ≡ true → suitsVersion bytes ≡ true
+        → openCaptureOf bytes ≡ openWith (rateIn bytes) (listIn bytes) (recordsIn bytes)
+    unfolding openCaptureOf openVersioned
+    open-known r m = rw (s, v, l, r, m)
 
 module _ (rate : ℕ) (list : List ℕ) (entries : List Entry) where
   pub open-rate : knownRate rate ≡ false → openWith rate list entries ≡ refusedOpening unknownRate
@@ -68,17 +80,36 @@ module _ (rate : ℕ) (list : List ℕ) (entries : List Entry) where
   unfolding openWith BookDelivery.onAccepted
   with-on n = rw (eq-eqb (openOf rate list .number) accepted n)
 
-  pub with-refused : (openOf rate list .number ≡ accepted → ⊥) → openWith rate list entries ≡ openOf rate list
-  with-refused n = go (knownRate rate) refl (fitDoubt list) refl
-    where
-      go : (a : Bool) → knownRate rate ≡ a → (b : Bool) → fitDoubt list ≡ b → openWith rate list entries ≡ openOf rate list
-      go false r b f = open-rate r ∙ sym (open-refused-rate modem64 rate list r)
-      go true r false f = open-list r f ∙ sym (open-refused-list modem64 rate list r f)
-      go true r true f = absurd (n (ap (λ (o : Outcome). o .number) (open-accepted modem64 rate list r f)))
-
   pub open-with : knownRate rate ≡ true → fitDoubt list ≡ true → openWith rate list entries ≡ deliverRow (newBook rate list) entries
   unfolding openWith BookDelivery.onAccepted
   open-with r f = rw (open-accepted modem64 rate list r f)
+
+module _ (bytes : List ℕ) (s : sizeFits bytes ≡ true) (v : versionFits bytes ≡ true) (l : lengthFits bytes ≡ true) where
+  pub open-unfit : knownRate (rateIn bytes) ≡ true → suitsVersion bytes ≡ true → fitDoubt (listIn bytes) ≡ false
+      → openCaptureOf bytes ≡ refusedOpening wrongDoubt
+  open-unfit r m f = open-known bytes s v l r m ∙ open-list (rateIn bytes) (listIn bytes) (recordsIn bytes) r f
+
+  pub open-checked : knownRate (rateIn bytes) ≡ true → suitsVersion bytes ≡ true → fitDoubt (listIn bytes) ≡ true
+      → openCaptureOf bytes ≡ deliverRow (newBook (rateIn bytes) (listIn bytes)) (recordsIn bytes)
+  open-checked r m f = open-known bytes s v l r m ∙ open-with (rateIn bytes) (listIn bytes) (recordsIn bytes) r f
+
+  pub open-suited : suitsVersion bytes ≡ true → openCaptureOf bytes ≡ openWith (rateIn bytes) (listIn bytes) (recordsIn bytes)
+  open-suited m = go (knownRate (rateIn bytes)) refl
+    where
+      go : (a : Bool) → knownRate (rateIn bytes) ≡ a → openCaptureOf bytes ≡ openWith (rateIn bytes) (listIn bytes) (recordsIn bytes)
+      go false r = open-unknown bytes s v l r ∙ sym (open-rate (rateIn bytes) (listIn bytes) (recordsIn bytes) r)
+      go true r = open-known bytes s v l r m
+
+  -- a rate or a list that an opening refuses: the capture gets the same number, whether d suits the version or not
+  pub open-refused : (openOf (rateIn bytes) (listIn bytes) .number ≡ accepted → ⊥) → openCaptureOf bytes ≡ openOf (rateIn bytes) (listIn bytes)
+  open-refused n = go (knownRate (rateIn bytes)) refl (suitsVersion bytes) refl (fitDoubt (listIn bytes)) refl
+    where
+      go : (a : Bool) → knownRate (rateIn bytes) ≡ a → (b : Bool) → suitsVersion bytes ≡ b → (c : Bool) → fitDoubt (listIn bytes) ≡ c
+          → openCaptureOf bytes ≡ openOf (rateIn bytes) (listIn bytes)
+      go false r b m c f = open-unknown bytes s v l r ∙ sym (open-refused-rate modem64 (rateIn bytes) (listIn bytes) r)
+      go true r false m false f = open-misfit bytes s v l r m ∙ sym (open-refused-list modem64 (rateIn bytes) (listIn bytes) r f)
+      go true r true m false f = open-unfit r m f ∙ sym (open-refused-list modem64 (rateIn bytes) (listIn bytes) r f)
+      go true r b m true f = absurd (n (ap (λ (o : Outcome). o .number) (open-accepted modem64 (rateIn bytes) (listIn bytes) r f)))
 
 -- ---- the verdict on every byte string
 
@@ -97,10 +128,12 @@ pub data Verdict (bytes : List ℕ) : ℕ → Type 0 where
   length-wrong : sizeFits bytes ≡ true → versionFits bytes ≡ true → lengthFits bytes ≡ false → Verdict bytes wrongLength
   rate : sizeFits bytes ≡ true → versionFits bytes ≡ true → lengthFits bytes ≡ true → knownRate (rateIn bytes) ≡ false
       → Verdict bytes unknownRate
+  misfit : sizeFits bytes ≡ true → versionFits bytes ≡ true → lengthFits bytes ≡ true → knownRate (rateIn bytes) ≡ true
+      → suitsVersion bytes ≡ false → Verdict bytes wrongDoubt
   list : sizeFits bytes ≡ true → versionFits bytes ≡ true → lengthFits bytes ≡ true → knownRate (rateIn bytes) ≡ true
-      → fitDoubt (listIn bytes) ≡ false → Verdict bytes wrongDoubt
+      → suitsVersion bytes ≡ true → fitDoubt (listIn bytes) ≡ false → Verdict bytes wrongDoubt
   records : {n : ℕ} → sizeFits bytes ≡ true → versionFits bytes ≡ true → lengthFits bytes ≡ true → knownRate (rateIn bytes) ≡ true
-      → fitDoubt (listIn bytes) ≡ true → RowVerdict [] (recordsIn bytes) n → Verdict bytes n
+      → suitsVersion bytes ≡ true → fitDoubt (listIn bytes) ≡ true → RowVerdict [] (recordsIn bytes) n → Verdict bytes n
 
 pub row-verdict : (book : Book) (entries : List Entry) → RowVerdict (book .row) entries (deliverRow book entries .number)
 unfolding withEntry BookOpening.refusedOpening
@@ -126,20 +159,20 @@ row-verdict-only book (e ∷ entries) n (next h t v) =
 pub verdict : (bytes : List ℕ) → Verdict bytes (openCaptureOf bytes .number)
 unfolding BookOpening.refusedOpening newBook
 verdict bytes =
-    go (sizeFits bytes) refl (versionFits bytes) refl (lengthFits bytes) refl (knownRate (rateIn bytes)) refl (fitDoubt (listIn bytes)) refl
+    go (sizeFits bytes) refl (versionFits bytes) refl (lengthFits bytes) refl (knownRate (rateIn bytes)) refl (suitsVersion bytes) refl
+    (fitDoubt (listIn bytes)) refl
   where
     go : (a : Bool) → sizeFits bytes ≡ a → (b : Bool) → versionFits bytes ≡ b → (c : Bool) → lengthFits bytes ≡ c
-        → (d : Bool) → knownRate (rateIn bytes) ≡ d → (e : Bool) → fitDoubt (listIn bytes) ≡ e → Verdict bytes (openCaptureOf bytes .number)
-    go false s b v c l d r e f = rw (open-size bytes s) (size-wrong s)
-    go true s false v c l d r e f = rw (open-version bytes s v) (version s v)
-    go true s true v false l d r e f = rw (open-length bytes s v l) (length-wrong s v l)
-    go true s true v true l false r e f =
-        rw (open-checked bytes s v l, open-rate (rateIn bytes) (listIn bytes) (recordsIn bytes) r) (rate s v l r)
-    go true s true v true l true r false f =
-        rw (open-checked bytes s v l, open-list (rateIn bytes) (listIn bytes) (recordsIn bytes) r f) (list s v l r f)
-    go true s true v true l true r true f =
-        rw (open-checked bytes s v l, open-with (rateIn bytes) (listIn bytes) (recordsIn bytes) r f)
-        (records s v l r f (row-verdict (newBook (rateIn bytes) (listIn bytes)) (recordsIn bytes)))
+        → (d : Bool) → knownRate (rateIn bytes) ≡ d → (g : Bool) → suitsVersion bytes ≡ g → (e : Bool) → fitDoubt (listIn bytes) ≡ e
+        → Verdict bytes (openCaptureOf bytes .number)
+    go false s b v c l d r g m e f = rw (open-size bytes s) (size-wrong s)
+    go true s false v c l d r g m e f = rw (open-version bytes s v) (version s v)
+    go true s true v false l d r g m e f = rw (open-length bytes s v l) (length-wrong s v l)
+    go true s true v true l false r g m e f = rw (open-unknown bytes s v l r) (rate s v l r)
+    go true s true v true l true r false m e f = rw (open-misfit bytes s v l r m) (misfit s v l r m)
+    go true s true v true l true r true m false f = rw (open-unfit bytes s v l r m f) (list s v l r m f)
+    go true s true v true l true r true m true f =
+        rw (open-checked bytes s v l r m f) (records s v l r m f (row-verdict (newBook (rateIn bytes) (listIn bytes)) (recordsIn bytes)))
 
 -- 12 is no capture's number
 row-never-blank : {row entries : List Entry} {n : ℕ} → RowVerdict row entries n → n ≢ tooBlank
@@ -156,19 +189,20 @@ capture-never-blank bytes = go (verdict bytes)
     go (version s v) e = omega (arith, e)
     go (length-wrong s v l) e = omega (arith, e)
     go (rate s v l r) e = omega (arith, e)
-    go (list s v l r f) e = omega (arith, e)
-    go (records s v l r f w) e = row-never-blank w e
+    go (misfit s v l r m) e = omega (arith, e)
+    go (list s v l r m f) e = omega (arith, e)
+    go (records s v l r m f w) e = row-never-blank w e
 
 pub verdict-only : (bytes : List ℕ) (n : ℕ) → Verdict bytes n → openCaptureOf bytes .number ≡ n
 unfolding BookOpening.refusedOpening newBook
 verdict-only bytes n (size-wrong s) = rw (open-size bytes s)
 verdict-only bytes n (version s v) = rw (open-version bytes s v)
 verdict-only bytes n (length-wrong s v l) = rw (open-length bytes s v l)
-verdict-only bytes n (rate s v l r) = rw (open-checked bytes s v l, open-rate (rateIn bytes) (listIn bytes) (recordsIn bytes) r)
-verdict-only bytes n (list s v l r f) = rw (open-checked bytes s v l, open-list (rateIn bytes) (listIn bytes) (recordsIn bytes) r f)
-verdict-only bytes n (records s v l r f w) =
-    rw (open-checked bytes s v l, open-with (rateIn bytes) (listIn bytes) (recordsIn bytes) r f)
-    (row-verdict-only (newBook (rateIn bytes) (listIn bytes)) (recordsIn bytes) n w)
+verdict-only bytes n (rate s v l r) = rw (open-unknown bytes s v l r)
+verdict-only bytes n (misfit s v l r m) = rw (open-misfit bytes s v l r m)
+verdict-only bytes n (list s v l r m f) = rw (open-unfit bytes s v l r m f)
+verdict-only bytes n (records s v l r m f w) =
+    rw (open-checked bytes s v l r m f) (row-verdict-only (newBook (rateIn bytes) (listIn bytes)) (recordsIn bytes) n w)
 
 -- ---- an accepted capture
 
@@ -179,56 +213,48 @@ pub record Fit (bytes : List ℕ) : Type 0 where
   pub size-fits : sizeFits bytes ≡ true
   pub version-fits : versionFits bytes ≡ true
   pub length-fits : lengthFits bytes ≡ true
+  pub suits : suitsVersion bytes ≡ true
   pub opens : openCaptureOf bytes ≡ record { number = accepted; book = bookIn bytes }
   pub proper : Proper (bookIn bytes)
 
 -- the records may stand in any order: of their places it is asked that they are the modem's and different, and no more
 pub opens-any-order : (bytes : List ℕ) → sizeFits bytes ≡ true → versionFits bytes ≡ true → lengthFits bytes ≡ true → knownRate (rateIn bytes) ≡ true
-    → fitDoubt (listIn bytes) ≡ true → below places (placesOf (recordsIn bytes)) ≡ true → distinct (placesOf (recordsIn bytes)) ≡ true
+    → suitsVersion bytes ≡ true → fitDoubt (listIn bytes) ≡ true → below places (placesOf (recordsIn bytes)) ≡ true → distinct (placesOf (recordsIn bytes)) ≡ true
     → openCaptureOf bytes ≡ record { number = accepted; book = bookIn bytes }
 unfolding extended newBook bookIn
-opens-any-order bytes s v l r f b d =
-    open-checked bytes s v l ∙ open-with (rateIn bytes) (listIn bytes) (recordsIn bytes) r f
+opens-any-order bytes s v l r m f b d =
+    open-checked bytes s v l r m f
     ∙ row-delivered modem64 (newBook (rateIn bytes) (listIn bytes)) (recordsIn bytes) b d
 
 pub capture-fit : (bytes : List ℕ) → openCaptureOf bytes .number ≡ accepted → Fit bytes
 unfolding extended newBook bookIn
 capture-fit bytes n =
-    go (sizeFits bytes) refl (versionFits bytes) refl (lengthFits bytes) refl (knownRate (rateIn bytes)) refl (fitDoubt (listIn bytes)) refl
+    go (sizeFits bytes) refl (versionFits bytes) refl (lengthFits bytes) refl (knownRate (rateIn bytes)) refl (suitsVersion bytes) refl
+    (fitDoubt (listIn bytes)) refl
   where
     no-refusal : {o : Outcome} (k : ℕ) → openCaptureOf bytes ≡ o → o .number ≡ k → k ≡ accepted
     no-refusal k e f = sym f ∙ sym (ap (λ (x : Outcome). x .number) e) ∙ n
 
     go : (a : Bool) → sizeFits bytes ≡ a → (b : Bool) → versionFits bytes ≡ b → (c : Bool) → lengthFits bytes ≡ c
-        → (d : Bool) → knownRate (rateIn bytes) ≡ d → (e : Bool) → fitDoubt (listIn bytes) ≡ e → Fit bytes
-    go false s b v c l d r e f = absurd (omega (arith, no-refusal wrongLength (open-size bytes s) (refused-number modem64 wrongLength)))
-    go true s false v c l d r e f = absurd (omega (arith, no-refusal wrongVersion (open-version bytes s v) (refused-number modem64 wrongVersion)))
-    go true s true v false l d r e f = absurd (omega (arith, no-refusal wrongLength (open-length bytes s v l) (refused-number modem64 wrongLength)))
-    go true s true v true l false r e f =
-        absurd
-        (omega (
-          arith,
-          no-refusal unknownRate
-              (open-checked bytes s v l ∙ open-rate (rateIn bytes) (listIn bytes) (recordsIn bytes) r)
-              (refused-number modem64 unknownRate),
-        ))
-    go true s true v true l true r false f =
-        absurd
-        (omega (
-          arith,
-          no-refusal wrongDoubt
-              (open-checked bytes s v l ∙ open-list (rateIn bytes) (listIn bytes) (recordsIn bytes) r f)
-              (refused-number modem64 wrongDoubt),
-        ))
-    go true s true v true l true r true f =
-        let opened : openCaptureOf bytes ≡ deliverRow (newBook (rateIn bytes) (listIn bytes)) (recordsIn bytes) =
-        open-checked bytes s v l ∙ open-with (rateIn bytes) (listIn bytes) (recordsIn bytes) r f in
+        → (d : Bool) → knownRate (rateIn bytes) ≡ d → (g : Bool) → suitsVersion bytes ≡ g → (e : Bool) → fitDoubt (listIn bytes) ≡ e
+        → Fit bytes
+    go false s b v c l d r g m e f = absurd (omega (arith, no-refusal wrongLength (open-size bytes s) (refused-number modem64 wrongLength)))
+    go true s false v c l d r g m e f = absurd (omega (arith, no-refusal wrongVersion (open-version bytes s v) (refused-number modem64 wrongVersion)))
+    go true s true v false l d r g m e f = absurd (omega (arith, no-refusal wrongLength (open-length bytes s v l) (refused-number modem64 wrongLength)))
+    go true s true v true l false r g m e f =
+        absurd (omega (arith, no-refusal unknownRate (open-unknown bytes s v l r) (refused-number modem64 unknownRate)))
+    go true s true v true l true r false m e f =
+        absurd (omega (arith, no-refusal wrongDoubt (open-misfit bytes s v l r m) (refused-number modem64 wrongDoubt)))
+    go true s true v true l true r true m false f =
+        absurd (omega (arith, no-refusal wrongDoubt (open-unfit bytes s v l r m f) (refused-number modem64 wrongDoubt)))
+    go true s true v true l true r true m true f =
+        let opened : openCaptureOf bytes ≡ deliverRow (newBook (rateIn bytes) (listIn bytes)) (recordsIn bytes) = open-checked bytes s v l r m f in
         let delivered =
         row-accepted modem64 (newBook (rateIn bytes) (listIn bytes)) (recordsIn bytes)
         (new-proper modem64 (rateIn bytes) (listIn bytes) r f)
         (records-wide places _)
         (sym (ap (λ (x : Outcome). x .number) opened) ∙ n) in
-        record { size-fits = s; version-fits = v; length-fits = l; opens = opened ∙ delivered .0; proper = delivered .1 }
+        record { size-fits = s; version-fits = v; length-fits = l; suits = m; opens = opened ∙ delivered .0; proper = delivered .1 }
 
 pub capture-proper : (bytes : List ℕ) → openCaptureOf bytes .number ≡ accepted → Proper (openCaptureOf bytes .book)
 capture-proper bytes n = let fit = capture-fit bytes n in subst (λ (o : Outcome). Proper (o .book)) (sym (fit .opens)) (fit .proper)
@@ -238,24 +264,23 @@ capture-proper bytes n = let fit = capture-fit bytes n in subst (λ (o : Outcome
 pub capture-refused : (bytes : List ℕ) → (openCaptureOf bytes .number ≡ accepted → ⊥)
     → openCaptureOf bytes ≡ refusedOpening (openCaptureOf bytes .number)
 capture-refused bytes n =
-    go (sizeFits bytes) refl (versionFits bytes) refl (lengthFits bytes) refl (knownRate (rateIn bytes)) refl (fitDoubt (listIn bytes)) refl
+    go (sizeFits bytes) refl (versionFits bytes) refl (lengthFits bytes) refl (knownRate (rateIn bytes)) refl (suitsVersion bytes) refl
+    (fitDoubt (listIn bytes)) refl
   where
     by : (k : ℕ) → openCaptureOf bytes ≡ refusedOpening k → openCaptureOf bytes ≡ refusedOpening (openCaptureOf bytes .number)
     by k q = q ∙ ap refusedOpening (sym (ap (λ (o : Outcome). o .number) q ∙ refused-number modem64 k))
 
     go : (a : Bool) → sizeFits bytes ≡ a → (b : Bool) → versionFits bytes ≡ b → (c : Bool) → lengthFits bytes ≡ c
-        → (d : Bool) → knownRate (rateIn bytes) ≡ d → (e : Bool) → fitDoubt (listIn bytes) ≡ e
+        → (d : Bool) → knownRate (rateIn bytes) ≡ d → (g : Bool) → suitsVersion bytes ≡ g → (e : Bool) → fitDoubt (listIn bytes) ≡ e
         → openCaptureOf bytes ≡ refusedOpening (openCaptureOf bytes .number)
-    go false s b v c l d r e f = by wrongLength (open-size bytes s)
-    go true s false v c l d r e f = by wrongVersion (open-version bytes s v)
-    go true s true v false l d r e f = by wrongLength (open-length bytes s v l)
-    go true s true v true l false r e f =
-        by unknownRate (open-checked bytes s v l ∙ open-rate (rateIn bytes) (listIn bytes) (recordsIn bytes) r)
-    go true s true v true l true r false f =
-        by wrongDoubt (open-checked bytes s v l ∙ open-list (rateIn bytes) (listIn bytes) (recordsIn bytes) r f)
-    go true s true v true l true r true f =
-        let q : openCaptureOf bytes ≡ deliverRow (newBook (rateIn bytes) (listIn bytes)) (recordsIn bytes) =
-        open-checked bytes s v l ∙ open-with (rateIn bytes) (listIn bytes) (recordsIn bytes) r f in
+    go false s b v c l d r g m e f = by wrongLength (open-size bytes s)
+    go true s false v c l d r g m e f = by wrongVersion (open-version bytes s v)
+    go true s true v false l d r g m e f = by wrongLength (open-length bytes s v l)
+    go true s true v true l false r g m e f = by unknownRate (open-unknown bytes s v l r)
+    go true s true v true l true r false m e f = by wrongDoubt (open-misfit bytes s v l r m)
+    go true s true v true l true r true m false f = by wrongDoubt (open-unfit bytes s v l r m f)
+    go true s true v true l true r true m true f =
+        let q : openCaptureOf bytes ≡ deliverRow (newBook (rateIn bytes) (listIn bytes)) (recordsIn bytes) = open-checked bytes s v l r m f in
         q
         ∙ refused-row modem64 (newBook (rateIn bytes) (listIn bytes)) (recordsIn bytes) (λ m. n (ap (λ (o : Outcome). o .number) q ∙ m))
         ∙ ap (λ (o : Outcome). refusedOpening (o .number)) (sym q)

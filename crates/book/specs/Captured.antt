@@ -21,7 +21,7 @@ use Rattle.book.specs.Book.{Entry, Book, newBook, taken, Outcome}
 use Rattle.book.specs.Delivery.{withEntry}
 use Rattle.book.specs.Capture.{recordLength, recordsOf}
 use Rattle.book.specs.CaptureOpening.{rateIn, listIn, recordsIn, openCaptureOf, doubtIn}
-use Rattle.book.specs.CaptureCases.{open-checked, open-with, bookIn, capture-fit, capture-proper}
+use Rattle.book.specs.CaptureCases.{open-checked, bookIn, capture-fit, capture-proper}
 use Rattle.book.specs.RowLaws.{deliver-accepted, open-accepted}
 use Rattle.book.specs.AnyCalls.{Answer}
 use Rattle.book.specs.Machine.{answersBy, afterBy}
@@ -87,8 +87,7 @@ capture-opens bytes n =
     let r : knownRate (rateIn bytes) ≡ true = fit .proper .rate-known in
     let f : fitDoubt (listIn bytes) ≡ true = fit .proper .list-fit in
     let o : openCaptureOf bytes ≡ deliverRow (newBook (rateIn bytes) (listIn bytes)) (recordsIn bytes) =
-    open-checked bytes (fit .size-fits) (fit .version-fits) (fit .length-fits)
-    ∙ open-with (rateIn bytes) (listIn bytes) (recordsIn bytes) r f in
+    open-checked bytes (fit .size-fits) (fit .version-fits) (fit .length-fits) r (fit .suits) f in
     let c =
     row-calls (newBook (rateIn bytes) (listIn bytes)) (recordsIn bytes) (sym (ap (λ (x : Outcome). x .number) o) ∙ n) in
     record {

@@ -28,6 +28,7 @@ pub mod CaptureOpening
 pub mod LookUp
 pub mod CaptureLaws
 pub mod CaptureCases
+pub mod Versions
 pub mod RoundTrip
 pub mod LookUpLaws
 pub mod Reading

@@ -6,6 +6,8 @@
 --   markOf margin, amountOf margin   1 and the margin where there is one; 0 and 0 where there is none
 --   Shows report total tests pinned changed margin   the report has its length in bytes, and they hold these numbers: none of them is cut
 --   reads-back             numbers that fit their bytes are read off the report that is made of them
+--   test-words-few, test-count-fits   with no more doubtful places than the largest doubt there are at most 2 to the power of it test words, and the number
+--                          of those with a codeword within T fits its two bytes
 --   ShowsFor k columns doubtful m report   the report shows the message's total, the test words with a codeword within T, pinned and changed places, and
 --                          the margin
 --   report-shows           so does the report of every message, if the columns' costs are 0 to 65535 and no more places are doubtful than the largest doubt
@@ -26,12 +28,14 @@ use Rattle.lists.specs.Distinct.{below, below-nil, below-one, below-append, and
 use Rattle.soft.specs.Total.{symbolAt, totalOf, pinnedOf, changedOf, bytesOf, marginBytes, reportOf}
 use Rattle.soft.specs.TotalLaws.{total-bound, pinned-le, changed-le, bytesOf-length, reportOf-length}
 use Rattle.soft.specs.Column.{ceiling}
-use Rattle.soft.specs.Blank.{openAt}
+use Rattle.soft.specs.Blank.{openAt, unblanked}
+use Rattle.soft.specs.BlankLaws.{unblanked-length}
 use Rattle.soft.specs.TestWord.{testWords}
+use Rattle.soft.specs.TestWordLaws.{testWords-count}
 use Rattle.family.specs.Encoding.{encodeOf}
 use Rattle.near.specs.Near.{messageCost}
 use Rattle.near.specs.Reach.{reachIn}
-use Rattle.near.specs.Laws.{tests-tree}
+use Rattle.near.specs.Laws.{tests-le}
 use Rattle.near.specs.Runner.{margin-le}
 use Rattle.book.specs.Model.{Model, places}
 use Rattle.book.specs.Book.{Book}
@@ -204,6 +208,19 @@ module _ (𝓓 : Model) where
               ∙ number-there 4 (7 + wide + wide) (amountOf margin) (counts ++ bytesOf 1 (markOf margin)) [] mark-length e;
         }
 
+  -- ---- the test words: document 02's 'up to 4,096 test words, and the test count still fits its two bytes'
+
+  module _ (columns : ℕ → List ℕ) (doubtful : List ℕ) (few : length doubtful ≤ mostDoubt) where
+    pub test-words-few : length (testWords (places 𝓓) columns doubtful) ≤ 2 ^ mostDoubt
+    test-words-few =
+        let b : 2 ^ length (unblanked (openAt columns) doubtful) ≤ 2 ^ mostDoubt = pow-mono (omega (arith, few, unblanked-length (openAt columns) doubtful)) in
+        omega (arith, testWords-count (places 𝓓) columns doubtful)
+
+    pub test-count-fits : (k : ℕ) → (testsFor 𝓓 k columns doubtful ≤ 2 ^ mostDoubt) × (testsFor 𝓓 k columns doubtful < 256 ^ 2)
+    test-count-fits k =
+        let l = tests-le member (openAt columns) (reachIn member k columns) k (testWords (places 𝓓) columns doubtful) in
+        (omega (arith, l, test-words-few), omega (arith, l, test-words-few, tests-fit))
+
   -- ---- the report of a message
 
   abbrev pub ShowsFor : ℕ → (ℕ → List ℕ) → List ℕ → List ℕ → List ℕ → Type 0
@@ -218,13 +235,12 @@ module _ (𝓓 : Model) where
       let word = encodeOf member k m in
       let a : (n : List ℕ) → totalOf (places 𝓓) columns (encodeOf member k n) ≤ places 𝓓 * ceiling =
       λ n. total-bound columns (encodeOf member k n) (places 𝓓) ceiling (λ p h. column-cost 𝓓 (c .at p h) (symbolAt (encodeOf member k n) p)) in
-      let b : 2 ^ length doubtful ≤ 2 ^ mostDoubt = pow-mono few in
       let e : amountOf (marginFor 𝓓 k columns doubtful m) ≤ places 𝓓 * ceiling =
       amount-le (marginFor 𝓓 k columns doubtful m)
       (λ d q. margin-le member (openAt columns) (reachIn member k columns) k columns (testWords (places 𝓓) columns doubtful) a m q) in
       reads-back (totalOf (places 𝓓) columns word) (testsFor 𝓓 k columns doubtful) (pinnedOf (places 𝓓) columns word)
       (changedOf (places 𝓓) columns word) (marginFor 𝓓 k columns doubtful m) (omega (arith, totals-fit, a m))
-      (omega (arith, tests-fit, tests-tree member (openAt columns) (reachIn member k columns) k (places 𝓓) columns doubtful))
+      (test-count-fits columns doubtful few k .1)
       (omega (arith, counts-fit, pinned-le columns word (places 𝓓))) (omega (arith, counts-fit, changed-le columns word (places 𝓓)))
       (omega (arith, totals-fit, e))
 

@@ -3,7 +3,7 @@
 --   capture-length, written-order   the capture of a proper book has 2,117 + d bytes, and its records are in place order
 --   write-size, write-missing, write-accepted   the three cases of writing
 --   write-whole          where it is accepted, the buffer has the right size and no place is missing
---   size-range, version-one, length-right, none-missing   what the checks of an accepted capture say
+--   size-range, length-right, none-missing   what the checks of an accepted capture say
 --   open-written         the capture of a proper book opens as that book with its row in place order: the same rate, list and columns
 --   write-then-open      so writing, where it is accepted, and then opening gives the book with its row in place order
 --   written-columns      the capture of the book that an accepted capture opens as has the same column for each place
@@ -24,11 +24,12 @@ use Rattle.lists.specs.Distinct.{below, below-drop, below-at, and-left, and-rig
 use Rattle.soft.specs.Doubt.{mostDoubt}
 use Rattle.book.specs.Model.{modem64}
 use Rattle.book.specs.Book.{Entry, Book, newBook, columnIn, Outcome}
-use Rattle.book.specs.Capture.{bodyLength, captureLength, rowBytes, recordsOf, captureOf}
+use Rattle.book.specs.Capture.{bodyLength, captureLength, versionOf, rowBytes, recordsOf, captureOf}
 use Rattle.book.specs.Writing.{Filled, writeOf}
-use Rattle.book.specs.CaptureOpening.{rateIn, doubtIn, listIn, recordsIn, sizeFits, versionFits, lengthIn, lengthFits, openWith, openCaptureOf}
+use Rattle.book.specs.CaptureOpening.{rateIn, doubtIn, listIn, recordsIn, sizeFits, versionFits, lengthIn, lengthFits, suitsVersion, openWith, openCaptureOf}
 use Rattle.book.specs.RowLaws.{missing-count}
-use Rattle.book.specs.CaptureCases.{open-checked, open-with, bookIn, Fit, capture-fit}
+use Rattle.book.specs.CaptureCases.{open-suited, open-with, bookIn, Fit, capture-fit}
+use Rattle.book.specs.Versions.{version-is, version-suited}
 use Rattle.book.specs.CaptureLaws.{row-bytes-length, records-row, row-records, records-length}
 use Rattle.book.specs.OpeningLaws.{list-short}
 use Rattle.book.specs.PlaceOrder.{InPlaceOrder, order-length, order-wide, order-rises, order-proper, order-columns, order-same}
@@ -63,7 +64,11 @@ module _ (book : Book) (proper : Proper book) where
 
   written-version : versionFits (captureOf book) ≡ true
   unfolding versionFits captureOf
-  written-version = refl
+  written-version = version-is (length (book .doubtful))
+
+  written-suits : suitsVersion (captureOf book) ≡ true
+  unfolding suitsVersion captureOf
+  written-suits = eq-eqb (versionOf (length (book .doubtful))) (versionOf (length (book .doubtful))) refl
 
   written-length : lengthFits (captureOf book) ≡ true
   unfolding lengthFits captureOf
@@ -83,7 +88,7 @@ module _ (book : Book) (proper : Proper book) where
   written-records =
       let bytes : List ℕ = rowBytes (inPlaceOrder (book .row)) in
       ap (recordsOf places)
-      (behind 1 (bodyLength (length (book .doubtful)) / 256) (bodyLength (length (book .doubtful)) % 256) (book .rate)
+      (behind (versionOf (length (book .doubtful))) (bodyLength (length (book .doubtful)) / 256) (bodyLength (length (book .doubtful)) % 256) (book .rate)
       (length (book .doubtful)) (book .doubtful ++ bytes)
       ∙ drop-at (book .doubtful) bytes (length (book .doubtful)) refl)
       ∙ ap (λ n. recordsOf n bytes) (sym (order-length modem64 (book .row)))
@@ -100,7 +105,7 @@ module _ (book : Book) (proper : Proper book) where
   unfolding extended newBook Ordering.ordered
   open-written =
       let sorted = order-proper modem64 book proper in
-      open-checked (captureOf book) written-size written-version written-length
+      open-suited (captureOf book) written-size written-version written-length written-suits
       ∙ ap₂ (λ r (l : List ℕ). openWith r l (recordsIn (captureOf book))) written-rate written-list
       ∙ ap (openWith (book .rate) (book .doubtful)) written-records
       ∙ open-with (book .rate) (book .doubtful) (inPlaceOrder (book .row)) (proper .rate-known) (proper .list-fit)
@@ -151,10 +156,6 @@ size-range bytes s = (
   leb-true (captureLength 0) (length bytes) (and-left (leb (captureLength 0) (length bytes)) (leb (length bytes) (captureLength mostDoubt)) s),
   leb-true (length bytes) (captureLength mostDoubt) (and-right (leb (captureLength 0) (length bytes)) (leb (length bytes) (captureLength mostDoubt)) s),
 )
-
-pub version-one : (bytes : List ℕ) → versionFits bytes ≡ true → getD bytes 0 0 ≡ 1
-unfolding versionFits
-version-one bytes v = eqb-true (getD bytes 0 0) 1 v
 
 pub length-right : (bytes : List ℕ) → lengthFits bytes ≡ true
     → (lengthIn bytes + 3 ≡ length bytes) × (lengthIn bytes ≡ bodyLength (doubtIn bytes))
@@ -212,7 +213,7 @@ module _ (bytes : List ℕ) (b : below 256 bytes ≡ true) (fit : Fit bytes) whe
       let r = length-right bytes (fit .length-fits) in
       let n : length (listIn bytes) ≡ doubtIn bytes = list-long in
       let low : getD bytes 2 0 < 256 = below-at 256 bytes 2 b (omega arith) in
-      ap₂ (λ x (l : List ℕ). x ∷ l) (sym (version-one bytes (fit .version-fits)))
+      ap₂ (λ x (l : List ℕ). x ∷ l) (ap versionOf n ∙ sym (version-suited bytes (fit .suits)))
       (ap₂ (λ x (l : List ℕ). x ∷ l) (omega arith)
       (ap₂ (λ x (l : List ℕ). x ∷ l) (omega arith)
       (ap₂ (λ x (l : List ℕ). rateIn bytes ∷ x ∷ l) n

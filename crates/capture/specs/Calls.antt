@@ -14,7 +14,7 @@ use Rattle.refusals.specs.Refusal.{accepted}
 use Rattle.lists.specs.Listed.{listed}
 use Rattle.soft.specs.CostBytes.{costBytes}
 use Rattle.book.specs.Book.{Entry}
-use Rattle.book.specs.Capture.{bodyLength}
+use Rattle.book.specs.Capture.{bodyLength, versionOf}
 use Rattle.book.specs.Writing.{writeOf}
 use Rattle.session.specs.declared.Session.{Session}
 use Rattle.session.specs.View.{entryAt, bookOf, Good}
@@ -23,7 +23,7 @@ abbrev pub headLength : ℕ → ℕ
 headLength d = 5 + d
 
 unfoldable pub headBytes : ℕ → List ℕ → List ℕ
-headBytes rate list = 1 ∷ bodyLength (length list) / 256 ∷ bodyLength (length list) % 256 ∷ rate ∷ length list ∷ list
+headBytes rate list = versionOf (length list) ∷ bodyLength (length list) / 256 ∷ bodyLength (length list) % 256 ∷ rate ∷ length list ∷ list
 
 unfoldable pub recordBytes : ℕ → List ℕ → List ℕ
 recordBytes p column = p ∷ costBytes column

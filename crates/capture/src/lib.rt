@@ -1,9 +1,15 @@
-// The layout of a capture: its version, and where its parts stand and how many bytes they have. It knows of no code that writes or reads one.
+// The layout of a capture: its versions, and where its parts stand and how many bytes they have. It knows of no code that writes or reads one.
 // What a capture holds is written in `book`; what writing and opening one answer, and their round trips, in specs/.
+ghost use mathlib.Core.Path.{_≡_};
+ghost use Rattle.book.specs.Capture.{isVersion, versionOf};
 use doubt::MOST_DOUBT;
 
-// The version of captures that are written and read.
-pub const VERSION: u8 = 1;
+// The versions of captures that are written and read, and the most doubtful places of the first one.
+pub const FIRST_VERSION: u8 = 1;
+
+pub const SECOND_VERSION: u8 = 2;
+
+pub const MOST_IN_FIRST_VERSION: usize = 8;
 
 // Version, two bytes of length, rate and d: where they stand, and how many bytes lie before the doubtful list.
 pub const VERSION_AT: usize = 0;
@@ -31,3 +37,22 @@ pub const BODY_BYTES: usize = 2114;
 pub const LEAST_BYTES: usize = 2117;
 
 pub const MOST_BYTES: usize = LEAST_BYTES + MOST_DOUBT;
+
+pub fn is_version(version: u8) -> bool
+    ensures { λ r. ⌜ r ≡ isVersion version ⌝ }
+{
+    if version == FIRST_VERSION {
+        return true;
+    }
+    version == SECOND_VERSION
+}
+
+// The version of a capture with so many doubtful places.
+pub fn version_of(doubt: usize) -> u8
+    ensures { λ r. ⌜ r ≡ versionOf doubt ⌝ }
+{
+    if MOST_IN_FIRST_VERSION < doubt {
+        return SECOND_VERSION;
+    }
+    FIRST_VERSION
+}

@@ -1,22 +1,25 @@
 -- The checks of an opening of a capture: each return of the code is a case of it.
-use mathlib.Core.Bool.{true, _&&_, and-false}
+use mathlib.Core.Bool.{true, false, _&&_, and-false}
 use mathlib.Core.Path.{_≡_, sym, ap, _∙_, subst}
 use mathlib.Core.List.{List}
 use Prim.Native.Nat.{ℕ, _+_, _-_, _<_, _≤_}
 use native.Mathlib.Omega.{arith}
 use lib.Dec.{eqb, leb}
-use lib.ListN.{length, getD, take, drop}
+use lib.ListN.{length, take, drop}
 use borrow.Author.Tests.{le-leb, lt-leb, eq-eqb, ne-eqb}
-use Rattle.refusals.specs.Refusal.{accepted, wrongVersion, wrongLength}
+use Rattle.refusals.specs.Refusal.{accepted, wrongDoubt, wrongVersion, wrongLength}
 use Rattle.lists.specs.Distinct.{and-both}
 use Rattle.soft.specs.Doubt.{mostDoubt}
 use Rattle.book.specs.Model.{modem64}
+use Rattle.book.specs.Book.{Outcome}
 use Rattle.book.specs.Columns.{agree-sym}
-use Rattle.book.specs.Capture.{bodyLength, captureLength, recordsOf}
-use Rattle.book.specs.CaptureOpening.{rateIn, doubtIn, recordsIn, sizeFits, versionFits, lengthIn, lengthFits, openWith, openCaptureOf}
-use Rattle.book.specs.CaptureCases.{open-size, open-version, open-length, open-checked, with-on, with-refused}
+use Rattle.book.specs.Capture.{bodyLength, captureLength, isVersion, versionOf, recordsOf}
+use Rattle.book.specs.CaptureOpening.{versionIn, rateIn, doubtIn, listIn, recordsIn, sizeFits, versionFits, lengthIn, lengthFits, suitsVersion, openWith, openCaptureOf}
+use Rattle.book.specs.CaptureCases.{open-size, open-version, open-length, open-suited, open-refused, with-on}
+use Rattle.book.specs.Versions.{misfit-refused}
+use Rattle.book.specs.Sentences.{opening-only}
 use Rattle.book.specs.AlikeDelivery.{agreed-path, agreed-trans, row-alike}
-use Rattle.book.specs.Here.{places, deliverRow}
+use Rattle.book.specs.Here.{places, openOf, deliverRow}
 use Rattle.session.specs.declared.Opened.{Opened}
 use Rattle.session.specs.View.{bookOf}
 use Rattle.session.specs.Calls.{refusedWith, openedOf, Opening}
@@ -40,14 +43,14 @@ module _ (bytes : List ℕ) where
     unfolding sizeFits
     sized = and-both (leb (captureLength 0) (length bytes)) (leb (length bytes) (captureLength mostDoubt)) (le-leb (captureLength 0) (length bytes) least) (le-leb (length bytes) (captureLength mostDoubt) most)
 
-    pub other-version : (getD bytes 0 0 ≡ 1 → ⊥) → Opening (openCaptureOf bytes) (refusedWith wrongVersion)
+    pub other-version : isVersion (versionIn bytes) ≡ false → Opening (openCaptureOf bytes) (refusedWith wrongVersion)
     unfolding versionFits
-    other-version v = rw (open-version bytes sized (ne-eqb (getD bytes 0 0) 1 v)) (refused-opens wrongVersion)
+    other-version v = rw (open-version bytes sized v) (refused-opens wrongVersion)
 
-    module _ (one : getD bytes 0 0 ≡ 1) where
+    module _ (one-of-two : isVersion (versionIn bytes) ≡ true) where
       versioned : versionFits bytes ≡ true
       unfolding versionFits
-      versioned = eq-eqb (getD bytes 0 0) 1 one
+      versioned = one-of-two
 
       pub other-total : (lengthIn bytes + 3 ≡ length bytes → ⊥) → Opening (openCaptureOf bytes) (refusedWith wrongLength)
       unfolding lengthFits
@@ -68,29 +71,43 @@ module _ (bytes : List ℕ) where
 
       module _ (total : lengthIn bytes + 3 ≡ length bytes) (body : lengthIn bytes ≡ bodyLength (doubtIn bytes)) (list : List ℕ)
           (parted : list ≡ take (5 + doubtIn bytes - 5) (drop 5 bytes)) where
-        checked : openCaptureOf bytes ≡ openWith (rateIn bytes) list (recordsIn bytes)
+        measured : lengthFits bytes ≡ true
         unfolding lengthFits
-        checked =
-            let n : 5 + doubtIn bytes - 5 ≡ doubtIn bytes = omega arith in
-            open-checked bytes sized versioned
-            (and-both (eqb (lengthIn bytes + 3) (length bytes)) (eqb (lengthIn bytes) (bodyLength (doubtIn bytes)))
-            (eq-eqb (lengthIn bytes + 3) (length bytes) total) (eq-eqb (lengthIn bytes) (bodyLength (doubtIn bytes)) body))
-            ∙ ap (λ (l : List ℕ). openWith (rateIn bytes) l (recordsIn bytes)) (sym (parted ∙ ap (λ k. take k (drop 5 bytes)) n))
+        measured =
+            and-both (eqb (lengthIn bytes + 3) (length bytes)) (eqb (lengthIn bytes) (bodyLength (doubtIn bytes)))
+            (eq-eqb (lengthIn bytes + 3) (length bytes) total) (eq-eqb (lengthIn bytes) (bodyLength (doubtIn bytes)) body)
+
+        named : listIn bytes ≡ list
+        named = let n : 5 + doubtIn bytes - 5 ≡ doubtIn bytes = omega arith in sym (parted ∙ ap (λ k. take k (drop 5 bytes)) n)
 
         pub opening-refused : (openedOf (rateIn bytes) list .refusal ≡ accepted → ⊥)
             → Opening (openCaptureOf bytes) (openedOf (rateIn bytes) list)
         opening-refused n =
+            let q : openOf (rateIn bytes) (listIn bytes) ≡ openOf (rateIn bytes) list = ap (openOf (rateIn bytes)) named in
             rw (
-              checked,
-              with-refused (rateIn bytes) list (recordsIn bytes) (λ e. n (opens (rateIn bytes) list .number ∙ e)),
+              open-refused bytes sized versioned measured
+                  (λ e. n (opens (rateIn bytes) list .number ∙ sym (ap (λ (o : Outcome). o .number) q) ∙ e)),
+              q,
             )
             (opens (rateIn bytes) list)
 
+        -- an opening that is accepted has a known rate
+        pub opening-misfit : openedOf (rateIn bytes) list .refusal ≡ accepted → (versionIn bytes ≡ versionOf (doubtIn bytes) → ⊥)
+            → Opening (openCaptureOf bytes) (refusedWith wrongDoubt)
+        opening-misfit n m =
+            let known = opening-only modem64 (rateIn bytes) list (sym (opens (rateIn bytes) list .number) ∙ n) .0 in
+            rw (misfit-refused bytes sized versioned measured m known) (refused-opens wrongDoubt)
+
         pub delivering : (rest : List ℕ) (r : Opened) → openedOf (rateIn bytes) list .refusal ≡ accepted
+            → versionIn bytes ≡ versionOf (doubtIn bytes)
             → rest ≡ take (length bytes - (5 + doubtIn bytes)) (drop (5 + doubtIn bytes) bytes)
             → Opening (deliverRow (bookOf (openedOf (rateIn bytes) list .session)) (recordsOf places rest)) r
             → Opening (openCaptureOf bytes) r
-        delivering rest r n e d =
+        unfolding suitsVersion
+        delivering rest r n m e d =
+            let checked : openCaptureOf bytes ≡ openWith (rateIn bytes) list (recordsIn bytes) =
+            open-suited bytes sized versioned measured (eq-eqb (versionIn bytes) (versionOf (doubtIn bytes)) m)
+            ∙ ap (λ (l : List ℕ). openWith (rateIn bytes) l (recordsIn bytes)) named in
             let q : rest ≡ drop (5 + doubtIn bytes) bytes = e ∙ rest-whole (5 + doubtIn bytes) bytes in
             let o = opens (rateIn bytes) list in
             opening-agreed

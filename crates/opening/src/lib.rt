@@ -18,8 +18,9 @@ use capture::LENGTH_LOW_AT;
 use capture::MOST_BYTES;
 use capture::RATE_AT;
 use capture::RECORD_BYTES;
-use capture::VERSION;
 use capture::VERSION_AT;
+use capture::is_version;
+use capture::version_of;
 use columns::costs::PLACES;
 use session::Opened;
 use session::Session;
@@ -58,7 +59,8 @@ pub fn open_capture(bytes: &[u8]) -> Opened
     if MOST_BYTES < bytes.len() {
         return session::refused(refusals::WRONG_LENGTH);
     }
-    if bytes[VERSION_AT] != VERSION {
+    let version = bytes[VERSION_AT];
+    if !is_version(version) {
         return session::refused(refusals::WRONG_VERSION);
     }
     let length = 256 * (bytes[LENGTH_HIGH_AT] as usize) + bytes[LENGTH_LOW_AT] as usize;
@@ -73,6 +75,9 @@ pub fn open_capture(bytes: &[u8]) -> Opened
     let opened = session::open(bytes[RATE_AT] as usize, &bytes[HEAD_BYTES..start]);
     if opened.refusal != refusals::ACCEPTED {
         return opened;
+    }
+    if version != version_of(doubt) {
+        return session::refused(refusals::WRONG_DOUBT);
     }
     deliver_records(opened.session, &bytes[start..])
 }

@@ -16,8 +16,8 @@ use capture::LENGTH_HIGH_AT;
 use capture::LENGTH_LOW_AT;
 use capture::RATE_AT;
 use capture::RECORD_BYTES;
-use capture::VERSION;
 use capture::VERSION_AT;
+use capture::version_of;
 use columns::costs::PLACES;
 use columns::costs::SYMBOLS;
 use doubt::MOST_DOUBT;
@@ -71,7 +71,7 @@ fn write_head(rate: u8, list: [u8; MOST_DOUBT], count: usize, out: &mut [u8])
     ensures { λ _. ⌜ now (out .exit) ≡ headBytes rate (take count list) ⌝ }
 {
     let length = BODY_BYTES + count;
-    out[VERSION_AT] = VERSION;
+    out[VERSION_AT] = version_of(count);
     out[LENGTH_HIGH_AT] = (length / 256) as u8;
     out[LENGTH_LOW_AT] = (length % 256) as u8;
     out[RATE_AT] = rate;

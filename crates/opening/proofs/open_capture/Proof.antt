@@ -1,11 +1,12 @@
 -- `opening::open_capture` meets its contract: each return is a case of opening a capture, and the tests on the way say which.
 use borrow.Author.Needs.{needs}
+use borrow.Author.Tests.{not-true, not-false}
 use mathlib.Core.Path.{_≡_, refl, sym, ap, _∙_, subst}
 use mathlib.Core.List.{List}
-use Prim.Native.Nat.{ℕ, _+_, _-_}
+use Prim.Native.Nat.{ℕ, _+_, _*_, _-_}
 use native.Mathlib.Omega.{arith}
 use lib.ListN.{length, take, drop}
-use Rattle.book.specs.Capture.{bodyLength, recordsOf}
+use Rattle.book.specs.Capture.{bodyLength, recordLength, recordsOf}
 use Rattle.book.specs.CaptureOpening.{rateIn, doubtIn, lengthIn, openCaptureOf}
 use Rattle.book.specs.Here.{places, deliverRow}
 use Rattle.session.specs.declared.Opened.{Opened}
@@ -13,7 +14,7 @@ use Rattle.session.specs.View.{bookOf, Good}
 use Rattle.session.specs.Calls.{openedOf, Opening}
 use Rattle.session.specs.Laws.{opens}
 use Rattle.capture.specs.Rest.{rest-length}
-use Rattle.opening.proofs.Checked.{too-short, too-long, other-version, other-total, other-doubt, opening-refused, delivering}
+use Rattle.opening.proofs.Checked.{too-short, too-long, other-version, other-total, other-doubt, opening-refused, opening-misfit, delivering}
 use Rattle.opening.proofs.open_capture.Statement.{statement}
 use Rattle.opening.proofs.open_capture.Tie as tie
 
@@ -29,16 +30,21 @@ refused-requires-2 c κs = search needs
 returns-2 : tie.Need-returns-2
 returns-2 c = rw (c .refused2 .ensures) (too-long _ (c .before .if2 .taken))
 
-shared-slice-read-if3 : tie.Need-shared-slice-read-if3
-shared-slice-read-if3 c = search needs
+shared-slice-read-version : tie.Need-shared-slice-read-version
+shared-slice-read-version c = search needs
+
+is-version-requires : tie.Need-is-version-requires
+is-version-requires c κs = search needs
 
 refused-requires-3 : tie.Need-refused-requires-3
 refused-requires-3 c κs = search needs
 
 returns-3 : tie.Need-returns-3
 returns-3 c =
+    let v = c .before .before in
+    let s2 = v .before .before in
     rw (c .refused3 .ensures)
-    (other-version _ (c .before .before .before .before .if1 .left) (c .before .before .before .if2 .left) (c .before .if3 .taken))
+    (other-version _ (s2 .before .if1 .left) (s2 .if2 .left) (sym (v .is-version .ensures) ∙ not-true _ (c .before .if3 .taken)))
 
 shared-slice-read-length : tie.Need-shared-slice-read-length
 shared-slice-read-length c = search needs
@@ -72,8 +78,11 @@ refused-requires-4 c κs = search needs
 
 returns-4 : tie.Need-returns-4
 returns-4 c =
+    let s3 = c .before .before .before .before .before in
+    let v = s3 .before in
+    let s2 = v .before .before in
     rw (c .refused4 .ensures)
-    (other-total _ (c .before .before .before .before .before .before .before .before .if1 .left) (c .before .before .before .before .before .before .before .if2 .left) (c .before .before .before .before .before .if3 .left) (c .before .if4 .taken))
+    (other-total _ (s2 .before .if1 .left) (s2 .if2 .left) (sym (v .is-version .ensures) ∙ not-false _ (s3 .if3 .left)) (c .before .if4 .taken))
 
 add-if5 : tie.Need-add-if5
 add-if5 c = omega (arith, c .before .shared-slice-known5 .given 4)
@@ -83,8 +92,11 @@ refused-requires-5 c κs = search needs
 
 returns-5 : tie.Need-returns-5
 returns-5 c =
+    let s3 = c .before .before .before .before .before .before in
+    let v = s3 .before in
+    let s2 = v .before .before in
     rw (c .refused5 .ensures)
-    (other-doubt _ (c .before .before .before .before .before .before .before .before .before .if1 .left) (c .before .before .before .before .before .before .before .before .if2 .left) (c .before .before .before .before .before .before .if3 .left) (c .before .if5 .taken))
+    (other-doubt _ (s2 .before .if1 .left) (s2 .if2 .left) (sym (v .is-version .ensures) ∙ not-false _ (s3 .if3 .left)) (c .before .if5 .taken))
 
 add-start : tie.Need-add-start
 add-start c = search needs
@@ -109,12 +121,42 @@ open-requires c κs = search needs
 
 returns-6 : tie.Need-returns-6
 returns-6 c =
-    let bytes : List ℕ = c .before .before .before .before .before .before .before .before .before .before .before .before .before .before .before .args .bytes .now in
+    let o = c .before .before in
+    let s5 = o .before .before .before in
+    let s4 = s5 .before in
+    let s3 = s4 .before .before .before .before in
+    let v = s3 .before in
+    let s2 = v .before .before in
+    let s1 = s2 .before in
+    let bytes : List ℕ = s1 .before .before .args .bytes .now in
     let list : List ℕ = take (5 + doubtIn bytes - 5) (drop 5 bytes) in
-    let e : c .before .before .«open» .result ≡ openedOf (rateIn bytes) list = c .before .before .«open» .ensures in
+    let e : o .«open» .result ≡ openedOf (rateIn bytes) list = o .«open» .ensures in
     subst (λ (o : Opened). Opening (openCaptureOf bytes) o) (sym e)
-    (opening-refused bytes (c .before .before .before .before .before .before .before .before .before .before .before .before .before .if1 .left) (c .before .before .before .before .before .before .before .before .before .before .before .before .if2 .left) (c .before .before .before .before .before .before .before .before .before .before .if3 .left) (c .before .before .before .before .before .before .if4 .left) (c .before .before .before .before .before .if5 .left) list refl
-    (λ n. c .if6 .taken (ap (λ (o : Opened). o .refusal) e ∙ n)))
+    (opening-refused bytes (s1 .if1 .left) (s2 .if2 .left) (sym (v .is-version .ensures) ∙ not-false _ (s3 .if3 .left)) (s4 .if4 .left) (s5 .if5 .left)
+    list refl (λ n. c .if6 .taken (ap (λ (o : Opened). o .refusal) e ∙ n)))
+
+version-of-requires : tie.Need-version-of-requires
+version-of-requires c κs = search needs
+
+refused-requires-6 : tie.Need-refused-requires-6
+refused-requires-6 c κs = search needs
+
+returns-7 : tie.Need-returns-7
+returns-7 c =
+    let s6 = c .before .before .before in
+    let o = s6 .before .before in
+    let s5 = o .before .before .before in
+    let s4 = s5 .before in
+    let s3 = s4 .before .before .before .before in
+    let v = s3 .before in
+    let s2 = v .before .before in
+    let s1 = s2 .before in
+    let bytes : List ℕ = s1 .before .before .args .bytes .now in
+    let list : List ℕ = take (5 + doubtIn bytes - 5) (drop 5 bytes) in
+    let e : o .«open» .result ≡ openedOf (rateIn bytes) list = o .«open» .ensures in
+    rw (c .refused6 .ensures)
+    (opening-misfit bytes (s1 .if1 .left) (s2 .if2 .left) (sym (v .is-version .ensures) ∙ not-false _ (s3 .if3 .left)) (s4 .if4 .left) (s5 .if5 .left)
+    list refl (sym (ap (λ (o : Opened). o .refusal) e) ∙ s6 .if6 .left) (λ q. c .before .if7 .taken (q ∙ sym (c .before .before .version-of .ensures))))
 
 sub-deliver-records : tie.Need-sub-deliver-records
 sub-deliver-records c = search needs
@@ -127,22 +169,34 @@ part-deliver-records-end c = search needs
 
 deliver-records-requires : tie.Need-deliver-records-requires
 deliver-records-requires c κs =
-    let bytes : List ℕ = c .before .before .before .before .before .before .before .before .before .before .before .before .before .before .before .before .args .bytes .now in
+    let o = c .before .before .before .before .before in
+    let s5 = o .before .before .before in
+    let s4 = s5 .before in
+    let bytes : List ℕ = s4 .before .before .before .before .before .before .before .before .before .before .args .bytes .now in
     let list : List ℕ = take (5 + doubtIn bytes - 5) (drop 5 bytes) in
-    let total : lengthIn bytes + 3 ≡ length bytes = c .before .before .before .before .before .before .before .if4 .left in
-    let body : lengthIn bytes ≡ bodyLength (doubtIn bytes) = c .before .before .before .before .before .before .if5 .left in (
-      subst (λ (o : Opened). Good (o .session)) (sym (c .before .before .before .«open» .ensures)) (opens (rateIn bytes) list .good),
-      rest-length (5 + doubtIn bytes) 2112 bytes (omega arith),
+    let total : lengthIn bytes + 3 ≡ length bytes = s4 .if4 .left in
+    let body : lengthIn bytes ≡ bodyLength (doubtIn bytes) = s5 .if5 .left in (
+      subst (λ (o : Opened). Good (o .session)) (sym (o .«open» .ensures)) (opens (rateIn bytes) list .good),
+      rest-length (5 + doubtIn bytes) (recordLength * places) bytes (omega arith),
     )
 
-returns-7 : tie.Need-returns-7
-returns-7 c =
-    let bytes : List ℕ = c .before .before .before .before .before .before .before .before .before .before .before .before .before .before .before .before .before .args .bytes .now in
+returns-8 : tie.Need-returns-8
+returns-8 c =
+    let s7 = c .before .before in
+    let s6 = s7 .before .before in
+    let o = s6 .before .before in
+    let s5 = o .before .before .before in
+    let s4 = s5 .before in
+    let s3 = s4 .before .before .before .before in
+    let v = s3 .before in
+    let s2 = v .before .before in
+    let s1 = s2 .before in
+    let bytes : List ℕ = s1 .before .before .args .bytes .now in
     let list : List ℕ = take (5 + doubtIn bytes - 5) (drop 5 bytes) in
     let rest : List ℕ = take (length bytes - (5 + doubtIn bytes)) (drop (5 + doubtIn bytes) bytes) in
-    let e : c .before .before .before .before .«open» .result ≡ openedOf (rateIn bytes) list = c .before .before .before .before .«open» .ensures in
-    delivering bytes (c .before .before .before .before .before .before .before .before .before .before .before .before .before .before .before .if1 .left) (c .before .before .before .before .before .before .before .before .before .before .before .before .before .before .if2 .left) (c .before .before .before .before .before .before .before .before .before .before .before .before .if3 .left) (c .before .before .before .before .before .before .before .before .if4 .left) (c .before .before .before .before .before .before .before .if5 .left) list refl
-    rest (c .deliver-records .result) (sym (ap (λ (o : Opened). o .refusal) e) ∙ c .before .before .if6 .left) refl
+    let e : o .«open» .result ≡ openedOf (rateIn bytes) list = o .«open» .ensures in
+    delivering bytes (s1 .if1 .left) (s2 .if2 .left) (sym (v .is-version .ensures) ∙ not-false _ (s3 .if3 .left)) (s4 .if4 .left) (s5 .if5 .left)
+    list refl rest (c .deliver-records .result) (sym (ap (λ (o : Opened). o .refusal) e) ∙ s6 .if6 .left) (s7 .if7 .left ∙ s7 .before .version-of .ensures) refl
     (subst (λ (o : Opened). Opening (deliverRow (bookOf (o .session)) (recordsOf places rest)) (c .deliver-records .result)) e
     (c .deliver-records .ensures))
 
@@ -154,7 +208,8 @@ open-capture-spec =
     returns
     refused-requires-2
     returns-2
-    shared-slice-read-if3
+    shared-slice-read-version
+    is-version-requires
     refused-requires-3
     returns-3
     shared-slice-read-length
@@ -179,8 +234,11 @@ open-capture-spec =
     part-open-end
     open-requires
     returns-6
+    version-of-requires
+    refused-requires-6
+    returns-7
     sub-deliver-records
     part-deliver-records-start
     part-deliver-records-end
     deliver-records-requires
-    returns-7)
+    returns-8)

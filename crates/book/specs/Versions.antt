@@ -1,0 +1,66 @@
+-- The two versions of a capture: which of them is written and read, and with how many doubtful places. Document 02's sentences, each a theorem.
+--
+--   version-one, version-two, version-is   version 1 up to 8 doubtful places, version 2 from 9 on; it is one of the two
+--   version-one-kept, version-two-written   the capture of a book: in the layout that both versions have, with the byte 1 or 2 first
+--   misfit-refused, misfit-unknown   a capture that passes the first three checks, and whose number of doubtful places does not suit its version, is refused
+--                        with 4, whatever its list and its records are; but with 1, if the rate is unknown
+--   version-suited, accepted-version   so the version of an accepted capture suits the number of its doubtful places
+use mathlib.Core.Bool.{true, false}
+use mathlib.Core.Path.{_≡_, ap}
+use mathlib.Core.List.{List}
+use mathlib.Core.Logic.{_≢_}
+use Prim.Native.Nat.{ℕ, _<_, _≤_}
+use native.Mathlib.Decide.{decLe}
+use native.Mathlib.Omega.{arith}
+use lib.ListN.{length}
+use borrow.Author.Tests.{le-leb, lt-leb, eqb-true, ne-eqb}
+use Rattle.refusals.specs.Refusal.{accepted, unknownRate, wrongDoubt}
+use Rattle.code.specs.Encoding.{knownRate}
+use Rattle.book.specs.Book.{Book}
+use Rattle.book.specs.Capture.{firstVersion, secondVersion, isVersion, mostInFirstVersion, versionOf, laidOut, captureOf}
+use Rattle.book.specs.CaptureOpening.{versionIn, rateIn, doubtIn, sizeFits, versionFits, lengthFits, suitsVersion, openCaptureOf}
+use Rattle.book.specs.CaptureCases.{open-unknown, open-misfit, capture-fit}
+use Rattle.book.specs.Here.{refusedOpening}
+
+pub version-one : (d : ℕ) → d ≤ mostInFirstVersion → versionOf d ≡ firstVersion
+unfolding versionOf
+version-one d few = rw (le-leb d mostInFirstVersion few)
+
+pub version-two : (d : ℕ) → mostInFirstVersion < d → versionOf d ≡ secondVersion
+unfolding versionOf
+version-two d many = rw (lt-leb d mostInFirstVersion many)
+
+pub version-is : (d : ℕ) → isVersion (versionOf d) ≡ true
+unfolding isVersion
+version-is d = go (decLe d mostInFirstVersion)
+  where
+    go : Dec (d ≤ mostInFirstVersion) → isVersion (versionOf d) ≡ true
+    go (yes few) = ap isVersion (version-one d few)
+    go (no many) = ap isVersion (version-two d (omega arith))
+
+-- 'those up to 8 stay version 1, byte for byte'
+pub version-one-kept : (book : Book) → length (book .doubtful) ≤ mostInFirstVersion → captureOf book ≡ laidOut firstVersion book
+unfolding captureOf
+version-one-kept book few = ap (λ v. laidOut v book) (version-one (length (book .doubtful)) few)
+
+-- 'Captures with 9 to 12 doubtful places carry version 2 in the same layout'
+pub version-two-written : (book : Book) → mostInFirstVersion < length (book .doubtful) → captureOf book ≡ laidOut secondVersion book
+unfolding captureOf
+version-two-written book many = ap (λ v. laidOut v book) (version-two (length (book .doubtful)) many)
+
+-- 'a doubtful count that doesn't suit its version is a doubtful-list fault'
+module _ (bytes : List ℕ) (s : sizeFits bytes ≡ true) (v : versionFits bytes ≡ true) (l : lengthFits bytes ≡ true)
+    (misfit : versionIn bytes ≢ versionOf (doubtIn bytes)) where
+  pub misfit-refused : knownRate (rateIn bytes) ≡ true → openCaptureOf bytes ≡ refusedOpening wrongDoubt
+  unfolding suitsVersion
+  misfit-refused r = open-misfit bytes s v l r (ne-eqb (versionIn bytes) (versionOf (doubtIn bytes)) misfit)
+
+  pub misfit-unknown : knownRate (rateIn bytes) ≡ false → openCaptureOf bytes ≡ refusedOpening unknownRate
+  misfit-unknown r = open-unknown bytes s v l r
+
+pub version-suited : (bytes : List ℕ) → suitsVersion bytes ≡ true → versionIn bytes ≡ versionOf (doubtIn bytes)
+unfolding suitsVersion
+version-suited bytes m = eqb-true (versionIn bytes) (versionOf (doubtIn bytes)) m
+
+pub accepted-version : (bytes : List ℕ) → openCaptureOf bytes .number ≡ accepted → versionIn bytes ≡ versionOf (doubtIn bytes)
+accepted-version bytes n = version-suited bytes (capture-fit bytes n .suits)
