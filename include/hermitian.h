@@ -45,14 +45,14 @@ extern "C" {
 #define HERMITIAN_TABLE_BYTES 2048
 #define HERMITIAN_BIT_VALUES 256
 #define HERMITIAN_REPORT_BYTES 13
-#define HERMITIAN_MOST_DOUBT 8
+#define HERMITIAN_MOST_DOUBT 12
 
 enum hermitian_refusal {
     HERMITIAN_ACCEPTED = 0,
     HERMITIAN_UNKNOWN_RATE = 1, /* the rate is not 39 or 49 */
     HERMITIAN_WRONG_SIZE = 2,   /* a buffer of the wrong size, or no 64 bytes from the start */
     HERMITIAN_NO_SYMBOL = 3,    /* a symbol above 15 */
-    HERMITIAN_WRONG_DOUBT = 4,  /* a doubt above 8, or a maximum of 0 or above 8 */
+    HERMITIAN_WRONG_DOUBT = 4,  /* a doubt above 12, or a maximum of 0 or above 12 */
     HERMITIAN_NO_CODEWORD = 8,  /* the word is not a codeword */
     HERMITIAN_NONE_NEAR = 9,    /* no codeword is near */
     HERMITIAN_TOO_BLANK = 12    /* more than 13 blank places at rate 39, more than 3 at rate 49 */
@@ -75,7 +75,7 @@ uint8_t hermitian_read_back(size_t rate,
                             const uint8_t *word, size_t word_length,
                             uint8_t *message, size_t message_length);
 
-/* Decodes a table of costs with doubt 0 to 8: writes the message of the near codeword of
+/* Decodes a table of costs with doubt 0 to 12: writes the message of the near codeword of
  * least total cost, and its report. The doubtful places are those of smallest gap, second
  * cost minus best cost; where the second is 65535 and the best is lower, it counts as 65535.
  * A blank place is never doubtful, wrong or changed, but each two of them take one from the
@@ -90,7 +90,7 @@ uint8_t hermitian_decode_table(size_t rate,
 
 /* Decodes a table of costs with as many doubtful places as its gaps ask for: those whose gap is
  * smaller than the threshold, but one place at least, and no more than the maximum, most,
- * which is 1 to 8.
+ * which is 1 to 12.
  * They are taken as hermitian_decode_table takes them: by the smallest gap, with gaps counted
  * as there, equal gaps by the lower place, and no blank place. So the answer is that of
  * hermitian_decode_table with a doubt of so many. Every threshold of 16 bits is taken.

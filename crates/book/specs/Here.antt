@@ -3,6 +3,7 @@
 --   places, width        its 64 places and the sixteen costs in a column, of `soft` Column
 --   reportLength, tableLength, frameLength   the report's 13 bytes, the table's 2,048, and the 256 of a frame of bit values
 --   power                sixteen symbols are those of four bits
+--   test-count-here      with at most 12 doubtful places there are at most 4,096 test words, and the number of those with a codeword within T fits two bytes
 --   pinnedIn, changedIn, markIn, marginIn   the report's bytes 6, 7 and 8, and the number in its last four: pinned-byte, changed-byte, mark-byte, margin-bytes
 --
 -- All others mean what they mean in Book, Opening, Delivery, Withdrawal, Columns, Entries, RowLaws, OpeningLaws, PlaceOrder, Closing, Table, Below, Bits,
@@ -11,10 +12,12 @@ use mathlib.Core.Bool.{Bool}
 use mathlib.Core.Path.{_≡_, refl}
 use mathlib.Core.List.{List}
 use mathlib.Core.Option.{Option}
-use Prim.Native.Nat.{ℕ, _+_, _*_, _^_}
+use Prim.Native.Nat.{ℕ, _+_, _*_, _^_, _<_, _≤_}
 use native.Mathlib.Omega.{arith}
-use lib.ListN.{getD}
+use lib.ListN.{length, getD}
 use Rattle.soft.specs.Column as Column
+use Rattle.soft.specs.Doubt.{mostDoubt}
+use Rattle.soft.specs.TestWord.{testWords}
 use Rattle.soft.specs.Bits.{bits}
 use Rattle.book.specs.Model.{modem64}
 use Rattle.book.specs.Model as Models
@@ -113,6 +116,9 @@ RowColumns row = Costs.RowColumns modem64 row
 abbrev pub reportLength : ℕ
 reportLength = 13
 
+abbrev pub testsFor : ℕ → (ℕ → List ℕ) → List ℕ → ℕ
+testsFor k columns doubtful = Closing.testsFor modem64 k columns doubtful
+
 abbrev pub marginFor : ℕ → (ℕ → List ℕ) → List ℕ → List ℕ → Option ℕ
 marginFor k columns doubtful m = Closing.marginFor modem64 k columns doubtful m
 
@@ -181,6 +187,13 @@ margin-bytes report = omega arith
 
 abbrev pub Shows : List ℕ → ℕ → ℕ → ℕ → ℕ → Option ℕ → Type 0
 Shows report total tests pinned changed margin = Report.Shows modem64 report total tests pinned changed margin
+
+-- 'up to 4,096 test words, and the test count still fits its two bytes'
+pub test-count-here : (k : ℕ) (columns : ℕ → List ℕ) (doubtful : List ℕ) → length doubtful ≤ mostDoubt
+    → (length (testWords places columns doubtful) ≤ 4096) × (testsFor k columns doubtful ≤ 4096) × (testsFor k columns doubtful < 65536)
+test-count-here k columns doubtful few =
+    let fits = Report.test-count-fits modem64 columns doubtful few k in
+    (omega (arith, Report.test-words-few modem64 columns doubtful few), omega (arith, fits .0), omega (arith, fits .1))
 
 abbrev pub ReportedIn : Book → Closed → Type 0
 ReportedIn book c = Report.ReportedIn modem64 book c

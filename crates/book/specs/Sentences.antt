@@ -60,7 +60,8 @@ use Rattle.book.specs.OpeningLaws.{Known, DoubtfulList, list-fits, fits-
 module _ (𝓓 : Model) where
   open Model 𝓓 using (member, known)
 
-  -- ---- 'For every rate and every strictly rising list of up to 8 doubtful places, none above 63, opening accepts'
+  -- ---- 'For every rate and every strictly rising list of up to 8 doubtful places, none above 63, opening accepts'; document 02: 'Demand 3 is read
+  -- with lists of up to 12 places'
 
   pub opening-accepts : {rate : ℕ} {list : List ℕ} → Known 𝓓 rate → DoubtfulList 𝓓 list
       → openOf 𝓓 rate list ≡ record { number = accepted; book = newBook rate list }

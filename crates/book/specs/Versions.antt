@@ -1,12 +1,13 @@
 -- The two versions of a capture: which of them is written and read, and with how many doubtful places. Document 02's sentences, each a theorem.
 --
---   version-one, version-two, version-is   version 1 up to 8 doubtful places, version 2 from 9 on; it is one of the two
+--   capture-sizes        the lengths of captures, without doubtful places and with as many as there may be
+--   version-one, version-two, version-is   version 1 up to 8 doubtful places, version 2 with more; it is one of the two
 --   version-one-kept, version-two-written   the capture of a book: in the layout that both versions have, with the byte 1 or 2 first
 --   misfit-refused, misfit-unknown   a capture that passes the first three checks, and whose number of doubtful places does not suit its version, is refused
 --                        with 4, whatever its list and its records are; but with 1, if the rate is unknown
 --   version-suited, accepted-version   so the version of an accepted capture suits the number of its doubtful places
 use mathlib.Core.Bool.{true, false}
-use mathlib.Core.Path.{_≡_, ap}
+use mathlib.Core.Path.{_≡_, refl, ap}
 use mathlib.Core.List.{List}
 use mathlib.Core.Logic.{_≢_}
 use Prim.Native.Nat.{ℕ, _<_, _≤_}
@@ -15,12 +16,17 @@ use native.Mathlib.Omega.{arith}
 use lib.ListN.{length}
 use borrow.Author.Tests.{le-leb, lt-leb, eqb-true, ne-eqb}
 use Rattle.refusals.specs.Refusal.{accepted, unknownRate, wrongDoubt}
+use Rattle.soft.specs.Doubt.{mostDoubt}
 use Rattle.code.specs.Encoding.{knownRate}
 use Rattle.book.specs.Book.{Book}
-use Rattle.book.specs.Capture.{firstVersion, secondVersion, isVersion, mostInFirstVersion, versionOf, laidOut, captureOf}
+use Rattle.book.specs.Capture.{captureLength, firstVersion, secondVersion, isVersion, mostInFirstVersion, versionOf, laidOut, captureOf}
 use Rattle.book.specs.CaptureOpening.{versionIn, rateIn, doubtIn, sizeFits, versionFits, lengthFits, suitsVersion, openCaptureOf}
 use Rattle.book.specs.CaptureCases.{open-unknown, open-misfit, capture-fit}
 use Rattle.book.specs.Here.{refusedOpening}
+
+-- 'total size from 2,117'; 'Sizes up to 2,129 pass the first check'
+pub capture-sizes : (captureLength 0 ≡ 2117) × (captureLength mostDoubt ≡ 2129)
+capture-sizes = (refl, refl)
 
 pub version-one : (d : ℕ) → d ≤ mostInFirstVersion → versionOf d ≡ firstVersion
 unfolding versionOf

@@ -1,6 +1,6 @@
 -- What the search for the nearest codeword answers.
 --
---   Asked rate costs doubtful doubt    a known rate, 1,024 costs, at most 8 doubtful places, different and below 64, and no more blank places than
+--   Asked rate costs doubtful doubt    a known rate, 1,024 costs, at most 12 doubtful places, different and below 64, and no more blank places than
 --                                      the rate allows
 --   wellFormed rate costs doubtful doubt   the test of all of it but the blank places
 --   askedOf rate costs doubtful doubt  the test of Asked

@@ -97,7 +97,7 @@ fn are_places(doubtful: [u8; MOST_DOUBT], doubt: usize) -> bool
     true
 }
 
-// Whether the arguments have the form of a session's: a known rate, 1,024 costs and at most eight doubtful places, different and below 64.
+// Whether the arguments have the form of a session's: a known rate, 1,024 costs and at most twelve doubtful places, different and below 64.
 fn well_formed(rate: usize, costs: &[u16], doubtful: [u8; MOST_DOUBT], doubt: usize) -> bool
     ensures { λ r. ⌜ r ≡ wellFormed rate (now (costs .entry)) doubtful doubt ⌝ }
 {

@@ -2,7 +2,7 @@
 --
 --   told-near, told-blank   the two cases of what is said where nobody was found, by the flags of the places that are not blank
 --   found-asked        the search may be asked where it found somebody
---   tests-few          so at most 256 test words have a codeword within T, and their count fits two bytes
+--   tests-few          so at most 4,096 test words have a codeword within T, and their count fits two bytes
 --   answered-none      nobody found: refused with 12 where too many places are blank, and else with 9, the buffers as they were
 --   answered-near      somebody near: the message, and the report with its total, the count, the pinned and changed places of its codeword, and the
 --                      margin

@@ -1,6 +1,6 @@
 -- When the search may be asked: for a rate and a doubtful list that opening accepts, where few enough places are blank.
 --
---   Askable rate costs doubtful doubt   a known rate, 1,024 costs, and at most 8 doubtful places, different and below 64
+--   Askable rate costs doubtful doubt   a known rate, 1,024 costs, and at most 12 doubtful places, different and below 64
 --   asked-open, unasked-blank   so the search may be asked, exactly if no more places are blank than the limit
 --   fit-places         a fit doubtful list has different places, all below the number of places
 --   askable-fit        so the arguments are such at a known rate

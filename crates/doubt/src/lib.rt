@@ -18,7 +18,7 @@ ghost use Rattle.doubt.specs.Keys.{far, KeyOf, Keyed, Apart, chosenOf, b
 ghost use Rattle.doubt.specs.Bound.{fromBound, keyFrom, pastOf, Bound};
 ghost use Rattle.doubt.specs.Picked.{PickedOf};
 
-pub const MOST_DOUBT: usize = 8;
+pub const MOST_DOUBT: usize = 12;
 
 // Above the key of every place that is not blank: 65,536 gaps times the places.
 const FAR: u32 = 65536 * PLACES as u32;

@@ -1,6 +1,6 @@
 -- The counts of two branches together.
 --
---   tests-fit     they fit 16 bits: a tree of at most eight doubtful places has at most 256 test words
+--   tests-fit     they fit 16 bits: a tree of at most twelve doubtful places has at most 4,096 test words
 use Prim.Native.Nat.{ℕ, _+_, _^_, _≤_}
 use native.Mathlib.Omega.{arith}
 use lib.Pow.{pow-mono}

@@ -1,7 +1,7 @@
 -- A known codeword: two codewords differ in at least n − M − b places that are not blank, so near one that is known there is no other.
 --
 --   leftOf undecided       the doubtful places that a node has still to decide
---   Fits undecided         at most eight places are doubtful, and no more are left
+--   Fits undecided         at most twelve places are doubtful, and no more are left
 --   filledOf c word ps     the word with the symbols of c at the places ps, as the family has it
 --   governsOf k counts b known word ps   whether the known codeword is so close to the word, by the flags of the places that count and the number
 --                          of the others: the places outside ps where it differs from the word, ps, and T are together less than n − M − b

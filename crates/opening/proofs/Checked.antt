@@ -15,7 +15,7 @@ use Rattle.book.specs.Book.{Outcome}
 use Rattle.book.specs.Columns.{agree-sym}
 use Rattle.book.specs.Capture.{bodyLength, captureLength, isVersion, versionOf, recordsOf}
 use Rattle.book.specs.CaptureOpening.{versionIn, rateIn, doubtIn, listIn, recordsIn, sizeFits, versionFits, lengthIn, lengthFits, suitsVersion, openWith, openCaptureOf}
-use Rattle.book.specs.CaptureCases.{open-size, open-version, open-length, open-suited, open-refused, with-on}
+use Rattle.book.specs.CaptureCases.{open-size, open-version, open-length, open-suited, open-refused, with-on, capture-refused}
 use Rattle.book.specs.Versions.{misfit-refused}
 use Rattle.book.specs.Sentences.{opening-only}
 use Rattle.book.specs.AlikeDelivery.{agreed-path, agreed-trans, row-alike}
@@ -81,15 +81,16 @@ module _ (bytes : List ℕ) where
         named = let n : 5 + doubtIn bytes - 5 ≡ doubtIn bytes = omega arith in sym (parted ∙ ap (λ k. take k (drop 5 bytes)) n)
 
         pub opening-refused : (openedOf (rateIn bytes) list .refusal ≡ accepted → ⊥)
-            → Opening (openCaptureOf bytes) (openedOf (rateIn bytes) list)
+            → Opening (openCaptureOf bytes) (refusedWith (openedOf (rateIn bytes) list .refusal))
         opening-refused n =
             let q : openOf (rateIn bytes) (listIn bytes) ≡ openOf (rateIn bytes) list = ap (openOf (rateIn bytes)) named in
-            rw (
-              open-refused bytes sized versioned measured
-                  (λ e. n (opens (rateIn bytes) list .number ∙ sym (ap (λ (o : Outcome). o .number) q) ∙ e)),
-              q,
-            )
-            (opens (rateIn bytes) list)
+            let as-opening : openCaptureOf bytes ≡ openOf (rateIn bytes) list =
+            open-refused bytes sized versioned measured (λ e. n (opens (rateIn bytes) list .number ∙ sym (ap (λ (o : Outcome). o .number) q) ∙ e)) ∙ q in
+            let number : openedOf (rateIn bytes) list .refusal ≡ openCaptureOf bytes .number =
+            opens (rateIn bytes) list .number ∙ sym (ap (λ (o : Outcome). o .number) as-opening) in
+            subst (λ k. Opening (openCaptureOf bytes) (refusedWith k)) (sym number)
+            (subst (λ (o : Outcome). Opening o (refusedWith (openCaptureOf bytes .number))) (sym (capture-refused bytes (λ e. n (number ∙ e))))
+            (refused-opens (openCaptureOf bytes .number)))
 
         -- an opening that is accepted has a known rate
         pub opening-misfit : openedOf (rateIn bytes) list .refusal ≡ accepted → (versionIn bytes ≡ versionOf (doubtIn bytes) → ⊥)

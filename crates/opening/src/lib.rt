@@ -72,11 +72,13 @@ pub fn open_capture(bytes: &[u8]) -> Opened
         return session::refused(refusals::WRONG_LENGTH);
     }
     let start = HEAD_BYTES + doubt;
+    let suited = version_of(doubt);
     let opened = session::open(bytes[RATE_AT] as usize, &bytes[HEAD_BYTES..start]);
-    if opened.refusal != refusals::ACCEPTED {
-        return opened;
+    let refusal = opened.refusal;
+    if refusal != refusals::ACCEPTED {
+        return session::refused(refusal);
     }
-    if version != version_of(doubt) {
+    if version != suited {
         return session::refused(refusals::WRONG_DOUBT);
     }
     deliver_records(opened.session, &bytes[start..])

@@ -4,13 +4,14 @@
 --   unknownRate      1: the rate is not 39 or 49
 --   wrongSize        2: a lent buffer of the wrong size, or no 64 bytes from the start
 --   noSymbol         3: a symbol above 15
---   wrongDoubt       4: doubt above 8, a maximum of 0 or above 8, or a doubtful list longer than 8, with a place above 63 or not strictly rising
+--   wrongDoubt       4: doubt above 12, a maximum of 0 or above 12, or a doubtful list longer than 12, with a place above 63, not strictly rising, or in
+--                    a capture of a length that does not suit its version
 --   noPlace          5: a place above 63
 --   placeTaken       6: a place already taken
 --   placeMissing     7: closing or writing with a place missing
 --   noCodeword       8: not a codeword
 --   noneNear         9: no codeword is near
---   wrongVersion     10: the version is not 1
+--   wrongVersion     10: the version is not 1 or 2
 --   wrongLength      11: size or length wrong
 --   tooBlank         12: more than 13 blank places at rate 39, more than 3 at rate 49
 --   notTaken         13: a place that is not taken

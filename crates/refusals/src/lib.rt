@@ -8,7 +8,8 @@ pub const UNKNOWN_RATE: u8 = 1;
 pub const WRONG_SIZE: u8 = 2;
 // 3: a symbol above 15.
 pub const NO_SYMBOL: u8 = 3;
-// 4: doubt above 8, a maximum of 0 or above 8, or a doubtful list longer than 8, with a place above 63 or not strictly rising.
+// 4: doubt above 12, a maximum of 0 or above 12, or a doubtful list longer than 12, with a place above 63, not strictly rising, or in a capture
+// of a length that does not suit its version.
 pub const WRONG_DOUBT: u8 = 4;
 // 7: closing or writing with a place missing.
 pub const PLACE_MISSING: u8 = 7;
@@ -28,7 +29,7 @@ pub const NONE_NEAR: u8 = 9;
 pub const TOO_BLANK: u8 = 12;
 
 // The recorder.
-// 10: the version is not 1.
+// 10: the version is not 1 or 2.
 pub const WRONG_VERSION: u8 = 10;
 // 11: size or length wrong.
 pub const WRONG_LENGTH: u8 = 11;

@@ -12,10 +12,10 @@ use mathlib.Core.Bool.{true}
 use mathlib.Core.Path.{_≡_}
 use mathlib.Core.List.{List, [], _∷_, _++_}
 use mathlib.Core.Logic.{_↔_, _≢_, _⊎_}
-use Prim.Native.Nat.{ℕ, _<_, _≤_}
+use Prim.Native.Nat.{ℕ, suc, _<_, _≤_}
 use native.Mathlib.Decide.{decLe}
 use native.Mathlib.Omega.{arith}
-use lib.ListN.{length}
+use lib.ListN.{length, getD}
 use Rattle.refusals.specs.Refusal.{accepted, placeMissing, noneNear, tooBlank}
 use Rattle.lists.specs.Distinct.{below}
 use Rattle.family.specs.Member.{m16}
@@ -52,9 +52,14 @@ pub data ClosedAfter (book : Book) (calls : List Call) (a : Answer) : Type 0 whe
       → Step t (closing message report) a u → length message ≡ book .rate → length report ≡ reportLength → ClosedAfter book calls a
 
 pub record Demand3 : Type 0 where
-  -- 'For every rate and every strictly rising list of up to 8 doubtful places, none above 63, opening accepts;'
+  -- 'For every rate and every strictly rising list of up to 8 doubtful places, none above 63, opening accepts;' document 02: 'Demand 3 is read with
+  -- lists of up to 12 places'
   pub opening-accepts : {rate : ℕ} {list : List ℕ} {r : Opened} → Rate rate → DoubtfulList list → Opening (openOf rate list) r
       → r .refusal ≡ accepted
+  -- a doubtful list in these words
+  pub lists : (list : List ℕ)
+      → DoubtfulList list
+      ↔ ((length list ≤ 12) × ((i : ℕ) → i < length list → getD list i 0 ≤ 63) × ((i : ℕ) → suc i < length list → getD list i 0 < getD list (suc i) 0))
   -- 'and in every list of deliveries, interpolant readings, capture writings and closings from the session so opened, refused ones included and in
   -- whatever order, each answer and each lent buffer afterwards are those of document 01's book.' Document 02: 'Withdrawals stand in demand 3's list too'
   pub answered : {book : Book} {s t : Session} {calls : List Call} {given : List Answer} → Start book s → Run s calls given t
@@ -155,6 +160,10 @@ unfolding mostBlank reachAt
 whole =
     record {
       opening-accepts = λ known fit opened. opening-accepted known fit opened;
+      lists = λ list. (
+        λ d. (d .short, λ i l. omega (arith, d .in-range i l), d .rises),
+        λ d. record { short = d .0; in-range = λ i l. omega (arith, d .1 i l); rises = d .2 },
+      );
       answered = λ start run. start-follows start .answered run;
       left = λ start run. start-follows start .left run;
       one-left = λ start run other. start-follows start .one-left run other;

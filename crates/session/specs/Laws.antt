@@ -5,7 +5,7 @@
 --   book-taken           a place is taken exactly if its flag is set
 --   column-there         the column of a place that is taken stands in the table
 --   good-proper          the book of a good session is proper
---   new-book, new-good   a newly opened session stands for a new book, if its list has at most eight places, and is good, if it is fit
+--   new-book, new-good   a newly opened session stands for a new book, if its list has at most twelve places, and is good, if it is fit
 --   opened-rate, opened-list, opened-new, opens   opening answers as the book does, and gives a good session
 --   withColumn s p column    the session with a place and its column
 --   with-column-agree, with-column-good   it stands for the longer row, and is good

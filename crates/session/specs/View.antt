@@ -1,6 +1,6 @@
 -- What a session stands for: the book that its fields hold, and which sessions hold one.
 --
---   newSession rate list a newly opened session: the doubtful list in eight numbers, 1,024 costs of zero and no place taken
+--   newSession rate list a newly opened session: the doubtful list in twelve numbers, 1,024 costs of zero and no place taken
 --   held s               the session's fields
 --   entryAt costs p      a place and its column in the table
 --   allTaken flags       the flags of all 64 places are set

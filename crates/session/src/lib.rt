@@ -62,7 +62,7 @@ fn fit_places(list: &[u8]) -> bool
     true
 }
 
-// The first eight places of a list, with zeros behind them.
+// The first twelve places of a list, with zeros behind them.
 fn padded_list(list: &[u8]) -> [u8; MOST_DOUBT]
     ensures { λ r. ⌜ r ≡ padded mostDoubt (now (list .entry)) ⌝ }
 {

@@ -135,7 +135,7 @@ module _ {k : ℕ} (rate : Ranged k) (columns : ℕ → List ℕ) (word : List �
     branch-node f S = record { few = S .few; finds = λ R P. S .finds (next-ready R P) (places-rest P) }
 
 -- two branches
-module _ (doubtful : List ℕ) (doubt left : ℕ) (eight : length doubtful ≡ mostDoubt) (few : doubt ≤ mostDoubt) (within : left ≤ doubt) (some-left : 0 < left) where
+module _ (doubtful : List ℕ) (doubt left : ℕ) (long : length doubtful ≡ mostDoubt) (few : doubt ≤ mostDoubt) (within : left ≤ doubt) (some-left : 0 < left) where
   abbrev x : ℕ
   x = getD doubtful (doubt - left) 0
 
@@ -151,7 +151,7 @@ module _ (doubtful : List ℕ) (doubt left : ℕ) (eight : length doubtful ≡ m
         record {
           few = omega (arith, better-tests k a b, A .few, B .few, twice left some-left);
           finds = λ R P.
-              let q = split-places doubtful doubt left eight few within some-left place place-is P in
+              let q = split-places doubtful doubt left long few within some-left place place-is P in
               let R′ : Ready k columns word (place ∷ rest) rows leads = subst (λ ps. Ready k columns word ps rows leads) q R in
               let P′ : Places (place ∷ rest) = subst Places q P in
               subst (λ ps. Nearest k columns (expand columns word ps) (betterOf k a b)) (sym q)

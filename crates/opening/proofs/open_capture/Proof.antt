@@ -101,6 +101,9 @@ returns-5 c =
 add-start : tie.Need-add-start
 add-start c = search needs
 
+version-of-requires : tie.Need-version-of-requires
+version-of-requires c κs = search needs
+
 shared-slice-read-open : tie.Need-shared-slice-read-open
 shared-slice-read-open c = search needs
 
@@ -119,33 +122,14 @@ part-open-end c = search needs
 open-requires : tie.Need-open-requires
 open-requires c κs = search needs
 
-returns-6 : tie.Need-returns-6
-returns-6 c =
-    let o = c .before .before in
-    let s5 = o .before .before .before in
-    let s4 = s5 .before in
-    let s3 = s4 .before .before .before .before in
-    let v = s3 .before in
-    let s2 = v .before .before in
-    let s1 = s2 .before in
-    let bytes : List ℕ = s1 .before .before .args .bytes .now in
-    let list : List ℕ = take (5 + doubtIn bytes - 5) (drop 5 bytes) in
-    let e : o .«open» .result ≡ openedOf (rateIn bytes) list = o .«open» .ensures in
-    subst (λ (o : Opened). Opening (openCaptureOf bytes) o) (sym e)
-    (opening-refused bytes (s1 .if1 .left) (s2 .if2 .left) (sym (v .is-version .ensures) ∙ not-false _ (s3 .if3 .left)) (s4 .if4 .left) (s5 .if5 .left)
-    list refl (λ n. c .if6 .taken (ap (λ (o : Opened). o .refusal) e ∙ n)))
-
-version-of-requires : tie.Need-version-of-requires
-version-of-requires c κs = search needs
-
 refused-requires-6 : tie.Need-refused-requires-6
 refused-requires-6 c κs = search needs
 
-returns-7 : tie.Need-returns-7
-returns-7 c =
-    let s6 = c .before .before .before in
-    let o = s6 .before .before in
-    let s5 = o .before .before .before in
+returns-6 : tie.Need-returns-6
+returns-6 c =
+    let o = c .before .before in
+    let w = o .before .before .before in
+    let s5 = w .before in
     let s4 = s5 .before in
     let s3 = s4 .before .before .before .before in
     let v = s3 .before in
@@ -153,10 +137,30 @@ returns-7 c =
     let s1 = s2 .before in
     let bytes : List ℕ = s1 .before .before .args .bytes .now in
     let list : List ℕ = take (5 + doubtIn bytes - 5) (drop 5 bytes) in
-    let e : o .«open» .result ≡ openedOf (rateIn bytes) list = o .«open» .ensures in
-    rw (c .refused6 .ensures)
+    let e : o .«open» .result .refusal ≡ openedOf (rateIn bytes) list .refusal = ap (λ (o : Opened). o .refusal) (o .«open» .ensures) in
+    rw (c .refused6 .ensures, e)
+    (opening-refused bytes (s1 .if1 .left) (s2 .if2 .left) (sym (v .is-version .ensures) ∙ not-false _ (s3 .if3 .left)) (s4 .if4 .left) (s5 .if5 .left)
+    list refl (λ n. c .before .if6 .taken (e ∙ n)))
+
+refused-requires-7 : tie.Need-refused-requires-7
+refused-requires-7 c κs = search needs
+
+returns-7 : tie.Need-returns-7
+returns-7 c =
+    let o = c .before .before .before in
+    let w = o .before .before .before in
+    let s5 = w .before in
+    let s4 = s5 .before in
+    let s3 = s4 .before .before .before .before in
+    let v = s3 .before in
+    let s2 = v .before .before in
+    let s1 = s2 .before in
+    let bytes : List ℕ = s1 .before .before .args .bytes .now in
+    let list : List ℕ = take (5 + doubtIn bytes - 5) (drop 5 bytes) in
+    let e : o .«open» .result .refusal ≡ openedOf (rateIn bytes) list .refusal = ap (λ (o : Opened). o .refusal) (o .«open» .ensures) in
+    rw (c .refused7 .ensures)
     (opening-misfit bytes (s1 .if1 .left) (s2 .if2 .left) (sym (v .is-version .ensures) ∙ not-false _ (s3 .if3 .left)) (s4 .if4 .left) (s5 .if5 .left)
-    list refl (sym (ap (λ (o : Opened). o .refusal) e) ∙ s6 .if6 .left) (λ q. c .before .if7 .taken (q ∙ sym (c .before .before .version-of .ensures))))
+    list refl (sym e ∙ c .before .before .if6 .left) (λ q. c .before .if7 .taken (q ∙ sym (w .version-of .ensures))))
 
 sub-deliver-records : tie.Need-sub-deliver-records
 sub-deliver-records c = search needs
@@ -169,10 +173,15 @@ part-deliver-records-end c = search needs
 
 deliver-records-requires : tie.Need-deliver-records-requires
 deliver-records-requires c κs =
-    let o = c .before .before .before .before .before in
-    let s5 = o .before .before .before in
+    let o = c .before .before .before in
+    let w = o .before .before .before in
+    let s5 = w .before in
     let s4 = s5 .before in
-    let bytes : List ℕ = s4 .before .before .before .before .before .before .before .before .before .before .args .bytes .now in
+    let s3 = s4 .before .before .before .before in
+    let v = s3 .before in
+    let s2 = v .before .before in
+    let s1 = s2 .before in
+    let bytes : List ℕ = s1 .before .before .args .bytes .now in
     let list : List ℕ = take (5 + doubtIn bytes - 5) (drop 5 bytes) in
     let total : lengthIn bytes + 3 ≡ length bytes = s4 .if4 .left in
     let body : lengthIn bytes ≡ bodyLength (doubtIn bytes) = s5 .if5 .left in (
@@ -182,10 +191,9 @@ deliver-records-requires c κs =
 
 returns-8 : tie.Need-returns-8
 returns-8 c =
-    let s7 = c .before .before in
-    let s6 = s7 .before .before in
-    let o = s6 .before .before in
-    let s5 = o .before .before .before in
+    let o = c .before .before .before .before in
+    let w = o .before .before .before in
+    let s5 = w .before in
     let s4 = s5 .before in
     let s3 = s4 .before .before .before .before in
     let v = s3 .before in
@@ -193,11 +201,11 @@ returns-8 c =
     let s1 = s2 .before in
     let bytes : List ℕ = s1 .before .before .args .bytes .now in
     let list : List ℕ = take (5 + doubtIn bytes - 5) (drop 5 bytes) in
+    let e : o .«open» .result .refusal ≡ openedOf (rateIn bytes) list .refusal = ap (λ (o : Opened). o .refusal) (o .«open» .ensures) in
     let rest : List ℕ = take (length bytes - (5 + doubtIn bytes)) (drop (5 + doubtIn bytes) bytes) in
-    let e : o .«open» .result ≡ openedOf (rateIn bytes) list = o .«open» .ensures in
     delivering bytes (s1 .if1 .left) (s2 .if2 .left) (sym (v .is-version .ensures) ∙ not-false _ (s3 .if3 .left)) (s4 .if4 .left) (s5 .if5 .left)
-    list refl rest (c .deliver-records .result) (sym (ap (λ (o : Opened). o .refusal) e) ∙ s6 .if6 .left) (s7 .if7 .left ∙ s7 .before .version-of .ensures) refl
-    (subst (λ (o : Opened). Opening (deliverRow (bookOf (o .session)) (recordsOf places rest)) (c .deliver-records .result)) e
+    list refl rest (c .deliver-records .result) (sym e ∙ c .before .before .before .if6 .left) (c .before .before .if7 .left ∙ w .version-of .ensures) refl
+    (subst (λ (o : Opened). Opening (deliverRow (bookOf (o .session)) (recordsOf places rest)) (c .deliver-records .result)) (o .«open» .ensures)
     (c .deliver-records .ensures))
 
 pub open-capture-spec : {M : Type 1} → statement M
@@ -227,15 +235,16 @@ open-capture-spec =
     refused-requires-5
     returns-5
     add-start
+    version-of-requires
     shared-slice-read-open
     cast-open
     sub-open
     part-open-start
     part-open-end
     open-requires
-    returns-6
-    version-of-requires
     refused-requires-6
+    returns-6
+    refused-requires-7
     returns-7
     sub-deliver-records
     part-deliver-records-start
