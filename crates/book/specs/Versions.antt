@@ -5,6 +5,7 @@
 --   version-one-kept, version-two-written   the capture of a book: in the layout that both versions have, with the byte 1 or 2 first
 --   misfit-refused, misfit-unknown   a capture that passes the first three checks, and whose number of doubtful places does not suit its version, is refused
 --                        with 4, whatever its list and its records are; but with 1, if the rate is unknown
+--   suited-opens         where it suits, opening goes on with the rate, the list and the records
 --   version-suited, accepted-version   so the version of an accepted capture suits the number of its doubtful places
 use mathlib.Core.Bool.{true, false}
 use mathlib.Core.Path.{_≡_, refl, ap}
@@ -14,14 +15,14 @@ use Prim.Native.Nat.{ℕ, _<_, _≤_}
 use native.Mathlib.Decide.{decLe}
 use native.Mathlib.Omega.{arith}
 use lib.ListN.{length}
-use borrow.Author.Tests.{le-leb, lt-leb, eqb-true, ne-eqb}
+use borrow.Author.Tests.{le-leb, lt-leb, eqb-true, eq-eqb, ne-eqb}
 use Rattle.refusals.specs.Refusal.{accepted, unknownRate, wrongDoubt}
 use Rattle.soft.specs.Doubt.{mostDoubt}
 use Rattle.code.specs.Encoding.{knownRate}
 use Rattle.book.specs.Book.{Book}
 use Rattle.book.specs.Capture.{captureLength, firstVersion, secondVersion, isVersion, mostInFirstVersion, versionOf, laidOut, captureOf}
-use Rattle.book.specs.CaptureOpening.{versionIn, rateIn, doubtIn, sizeFits, versionFits, lengthFits, suitsVersion, openCaptureOf}
-use Rattle.book.specs.CaptureCases.{open-unknown, open-misfit, capture-fit}
+use Rattle.book.specs.CaptureOpening.{versionIn, rateIn, doubtIn, listIn, recordsIn, sizeFits, versionFits, lengthFits, suitsVersion, openWith, openCaptureOf}
+use Rattle.book.specs.CaptureCases.{open-unknown, open-misfit, open-suited, capture-fit}
 use Rattle.book.specs.Here.{refusedOpening}
 
 -- 'total size from 2,117'; 'Sizes up to 2,129 pass the first check'
@@ -63,6 +64,12 @@ module _ (bytes : List ℕ) (s : sizeFits bytes ≡ true) (v : versionFits bytes
 
   pub misfit-unknown : knownRate (rateIn bytes) ≡ false → openCaptureOf bytes ≡ refusedOpening unknownRate
   misfit-unknown r = open-unknown bytes s v l r
+
+-- and where it suits, the capture is opened with its rate and its list, and its records are delivered
+pub suited-opens : (bytes : List ℕ) → sizeFits bytes ≡ true → versionFits bytes ≡ true → lengthFits bytes ≡ true
+    → versionIn bytes ≡ versionOf (doubtIn bytes) → openCaptureOf bytes ≡ openWith (rateIn bytes) (listIn bytes) (recordsIn bytes)
+unfolding suitsVersion
+suited-opens bytes s v l m = open-suited bytes s v l (eq-eqb (versionIn bytes) (versionOf (doubtIn bytes)) m)
 
 pub version-suited : (bytes : List ℕ) → suitsVersion bytes ≡ true → versionIn bytes ≡ versionOf (doubtIn bytes)
 unfolding suitsVersion

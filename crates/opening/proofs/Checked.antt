@@ -14,9 +14,9 @@ use Rattle.book.specs.Model.{modem64}
 use Rattle.book.specs.Book.{Outcome}
 use Rattle.book.specs.Columns.{agree-sym}
 use Rattle.book.specs.Capture.{bodyLength, captureLength, isVersion, versionOf, recordsOf}
-use Rattle.book.specs.CaptureOpening.{versionIn, rateIn, doubtIn, listIn, recordsIn, sizeFits, versionFits, lengthIn, lengthFits, suitsVersion, openWith, openCaptureOf}
-use Rattle.book.specs.CaptureCases.{open-size, open-version, open-length, open-suited, open-refused, with-on, capture-refused}
-use Rattle.book.specs.Versions.{misfit-refused}
+use Rattle.book.specs.CaptureOpening.{versionIn, rateIn, doubtIn, listIn, recordsIn, sizeFits, versionFits, lengthIn, lengthFits, openWith, openCaptureOf}
+use Rattle.book.specs.CaptureCases.{open-size, open-version, open-length, open-refused, with-on, capture-refused}
+use Rattle.book.specs.Versions.{misfit-refused, suited-opens}
 use Rattle.book.specs.Sentences.{opening-only}
 use Rattle.book.specs.AlikeDelivery.{agreed-path, agreed-trans, row-alike}
 use Rattle.book.specs.Here.{places, openOf, deliverRow}
@@ -104,10 +104,9 @@ module _ (bytes : List ℕ) where
             → rest ≡ take (length bytes - (5 + doubtIn bytes)) (drop (5 + doubtIn bytes) bytes)
             → Opening (deliverRow (bookOf (openedOf (rateIn bytes) list .session)) (recordsOf places rest)) r
             → Opening (openCaptureOf bytes) r
-        unfolding suitsVersion
         delivering rest r n m e d =
             let checked : openCaptureOf bytes ≡ openWith (rateIn bytes) list (recordsIn bytes) =
-            open-suited bytes sized versioned measured (eq-eqb (versionIn bytes) (versionOf (doubtIn bytes)) m)
+            suited-opens bytes sized versioned measured m
             ∙ ap (λ (l : List ℕ). openWith (rateIn bytes) l (recordsIn bytes)) named in
             let q : rest ≡ drop (5 + doubtIn bytes) bytes = e ∙ rest-whole (5 + doubtIn bytes) bytes in
             let o = opens (rateIn bytes) list in

@@ -12,8 +12,8 @@
 -- and of #108, of the gaps 5, 3, 3 and 9 at the places 0 to 3 (picked t m: the places with the threshold t and the maximum m):
 --
 --   c108-clear   the threshold 0 or 3: no gap is below it, and place 1 is doubtful alone, whatever the maximum
---   c108-level   the threshold 4: the places 1 and 2 with the maximum 2 or 8, place 1 with the maximum 1
---   c108-most    the threshold 65535: places 1; 1 and 2; 0, 1 and 2; all, with the maxima 1, 2, 3 and 8
+--   c108-level   the threshold 4: the places 1 and 2 with the maximum 2 or the largest one, place 1 with the maximum 1
+--   c108-most    the threshold 65535: places 1; 1 and 2; 0, 1 and 2; all, with the maxima 1, 2, 3 and the largest one
 --   c108-blank   where place 1 does not count, place 2 is the first; where none counts, none is chosen
 --   c108-table   of columns with the gaps 5, blank, pinned and 3 the blank one and the pinned one are never chosen with another first,
 --   c108-pinned  and of two pinned ones the first is
@@ -28,7 +28,7 @@ use Rattle.lists.specs.Every.{every}
 use Rattle.lists.specs.Listed.{listed}
 use Rattle.soft.specs.Column.{symbols, ceiling, costOf, firstBut, betterOf, bestBut, bestOf, secondOf, gapOf, countedGap, doubtGapOf, isBlank}
 use Rattle.soft.specs.Bits.{bits, isNegative, magnitude, favoured, contradicts, bitCost, bitOf, symbolCost, bitColumn}
-use Rattle.soft.specs.Doubt.{aheadBy, aheadOf}
+use Rattle.soft.specs.Doubt.{mostDoubt, aheadBy, aheadOf}
 use Rattle.soft.specs.Threshold.{closest, closestOf}
 
 -- a column's best symbol, second symbol and gap are these
@@ -83,22 +83,22 @@ gaps p = getD (5 ∷ 3 ∷ 3 ∷ 9 ∷ []) p 0
 abbrev picked : ℕ → ℕ → List ℕ
 picked t m = closest 4 t m (λ p. true) gaps
 
-pub c108-clear : (picked 0 1 ≡ 1 ∷ []) × (picked 0 2 ≡ 1 ∷ []) × (picked 0 8 ≡ 1 ∷ []) × (picked 3 1 ≡ 1 ∷ []) × (picked 3 2 ≡ 1 ∷ [])
-    × (picked 3 8 ≡ 1 ∷ [])
+pub c108-clear : (picked 0 1 ≡ 1 ∷ []) × (picked 0 2 ≡ 1 ∷ []) × (picked 0 mostDoubt ≡ 1 ∷ []) × (picked 3 1 ≡ 1 ∷ []) × (picked 3 2 ≡ 1 ∷ [])
+    × (picked 3 mostDoubt ≡ 1 ∷ [])
 unfolding closest kept aheadOf aheadBy count sumOf
 c108-clear = (refl, refl, refl, refl, refl, refl)
 
-pub c108-level : (picked 4 1 ≡ 1 ∷ []) × (picked 4 2 ≡ 1 ∷ 2 ∷ []) × (picked 4 8 ≡ 1 ∷ 2 ∷ [])
+pub c108-level : (picked 4 1 ≡ 1 ∷ []) × (picked 4 2 ≡ 1 ∷ 2 ∷ []) × (picked 4 mostDoubt ≡ 1 ∷ 2 ∷ [])
 unfolding closest kept aheadOf aheadBy count sumOf
 c108-level = (refl, refl, refl)
 
 pub c108-most : (picked ceiling 1 ≡ 1 ∷ []) × (picked ceiling 2 ≡ 1 ∷ 2 ∷ []) × (picked ceiling 3 ≡ 0 ∷ 1 ∷ 2 ∷ [])
-    × (picked ceiling 8 ≡ 0 ∷ 1 ∷ 2 ∷ 3 ∷ [])
+    × (picked ceiling mostDoubt ≡ 0 ∷ 1 ∷ 2 ∷ 3 ∷ [])
 unfolding closest kept aheadOf aheadBy count sumOf
 c108-most = (refl, refl, refl, refl)
 
-pub c108-blank : (closest 4 4 8 (λ p. not (eqb p 1)) gaps ≡ 2 ∷ []) × (closest 4 0 1 (λ p. not (eqb p 1)) gaps ≡ 2 ∷ [])
-    × (closest 4 6 8 (λ p. not (eqb p 1)) gaps ≡ 0 ∷ 2 ∷ []) × (closest 4 ceiling 8 (λ p. false) gaps ≡ [])
+pub c108-blank : (closest 4 4 mostDoubt (λ p. not (eqb p 1)) gaps ≡ 2 ∷ []) × (closest 4 0 1 (λ p. not (eqb p 1)) gaps ≡ 2 ∷ [])
+    × (closest 4 6 mostDoubt (λ p. not (eqb p 1)) gaps ≡ 0 ∷ 2 ∷ []) × (closest 4 ceiling mostDoubt (λ p. false) gaps ≡ [])
 unfolding closest kept aheadOf aheadBy count sumOf
 c108-blank = (refl, refl, refl, refl)
 
@@ -108,10 +108,10 @@ pinnedColumn = 0 ∷ ceiling ∷ ceiling ∷ []
 abbrev table : ℕ → List ℕ
 table p = getD ((0 ∷ 5 ∷ 9 ∷ []) ∷ (7 ∷ 7 ∷ 7 ∷ []) ∷ pinnedColumn ∷ (5 ∷ 8 ∷ 2 ∷ []) ∷ []) p []
 
-pub c108-table : (closestOf 4 0 8 table ≡ 3 ∷ []) × (closestOf 4 ceiling 1 table ≡ 3 ∷ []) × (closestOf 4 ceiling 8 table ≡ 0 ∷ 3 ∷ [])
+pub c108-table : (closestOf 4 0 mostDoubt table ≡ 3 ∷ []) × (closestOf 4 ceiling 1 table ≡ 3 ∷ []) × (closestOf 4 ceiling mostDoubt table ≡ 0 ∷ 3 ∷ [])
 unfolding closestOf closest kept aheadOf aheadBy count sumOf isBlank every doubtGapOf countedGap bestOf secondOf bestBut betterOf firstBut
 c108-table = (refl, refl, refl)
 
-pub c108-pinned : closestOf 4 ceiling 8 (λ p. pinnedColumn) ≡ 0 ∷ []
+pub c108-pinned : closestOf 4 ceiling mostDoubt (λ p. pinnedColumn) ≡ 0 ∷ []
 unfolding closestOf closest kept aheadOf aheadBy count sumOf isBlank every doubtGapOf countedGap bestOf secondOf bestBut betterOf firstBut
 c108-pinned = refl

@@ -11,7 +11,7 @@ use Rattle.book.specs.CaptureOpening.{rateIn, doubtIn, lengthIn, openCaptureOf}
 use Rattle.book.specs.Here.{places, deliverRow}
 use Rattle.session.specs.declared.Opened.{Opened}
 use Rattle.session.specs.View.{bookOf, Good}
-use Rattle.session.specs.Calls.{openedOf, Opening}
+use Rattle.session.specs.Calls.{refusedWith, openedOf, Opening}
 use Rattle.session.specs.Laws.{opens}
 use Rattle.capture.specs.Rest.{rest-length}
 use Rattle.opening.proofs.Checked.{too-short, too-long, other-version, other-total, other-doubt, opening-refused, opening-misfit, delivering}
@@ -138,9 +138,10 @@ returns-6 c =
     let bytes : List ℕ = s1 .before .before .args .bytes .now in
     let list : List ℕ = take (5 + doubtIn bytes - 5) (drop 5 bytes) in
     let e : o .«open» .result .refusal ≡ openedOf (rateIn bytes) list .refusal = ap (λ (o : Opened). o .refusal) (o .«open» .ensures) in
-    rw (c .refused6 .ensures, e)
+    rw (c .refused6 .ensures)
+    (subst (λ k. Opening (openCaptureOf bytes) (refusedWith k)) (sym e)
     (opening-refused bytes (s1 .if1 .left) (s2 .if2 .left) (sym (v .is-version .ensures) ∙ not-false _ (s3 .if3 .left)) (s4 .if4 .left) (s5 .if5 .left)
-    list refl (λ n. c .before .if6 .taken (e ∙ n)))
+    list refl (λ n. c .before .if6 .taken (e ∙ n))))
 
 refused-requires-7 : tie.Need-refused-requires-7
 refused-requires-7 c κs = search needs
