@@ -377,8 +377,9 @@ impl fmt::Display for BelowCounts {
         let [zero, above] = [true, false].map(|zero| self.times(&Sort::Margin { zero }));
         write!(
             out,
-            "; {} with all blank but 9 at most; {} with a margin, {zero} of them zero; maxima",
+            "; {} with all blank but {} at most; {} with a margin, {zero} of them zero; maxima",
             self.came(few).1,
+            OPEN.len() - 1,
             zero + above
         )?;
         for most in MAXIMA {
@@ -558,7 +559,7 @@ mod tests {
         sum.add(full);
         assert_eq!(sum.times(&slip(Slip::Inclusive, Told::Lost)), 2);
         assert!(sum.to_string().starts_with(
-            "thresholds: 4 Edge, 6 Frame, 4 Pinned, 4 Few, 4 Noise, 12 Refused; 264 of 264 edges, 528 \
+            "thresholds: 4 Edge, 6 Frame, 4 Pinned, 4 Few, 4 Noise, 12 Refused; 540 of 540 edges, 1080 \
              times; told from the wrong rules Inclusive: 8"
         ));
     }

@@ -37,10 +37,13 @@ pub const THRESHOLDS: [u16; 11] = [
 ];
 
 /// Maxima that are refused.
-pub const MAXIMA: [u64; 7] = [0, 9, 10, 255, 256, 256 + 3, u64::MAX];
+pub const MAXIMA: [u64; 7] = [0, TOO_MANY, TOO_MANY + 1, 255, 256, 256 + 3, u64::MAX];
 
-/// Numbers of places that are not blank, where nearly all are.
-pub const OPEN: [usize; 10] = [0, 1, 2, 3, 4, 5, 6, 7, 8, 9];
+/// The first maximum that is above the limit.
+const TOO_MANY: u64 = DOUBT_LIMIT as u64 + 1;
+
+/// Numbers of places that are not blank, where nearly all are: up to one more than the limit of doubt.
+pub const OPEN: [usize; DOUBT_LIMIT + 2] = [0, 1, 2, 3, 4, 5, 6, 7, 8, 9, 10, 11, 12, 13];
 
 /// Wrong sizes of a table; that of a frame of bit values is one.
 pub const SIZES: [usize; 6] = [

@@ -13,6 +13,7 @@ use crate::decode::{REPORT_BYTES, TABLE_BYTES};
 use crate::faults::{has, Fault, Faults, FAULT_SETS};
 use crate::frames::{blank_limit, random_codeword, some_places, DOUBTFUL_GAP, RATES};
 use crate::light::lightest;
+use crate::pairs::NEAR_DOUBT;
 use crate::random::Random;
 use crate::row::Row;
 use crate::soft::DOUBT_LIMIT;
@@ -25,6 +26,12 @@ const CLEAR: usize = 20;
 
 /// Wrong numbers of values; a table's is the last.
 pub const SIZES: [usize; 6] = [0, 64, 255, 257, 1024, TABLE_BYTES];
+
+/// Doubts that are refused.
+pub const DOUBTS: [u64; 6] = [TOO_MANY, TOO_MANY + 1, 255, 256, 256 + 3, u64::MAX];
+
+/// The first doubt that is above the limit.
+const TOO_MANY: u64 = DOUBT_LIMIT as u64 + 1;
 
 /// What a call is made to try. T is that of its number of blank places.
 #[derive(Clone, Copy, Debug, PartialEq, Eq, PartialOrd, Ord)]
@@ -43,7 +50,7 @@ pub enum BitKind {
     Extreme,
     /// Values −1 to 1.
     Sparse,
-    /// Two near codewords, at rate 39 with doubt 8: there is a margin, once in four zero.
+    /// Two near codewords, at rate 39 with doubt 8 or more: there is a margin, once in four zero.
     Pair,
     /// Values that follow no codeword.
     Random,
@@ -102,7 +109,10 @@ impl BitCall {
             BitKind::Level => right(kind, rate, doubt, &level(rate, random)),
             BitKind::Extreme => right(kind, rate, doubt, &extreme(rate, random)),
             BitKind::Sparse => right(kind, rate, doubt, &sparse(rate, random)),
-            BitKind::Pair => right(kind, 39, DOUBT_LIMIT, &pair(random)),
+            BitKind::Pair => {
+                let doubt = NEAR_DOUBT + round % (DOUBT_LIMIT + 1 - NEAR_DOUBT);
+                right(kind, 39, doubt, &pair(random))
+            }
             BitKind::Random => {
                 let values = [(); PLACES].map(|_| [(); BITS].map(|_| random.number() as i8));
                 right(kind, rate, doubt, &values)
@@ -255,7 +265,7 @@ fn sparse(rate: u64, random: &mut Random) -> Values {
 }
 
 /// The second symbol of a column from bit values has one bit other than the best. So two codewords
-/// are near only if they differ in one bit at each of the eight doubtful places. At rate 39 those of
+/// are near only if they differ in one bit at each of eight doubtful places. At rate 39 those of
 /// [`lightest`] are the same at the four places of an x, and two such fours are the doubtful ones; of
 /// each other four, half of the places lean to each codeword.
 fn pair(random: &mut Random) -> Values {
@@ -334,7 +344,7 @@ fn refused(round: usize, random: &mut Random) -> BitCall {
         call.report = random.one_of(&[0, 8, REPORT_BYTES - 1, REPORT_BYTES + 1, FRAME_VALUES]);
     }
     if call.has(Fault::Doubt) {
-        call.doubt = random.one_of(&[9, 10, 255, 256, 256 + 3, u64::MAX]);
+        call.doubt = random.one_of(&DOUBTS);
     }
     call
 }

@@ -230,19 +230,21 @@ mod tests {
         let right = [39, REPORT_BYTES];
         let mut values = vec![0; FRAME_VALUES];
         for rate in [0, 38, 40, 295, u64::MAX] {
-            assert_eq!(decoded(rate, &values[1..], 9, [40; 2]), Err(Refusal::Rate));
+            assert_eq!(decoded(rate, &values[1..], 13, [40; 2]), Err(Refusal::Rate));
         }
         for size in [0, 255, 257, 1024, 2048] {
             let values = vec![0; size];
-            assert_eq!(decoded(39, &values, 9, right), Err(Refusal::Size));
+            assert_eq!(decoded(39, &values, 13, right), Err(Refusal::Size));
         }
         for sizes in [[38, REPORT_BYTES], [49, REPORT_BYTES], [39, 8], [39, 14]] {
-            assert_eq!(decoded(39, &values, 9, sizes), Err(Refusal::Size));
+            assert_eq!(decoded(39, &values, 13, sizes), Err(Refusal::Size));
         }
-        for doubt in [9, 256, u64::MAX] {
+        for doubt in [13, 256, u64::MAX] {
             assert_eq!(decoded(39, &values, doubt, right), Err(Refusal::Doubt));
         }
-        assert_eq!(decoded(39, &values, 8, right), Err(Refusal::TooBlank));
+        for doubt in [8, 9, 12] {
+            assert_eq!(decoded(39, &values, doubt, right), Err(Refusal::TooBlank));
+        }
         values[14 * BITS..].fill(-5);
         values[30 * BITS..].fill(5);
         assert_eq!(decoded(39, &values, 0, right), Err(Refusal::TooBlank));

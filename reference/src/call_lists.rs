@@ -4,12 +4,14 @@
 
 use crate::arrivals::{Arrival, ARRIVALS};
 use crate::calls::Call;
+use crate::capture::SMALLEST;
 use crate::curve::PLACES;
 use crate::damage::{any_bytes, capture_of, damaged};
 use crate::decode::REPORT_BYTES;
 use crate::frames::Frame;
 use crate::random::Random;
 use crate::soft::Column;
+use crate::versions::spoilt;
 
 /// The sizes of an interpolant reading and of a report, and sizes beside them.
 const READING_SIZES: [u16; 4] = [82, 0, 81, 83];
@@ -23,7 +25,8 @@ pub(crate) const UNKNOWN_PLACES: [u16; 9] = [64, 65, 127, 128, 255, 256, 256 + 7
 /// random order, and between them refused deliveries, readings, and closings and writings that
 /// come too early or into buffers of wrong sizes; then closing, twice, writing, reading, and the
 /// same with the captures of the frame; then writing after deliveries in an order whose sort goes
-/// round with the number, and after captures in an order of each sort.
+/// round with the number, and after captures in an order of each sort; then two captures that go round
+/// the faults of both versions.
 pub fn call_list(seed: u64, number: u64) -> Vec<Call> {
     let frame = Frame::numbered(seed, number);
     let mut random = Random::new(seed ^ u64::MAX, number);
@@ -48,6 +51,11 @@ pub fn call_list(seed: u64, number: u64) -> Vec<Call> {
     calls.extend(delivered_and_written(&frame, &arrival.places(&mut random)));
     for arrival in ARRIVALS {
         calls.extend(opened_and_written(&frame, &arrival.places(&mut random)));
+    }
+    for turn in [2 * number, 2 * number + 1] {
+        let places = arrival.places(&mut random);
+        let capture = spoilt(&frame, &places, turn, &mut random);
+        calls.extend(looked_up_and_opened(capture, &mut random));
     }
     calls
 }
@@ -85,18 +93,22 @@ fn writing(frame: &Frame) -> Call {
 }
 
 fn capture_size(frame: &Frame) -> u16 {
-    2117 + frame.doubtful.len() as u16
+    (SMALLEST + frame.doubtful.len()) as u16
 }
 
 /// An opening that is refused, and calls on the session that it hands back.
 fn refused_opening(random: &mut Random) -> Vec<Call> {
     let rates = [0, 38, 40, 48, 50, 39 + 256, 49 + 256, 65535];
-    let lists: [&[u8]; 6] = [
+    let lists: [&[u8]; 10] = [
         &[64],
         &[7, 7],
         &[9, 8],
-        &[0, 1, 2, 3, 4, 5, 6, 7, 8],
+        &[0, 1, 2, 3, 4, 5, 6, 7, 8, 9, 10, 11, 12],
+        &[1, 2, 3, 5, 8, 13, 21, 34, 55, 56, 57, 58, 59, 60],
         &[0, 1, 2, 3, 4, 5, 6, 255],
+        &[0, 1, 2, 3, 4, 5, 6, 7, 8, 9, 10, 64],
+        &[0, 1, 2, 3, 4, 5, 6, 7, 8, 9, 11, 11],
+        &[0, 1, 2, 3, 4, 5, 6, 8, 7],
         &[],
     ];
     let doubtful = random.one_of(&lists).to_vec();
@@ -122,7 +134,7 @@ fn refused_opening(random: &mut Random) -> Vec<Call> {
             report: REPORT_SIZE,
         },
         Call::WriteCapture {
-            size: random.one_of(&[2117, 2118]),
+            size: SMALLEST as u16 + random.below(2) as u16,
         },
     ]
 }
@@ -211,6 +223,20 @@ fn opened_and_written(frame: &Frame, places: &[u8]) -> Vec<Call> {
     vec![Call::OpenCapture { capture }, writing(frame)]
 }
 
+/// A capture, right or wrong, with a place looked up; then opened, read and written back.
+fn looked_up_and_opened(capture: Vec<u8>, random: &mut Random) -> [Call; 4] {
+    let size = capture.len() as u16;
+    [
+        Call::LookUp {
+            place: random.below(PLACES) as u16,
+            capture: capture.clone(),
+        },
+        Call::OpenCapture { capture },
+        Call::ReadInterpolant { size: 82 },
+        Call::WriteCapture { size },
+    ]
+}
+
 #[cfg(test)]
 mod tests {
     use super::*;
@@ -219,6 +245,7 @@ mod tests {
     use crate::session::Session;
     use crate::soft::{best, gap, is_blank};
     use crate::streams::check_answers;
+    use crate::versions::{spoils, VersionSlip, VERSION_SLIPS};
 
     #[test]
     fn calls_are_read_back_from_their_bytes() {
@@ -358,6 +385,44 @@ mod tests {
                 let opened = opened_and_written(&frame, &places);
                 assert_eq!(differs(by_arrival, opened), found);
             }
+        }
+    }
+
+    /// The answers of a program that opens captures, and writes their version, by a wrong rule; what it
+    /// opens that is refused is the session of a refused opening, and the other way round.
+    fn answers_by(slip: VersionSlip, calls: &[Call]) -> Vec<u8> {
+        let mut session = Session::default();
+        let mut answers = Vec::new();
+        for call in calls {
+            let mut answer = call.answer(&mut session);
+            match call {
+                Call::OpenCapture { capture } => {
+                    answer[0] = slip.number(capture);
+                    if answer[0] != 0 {
+                        session = Session::default();
+                    }
+                }
+                Call::WriteCapture { .. } if answer[0] == 0 => {
+                    answer[1] = slip.version(session.doubtful().len());
+                }
+                _ => (),
+            }
+            answers.extend(answer);
+        }
+        answers
+    }
+
+    /// Each wrong rule of versions and sizes is found, in few of the lists where few captures show it.
+    #[test]
+    fn wrong_rules_of_versions_are_found() {
+        let count = spoils().len() as u64 / 2 + 1;
+        let lists: Vec<Vec<Call>> = (0..count).map(|number| call_list(59, number)).collect();
+        for slip in VERSION_SLIPS {
+            let found = lists.iter().filter(|calls| {
+                let answers = answers_by(slip, calls);
+                check_answers(&[(0, calls.to_vec())], &answers).is_err()
+            });
+            assert!(found.count() >= 1, "{slip:?}");
         }
     }
 

@@ -1,31 +1,42 @@
 //! Captures: writing, opening, look-up.
 //!
-//! "One version byte, 1. Two bytes of length: the bytes that follow, 2,114 + d. Then the rate (39
-//! or 49), d, d doubtful places, and 64 records of a place and its 32 cost bytes."
+//! "One version byte. Two bytes of length: the bytes that follow, 2,114 + d. Then the rate (39 or 49),
+//! d, d doubtful places, and 64 records of a place and its 32 cost bytes." "Captures with 9 to 12
+//! doubtful places carry version 2 in the same layout; those up to 8 stay version 1."
 //!
 //! - [`write_capture`]: the capture of a session, its records in rising place order.
 //! - [`bytes_of`]: a capture with its records in the order given.
 //! - [`open_capture`]: the session of a capture, or the first refusal in document 01's order.
+//! - [`version_of`]: the version that a number of doubtful places has.
 //! - [`look_up`]: one column as a part of the caller's capture.
 
-use crate::code::check_size;
+use crate::code::{check_size, Code};
 use crate::curve::PLACES;
 use crate::refusal::Refusal;
 use crate::session::Session;
-use crate::soft::{column_bytes, column_of_bytes, Column, COLUMN_BYTES};
+use crate::soft::{column_bytes, column_of_bytes, Column, COLUMN_BYTES, DOUBT_LIMIT};
 
-pub const VERSION: u8 = 1;
+/// "Versions 1 and 2 pass the second" check.
+pub const VERSIONS: [u8; 2] = [1, 2];
 
-/// "Total size from 2,117 to 2,125."
+/// The most doubtful places of a capture of version 1.
+pub const FIRST_VERSION_DOUBT: usize = 8;
+
+/// "Sizes up to 2,129 pass the first check", from 2,117 on.
 pub const SMALLEST: usize = DOUBTFUL_START + PLACES * RECORD_BYTES;
-pub const LARGEST: usize = SMALLEST + 8;
+pub const LARGEST: usize = SMALLEST + DOUBT_LIMIT;
 
 /// Version and length, which the length doesn't count.
-const UNCOUNTED_BYTES: usize = 3;
-const RATE_BYTE: usize = 3;
-const DOUBT_BYTE: usize = 4;
-const DOUBTFUL_START: usize = 5;
-const RECORD_BYTES: usize = 1 + COLUMN_BYTES;
+pub(crate) const UNCOUNTED_BYTES: usize = 3;
+pub(crate) const RATE_BYTE: usize = 3;
+pub(crate) const DOUBT_BYTE: usize = 4;
+pub(crate) const DOUBTFUL_START: usize = 5;
+pub(crate) const RECORD_BYTES: usize = 1 + COLUMN_BYTES;
+
+/// The version of a capture with so many doubtful places.
+pub fn version_of(doubt: usize) -> u8 {
+    VERSIONS[usize::from(doubt > FIRST_VERSION_DOUBT)]
+}
 
 /// "Writing: 2 for a wrong size; 7 if a place is missing; else the capture of rate, doubtful list
 /// and row." "The writer shall put records in rising place order."
@@ -45,7 +56,7 @@ pub fn capture_size(session: &Session) -> usize {
 /// The capture with these records, 64 of a place and its column, in the order given.
 pub fn bytes_of(rate: u64, doubtful: &[u8], records: &[(u8, Column)]) -> Vec<u8> {
     let length = (SMALLEST + doubtful.len() - UNCOUNTED_BYTES) as u16;
-    let mut bytes = vec![VERSION];
+    let mut bytes = vec![version_of(doubtful.len())];
     bytes.extend(length.to_be_bytes());
     bytes.push(rate as u8);
     bytes.push(doubtful.len() as u8);
@@ -58,12 +69,18 @@ pub fn bytes_of(rate: u64, doubtful: &[u8], records: &[(u8, Column)]) -> Vec<u8>
 }
 
 /// "Opening an accepted capture counts as opening with its rate and list and then delivering its
-/// records in their order." "Checks: total size from 2,117 to 2,125; version; length against both
-/// the total and d; rate; doubtful list; then record by record, place range and repeated place."
+/// records in their order." "Checks: total size; version; length against both the total and d; rate;
+/// doubtful list; then record by record, place range and repeated place." "A doubtful count that
+/// doesn't suit its version is a doubtful-list fault."
 pub fn open_capture(bytes: &[u8]) -> Result<Session, Refusal> {
     check_head(bytes)?;
     let (doubtful, records) = bytes[DOUBTFUL_START..].split_at(usize::from(bytes[DOUBT_BYTE]));
-    let mut session = Session::open(u64::from(bytes[RATE_BYTE]), doubtful)?;
+    let rate = u64::from(bytes[RATE_BYTE]);
+    Code::of_rate(rate)?;
+    if bytes[0] != version_of(doubtful.len()) {
+        return Err(Refusal::Doubt);
+    }
+    let mut session = Session::open(rate, doubtful)?;
     for record in records.chunks_exact(RECORD_BYTES) {
         session.deliver(u64::from(record[0]), column_of_bytes(&record[1..]))?;
     }
@@ -75,7 +92,7 @@ fn check_head(bytes: &[u8]) -> Result<(), Refusal> {
     if !(SMALLEST..=LARGEST).contains(&bytes.len()) {
         return Err(Refusal::Length);
     }
-    if bytes[0] != VERSION {
+    if !VERSIONS.contains(&bytes[0]) {
         return Err(Refusal::Version);
     }
     let length = usize::from(u16::from_be_bytes([bytes[1], bytes[2]]));

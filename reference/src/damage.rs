@@ -3,14 +3,15 @@
 //! - [`capture_of`]: the capture of a frame, its records in a given order.
 //! - [`damaged`]: a capture with one or two of its fields changed, or another size.
 //! - [`any_bytes`]: bytes that are no capture.
+//!
+//! Those of [`crate::versions`] go round all faults of both versions.
 
-use crate::capture::{bytes_of, LARGEST, SMALLEST};
+use crate::capture::{
+    bytes_of, version_of, DOUBTFUL_START, LARGEST, RECORD_BYTES, SMALLEST, VERSIONS,
+};
 use crate::frames::Frame;
 use crate::random::Random;
-use crate::soft::Column;
-
-const DOUBTFUL_START: usize = 5;
-const RECORD_BYTES: usize = 33;
+use crate::soft::{Column, DOUBT_LIMIT};
 
 /// The capture of a frame, its records in the order of the places given.
 pub fn capture_of(frame: &Frame, places: &[u8]) -> Vec<u8> {
@@ -51,11 +52,11 @@ fn damage(bytes: &mut Vec<u8>, random: &mut Random) {
         ),
         1 => bytes.truncate(bytes.len() - 1),
         2 => bytes.push(0),
-        3 => bytes[0] = random.one_of(&[0, 2, 3, 129, 255]),
+        3 => bytes[0] = random.one_of(&[0, 1, 2, 3, 129, 255]),
         4 => bytes[2] = bytes[2].wrapping_add(random.one_of(&[1, 255, 8])),
         5 => bytes.swap(1, 2),
         6 => bytes[3] = random.one_of(&[0, 38, 39, 40, 48, 49, 50, 255]),
-        7 => bytes[4] = random.one_of(&[0, 1, 7, 8, 9, 255]),
+        7 => bytes[4] = random.one_of(&[0, 1, 7, 8, 9, 12, 13, 255]),
         8 => consistent_doubt(bytes, random),
         9 => doubtful_place(bytes, random),
         10 => record_place(bytes, random),
@@ -66,10 +67,14 @@ fn damage(bytes: &mut Vec<u8>, random: &mut Random) {
     }
 }
 
-/// Total, length and d agree on another d, so that the list takes in record bytes or gives some.
+/// Total, length and d agree on another d, so that the list takes in record bytes or gives some; half of
+/// the time the version suits it.
 fn consistent_doubt(bytes: &mut Vec<u8>, random: &mut Random) {
-    let doubt = random.below(11);
+    let doubt = random.below(DOUBT_LIMIT + 3);
     bytes.resize(SMALLEST + doubt, 63);
+    if random.once_in(2) {
+        bytes[0] = version_of(doubt);
+    }
     let length = (bytes.len() - 3) as u16;
     bytes[1..3].copy_from_slice(&length.to_be_bytes());
     bytes[4] = doubt as u8;
@@ -105,6 +110,8 @@ pub fn any_bytes(random: &mut Random) -> Vec<u8> {
         SMALLEST - 1,
         SMALLEST,
         SMALLEST + 4,
+        SMALLEST + 8,
+        SMALLEST + 9,
         LARGEST,
         LARGEST + 1,
     ]);
@@ -113,7 +120,8 @@ pub fn any_bytes(random: &mut Random) -> Vec<u8> {
         let length = ((size - 3) as u16).to_be_bytes();
         let rate = random.one_of(&[39, 49]);
         let doubt = (size - SMALLEST) as u8;
-        bytes[..5].copy_from_slice(&[1, length[0], length[1], rate, doubt]);
+        let version = random.one_of(&VERSIONS);
+        bytes[..5].copy_from_slice(&[version, length[0], length[1], rate, doubt]);
     }
     bytes
 }

@@ -1,4 +1,4 @@
-//! The tree of test words, tried one by one, and table decoding.
+//! The tree of test words, each of them tried, and table decoding.
 //!
 //! - [`Answer`]: the message, and the five numbers of the report; [`margin_of`] reads the last.
 //! - [`test_words`]: all test words of columns and a doubtful list.
@@ -65,12 +65,8 @@ pub fn margin_of(report: &[u8]) -> Option<u32> {
 /// symbol. All other places are settled and carry their best symbol." A blank place is not "doubled
 /// as doubtful", and what stands there counts for nothing.
 pub fn test_words(columns: &Columns, doubtful: &[u8]) -> Vec<Row> {
-    let mut words = vec![Row::from_elements(columns.iter().map(soft::best))];
-    for place in doubtful.iter().map(|place| usize::from(*place)) {
-        if soft::is_blank(&columns[place]) {
-            continue;
-        }
-        let second = soft::second(&columns[place]);
+    let mut words = vec![best_word(columns)];
+    for (place, second) in doubled(columns, doubtful) {
         let doubled = words.iter().flat_map(|word| {
             let mut other = *word;
             other.set(place, second);
@@ -79,6 +75,20 @@ pub fn test_words(columns: &Columns, doubtful: &[u8]) -> Vec<Row> {
         words = doubled.collect();
     }
     words
+}
+
+/// The word of best symbols.
+fn best_word(columns: &Columns) -> Row {
+    Row::from_elements(columns.iter().map(soft::best))
+}
+
+/// The places that double the test words, and their second symbols.
+fn doubled(columns: &Columns, doubtful: &[u8]) -> Vec<(usize, u8)> {
+    let places = doubtful.iter().map(|place| usize::from(*place));
+    let unblanked = places.filter(|place| !soft::is_blank(&columns[*place]));
+    unblanked
+        .map(|place| (place, soft::second(&columns[place])))
+        .collect()
 }
 
 /// "A codeword is near when it differs from some test word in at most T places", of those that are
@@ -91,12 +101,8 @@ pub fn near_codewords(
 ) -> Result<(Vec<(u32, Near)>, u16), Refusal> {
     let blank = soft::blank_places(columns);
     let unblanked = finder.unblanked(&blank).ok_or(Refusal::TooBlank)?;
-    let words = test_words(columns, doubtful);
-    let found: Vec<Near> = words
-        .iter()
-        .filter_map(|word| unblanked.nearest(word))
-        .collect();
-    let tests = found.len() as u16;
+    let doubled = doubled(columns, doubtful);
+    let (found, tests) = unblanked.nearest_of_tree(&best_word(columns), &doubled);
     Ok((ranking(columns, found), tests))
 }
 
@@ -116,14 +122,13 @@ pub fn decode(finder: &Finder, columns: &Columns, doubtful: &[u8]) -> Result<Ans
     })
 }
 
-/// The codewords found, each once, with their totals, cheapest first. "Equal totals go to the
-/// smaller message, compared from symbol 0 on."
+/// The codewords found with their totals, cheapest first. "Equal totals go to the smaller message,
+/// compared from symbol 0 on."
 fn ranking(columns: &Columns, found: Vec<Near>) -> Vec<(u32, Near)> {
     let total = |near: &Near| soft::total(columns, &near.codeword.elements());
     let mut ranking: Vec<(u32, Near)> =
         found.into_iter().map(|near| (total(&near), near)).collect();
     ranking.sort_by(|(a, first), (b, second)| (a, &first.message).cmp(&(b, &second.message)));
-    ranking.dedup();
     ranking
 }
 
@@ -219,7 +224,7 @@ pub fn table_of_columns(columns: &Columns) -> Vec<u8> {
 #[cfg(test)]
 mod tests {
     use super::*;
-    use crate::frames::frame_s;
+    use crate::frames::{frame_s, Frame};
     use crate::soft::CEILING;
 
     /// Doubtful places that are blank double nothing.
@@ -234,6 +239,49 @@ mod tests {
         columns[0] = [3; 16];
         columns[10] = [0; 16];
         assert_eq!(test_words(&columns, &[0, 5, 10]).len(), 1);
+    }
+
+    /// With twelve doubtful places and none wrong the test words near are those with at most T second
+    /// symbols: 2,510 at rate 39, where the count takes both bytes, and 13 at rate 49.
+    #[test]
+    fn twelve_doubtful_places_double_to_4096() {
+        let columns = frame_s(0);
+        for (rate, near) in [(39, 2510), (49, 13)] {
+            let table = table_of_columns(&columns);
+            let (mut message, mut report) = (vec![9; rate as usize], [9; REPORT_BYTES]);
+            let decoded = decode_table(rate, &table, 12, &mut message, &mut report);
+            assert_eq!(decoded, Ok(()));
+            assert_eq!(u16::from_be_bytes([report[4], report[5]]), near);
+        }
+        assert_eq!(
+            test_words(&columns, &[0, 5, 6, 7, 9, 11, 20, 21, 40, 50, 51, 63]).len(),
+            4096
+        );
+    }
+
+    /// What the tree finds is what each of its words finds by itself.
+    #[test]
+    fn the_tree_finds_what_each_test_word_does() {
+        for number in 0..26 * 14 {
+            let Frame {
+                rate,
+                doubtful,
+                columns,
+            } = Frame::numbered(31, number);
+            let finder = Finder::of_rate(rate).unwrap();
+            let blank = soft::blank_places(&columns);
+            let Some(unblanked) = finder.unblanked(&blank) else {
+                continue;
+            };
+            let words = test_words(&columns, &doubtful);
+            let each: Vec<Near> = words.iter().filter_map(|w| unblanked.nearest(w)).collect();
+            let (found, tests) = near_codewords(finder, &columns, &doubtful).unwrap();
+            assert_eq!(usize::from(tests), each.len(), "{number}");
+            assert!(each.iter().all(|near| found.iter().any(|(_, n)| n == near)));
+            for (at, (_, near)) in found.iter().enumerate() {
+                assert!(each.contains(near) && found[..at].iter().all(|(_, n)| n != near));
+            }
+        }
     }
 
     /// A list doubles what it names: what a gap counts as is a matter of choosing.
@@ -262,10 +310,12 @@ mod tests {
             result
         };
         let mut columns = [[7; 16]; PLACES];
-        assert_eq!(decoded(40, &columns, 9, 40), Err(Refusal::Rate));
-        assert_eq!(decoded(39, &columns, 9, 40), Err(Refusal::Size));
-        assert_eq!(decoded(39, &columns, 9, 39), Err(Refusal::Doubt));
-        assert_eq!(decoded(39, &columns, 8, 39), Err(Refusal::TooBlank));
+        assert_eq!(decoded(40, &columns, 13, 40), Err(Refusal::Rate));
+        assert_eq!(decoded(39, &columns, 13, 40), Err(Refusal::Size));
+        assert_eq!(decoded(39, &columns, 13, 39), Err(Refusal::Doubt));
+        for doubt in [8, 9, 12] {
+            assert_eq!(decoded(39, &columns, doubt, 39), Err(Refusal::TooBlank));
+        }
         columns[14..].copy_from_slice(&frame_s(7)[14..]);
         assert_eq!(decoded(39, &columns, 0, 39), Err(Refusal::TooBlank));
         columns[13] = frame_s(0)[13];
@@ -285,14 +335,14 @@ mod tests {
             result
         };
         let mut columns = [[7; 16]; PLACES];
-        for most in [0, 9, 255, 256, 256 + 3, u64::MAX] {
+        for most in [0, 13, 255, 256, 256 + 3, u64::MAX] {
             assert_eq!(decoded(40, &columns, most, 40), Err(Refusal::Rate));
             assert_eq!(decoded(39, &columns, most, 40), Err(Refusal::Size));
             assert_eq!(decoded(39, &columns, most, 39), Err(Refusal::Doubt));
         }
         assert_eq!(decoded(39, &columns, 1, 39), Err(Refusal::TooBlank));
         columns = frame_s(7);
-        for most in 1..=8 {
+        for most in 1..=12 {
             assert_eq!(decoded(39, &columns, most, 39), Ok(()));
         }
         columns[1] = columns[10];
@@ -315,7 +365,7 @@ mod tests {
             (result, message, report)
         };
         assert_eq!(decoded(31, 2).2[4..6], [0, 3]);
-        for most in 1..=8 {
+        for most in 1..=12 {
             assert_eq!(decoded(30, most), by_doubt(1));
             assert_eq!(decoded(31, most), by_doubt(most.min(7)));
             assert_eq!(decoded(41, most), by_doubt(most));

@@ -6,9 +6,8 @@
 use std::collections::BTreeMap;
 use std::fmt;
 
-use crate::fades::{Fade, Left, LEFT, WIDTHS};
+use crate::fades::{Fade, Left, DOUBTS, LEFT, WIDTHS};
 use crate::frames::{blank_limit, RATES};
-use crate::soft::DOUBT_LIMIT;
 
 /// What is counted.
 #[derive(Clone, Copy, Debug, PartialEq, Eq, PartialOrd, Ord)]
@@ -35,10 +34,13 @@ fn number_of(left: Left) -> u8 {
 
 /// The fades that are left so and come to a number, of each rate, width and doubt.
 fn fades(left: Left, number: u8) -> impl Iterator<Item = Sort> {
-    let of_rate = |rate| WIDTHS.into_iter().map(move |width| (rate, width));
+    let of_rate = |rate| {
+        let widths = WIDTHS.into_iter().zip(DOUBTS);
+        widths.map(move |(width, most)| (rate, width, most))
+    };
     let kinds = RATES.into_iter().flat_map(of_rate);
-    kinds.flat_map(move |(rate, width)| {
-        (0..=DOUBT_LIMIT).map(move |doubt| Sort::Fade {
+    kinds.flat_map(move |(rate, width, most)| {
+        (0..=most).map(move |doubt| Sort::Fade {
             left,
             rate,
             width,
@@ -160,7 +162,7 @@ mod tests {
             let mut few = counts.clone();
             few.0.remove(&sort);
             let line = few.check().unwrap_err();
-            let named = format!("1 of 124 sorts of fades are missing ({sort:?}): fades: 123 of");
+            let named = format!("1 of 148 sorts of fades are missing ({sort:?}): fades: 147 of");
             assert!(line.starts_with(&named), "{line}");
         }
         assert!(FadeCounts::default().check().is_err());
@@ -174,7 +176,7 @@ mod tests {
             counts.count(&fade, 9 - number_of(fade.left));
         }
         let line = counts.check().unwrap_err();
-        assert!(line.starts_with("108 of 124 sorts"), "{line}");
+        assert!(line.starts_with("132 of 148 sorts"), "{line}");
     }
 
     #[test]
@@ -183,8 +185,8 @@ mod tests {
         sum.add(counts());
         let printed = sum.to_string();
         let expected =
-            "fades: 124 of 124 sorts; noise 0 answered, 720 refused; T wrong 720 answered, \
-                        0 refused; T + 1 wrong 0 answered, 720 refused; by blank places at rate 39";
+            "fades: 148 of 148 sorts; noise 0 answered, 880 refused; T wrong 880 answered, \
+                        0 refused; T + 1 wrong 0 answered, 880 refused; by blank places at rate 39";
         assert!(printed.starts_with(expected), "{printed}");
     }
 }

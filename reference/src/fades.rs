@@ -2,7 +2,7 @@
 //!
 //! - [`WIDTHS`]: how many places a fade takes; [`Left`]: what it leaves of the sent symbols.
 //! - [`Fade`], [`Fade::made`]: one of them, as a frame; [`Fade::numbered`]: the number goes round rates,
-//!   widths, what is left, doubts and numbers of blank places.
+//!   what is left, widths, doubts ([`DOUBTS`]) and numbers of blank places.
 //! - [`Fade::calls`]: the calls of a session that takes it.
 //!
 //! Eight consecutive places lie above two or three x, twelve above three or four, so that few functions
@@ -39,8 +39,19 @@ pub enum Left {
 
 pub const LEFT: [Left; 3] = [Left::Noise, Left::Reach, Left::Beyond];
 
-/// Fades of each rate, width, sort and doubt: numbers go round these.
-pub const ROUND: usize = RATES.len() * WIDTHS.len() * LEFT.len() * (DOUBT_LIMIT + 1);
+/// The largest doubt of each width: its doubtful places lie in the fade.
+pub const DOUBTS: [usize; WIDTHS.len()] = [room(WIDTHS[0]), room(WIDTHS[1])];
+
+const fn room(width: usize) -> usize {
+    if width < DOUBT_LIMIT {
+        width
+    } else {
+        DOUBT_LIMIT
+    }
+}
+
+/// Fades of each rate, sort, width and doubt: numbers go round these.
+pub const ROUND: usize = RATES.len() * LEFT.len() * (DOUBTS[0] + 1 + DOUBTS[1] + 1);
 
 /// A frame with a fade, of which as many places are doubtful as the doubt asks for.
 #[derive(Clone, Debug, PartialEq, Eq)]
@@ -64,9 +75,11 @@ impl Fade {
             next
         };
         let rate = RATES[next(RATES.len())];
-        let width = WIDTHS[next(WIDTHS.len())];
         let left = LEFT[next(LEFT.len())];
-        let doubt = next(DOUBT_LIMIT + 1);
+        let (width, doubt) = match next(ROUND) {
+            doubt if doubt <= DOUBTS[0] => (WIDTHS[0], doubt),
+            more => (WIDTHS[1], more - DOUBTS[0] - 1),
+        };
         let blanks = match round % 2 {
             0 => 0,
             _ => 1 + (round / 2 + doubt) % blank_limit(rate),

@@ -10,7 +10,7 @@
 use crate::code::Code;
 use crate::curve::PLACES;
 use crate::field::{inverse, times};
-use crate::pairs::{clipped_pair, pair, trio, Gaps, Planted};
+use crate::pairs::{clipped_pair, pair, pair_with, trio, Gaps, Planted, NEAR_DOUBT};
 use crate::random::Random;
 use crate::row::Row;
 use crate::soft::{best, second, Column, Columns, CEILING, DOUBT_LIMIT};
@@ -39,7 +39,8 @@ pub enum Kind {
     /// T + 1 to T + 4 settled places are wrong.
     Beyond,
     /// Two codewords at least distance with eight doubtful places where they differ; of the others
-    /// T lean to each, so that both are near and there is a margin.
+    /// T lean to each, so that both are near and there is a margin. With nine doubtful places or more
+    /// they may differ in those too.
     Pair,
     /// A pair with equal totals: the margin is zero.
     EqualPair,
@@ -51,7 +52,7 @@ pub enum Kind {
     /// A pair whose settled places lean T + 1 and T − 1 ways: one of the two is not near.
     UnevenPair,
     /// A pair with a third codeword at least distance from both, which is not near; it may cost less
-    /// than they do.
+    /// than they do. With twelve doubtful places all three are near.
     Trio,
     /// As `Wrong`, with costs at the ceiling; or with pinned seconds where gaps are smallest, so that
     /// table decoding does not pick the list; or a pair of which, where no place is blank, it finds the
@@ -123,11 +124,11 @@ pub fn frame(kind: Kind, rate: u64, doubt: usize, random: &mut Random) -> Frame 
 }
 
 /// A frame of a kind with so many blank places, some of them doubtful; there are more where all are
-/// blank by the kind. Pairs and trios have eight doubtful places whatever the doubt asked for, and
-/// pairs with pinned seconds four.
+/// blank by the kind. Pairs and trios have eight doubtful places at least, and pairs with pinned seconds
+/// four, whatever the doubt asked for.
 pub fn faded(kind: Kind, rate: u64, doubt: usize, blanks: usize, random: &mut Random) -> Frame {
     let code = Code::of_rate(rate).expect("a known rate");
-    if let Some(planted) = planted(kind, code, blanks, random) {
+    if let Some(planted) = planted(kind, code, doubt, blanks, random) {
         return planted.frame;
     }
     let reach = code.reach_with(blanks).unwrap_or(0);
@@ -167,16 +168,32 @@ pub fn faded(kind: Kind, rate: u64, doubt: usize, blanks: usize, random: &mut Ra
 
 /// The frames between codewords. Those with equal totals have no blank place that is doubtful, so
 /// that as many doubtful places lean each way.
-fn planted(kind: Kind, code: &Code, blanks: usize, random: &mut Random) -> Option<Planted> {
+fn planted(
+    kind: Kind,
+    code: &Code,
+    doubt: usize,
+    blanks: usize,
+    random: &mut Random,
+) -> Option<Planted> {
     let (rate, reach) = (code.symbols as u64, code.reach);
+    let (doubt, distance) = (doubt.max(NEAR_DOUBT), PLACES - code.top);
+    let mut differing = || match doubt > NEAR_DOUBT && random.once_in(2) {
+        true => doubt.min(distance),
+        false => NEAR_DOUBT,
+    };
     let planted = match kind {
-        Kind::Pair | Kind::ApartPair => pair(rate, reach, Gaps::Mixed, random),
+        Kind::Pair => pair_with(rate, differing(), reach, Gaps::Mixed, random),
+        Kind::ApartPair => pair(rate, reach, Gaps::Mixed, random),
         Kind::EqualPair => pair(rate, reach, Gaps::Alike, random),
-        Kind::WidePair => pair(rate, reach, Gaps::Wide, random),
+        Kind::WidePair => pair_with(rate, differing(), reach, Gaps::Wide, random),
         Kind::UnevenPair => pair(rate, reach + 1, Gaps::Mixed, random),
-        Kind::Trio => trio(rate, DOUBT_LIMIT, Gaps::Mixed, random),
+        Kind::Trio => trio(rate, doubt, Gaps::Mixed, random),
         Kind::Ceiling if random.once_in(8) => clipped_pair(rate, random),
         _ => return None,
+    };
+    let planted = match kind {
+        Kind::Ceiling => planted,
+        _ => planted.doubted(doubt, random),
     };
     let doubtful = kind != Kind::EqualPair && random.once_in(2);
     let planted = planted.faded(blanks, doubtful, random);
@@ -434,7 +451,7 @@ mod tests {
 
     fn answers(kind: Kind, rate: u64, count: u64) -> Vec<Result<Answer, Refusal>> {
         let answer = |number| {
-            let doubt = number as usize % 9;
+            let doubt = number as usize % (DOUBT_LIMIT + 1);
             decoded(&frame(kind, rate, doubt, &mut Random::new(30, number)))
         };
         (0..count).map(answer).collect()
@@ -553,7 +570,7 @@ mod tests {
     }
 
     /// Every sort of margin comes at both rates, and only with two test words that have a codeword
-    /// within T, of eight doubtful places.
+    /// within T, of eight doubtful places, or with more of both.
     #[test]
     fn frames_have_every_sort_of_margin() {
         for rate in RATES {
@@ -585,7 +602,8 @@ mod tests {
                 continue;
             };
             if answer.margin.is_some() {
-                assert_eq!((frame.doubtful.len(), answer.tests), (DOUBT_LIMIT, 2));
+                assert!(frame.doubtful.len() >= NEAR_DOUBT);
+                assert!(answer.tests == 2 || answer.tests > 2 && frame.doubtful.len() > NEAR_DOUBT);
             }
         }
     }

@@ -6,8 +6,8 @@
 //! - encoding sums monomials, reading back solves linear equations ([`code`], [`linear`]);
 //! - the least Q is found by elimination over its terms ([`least`]);
 //! - each test word is decoded by itself, with an error locator and checks from which blank places
-//!   are eliminated ([`nearest`]); answer and margin are the first two totals of all codewords found
-//!   ([`decode`]);
+//!   are eliminated, and of a tree of 4,096 the first one's syndromes serve all ([`nearest`]); answer and
+//!   margin are the first two totals of all codewords found ([`decode`]);
 //! - doubtful places by threshold and maximum are taken from the front of the places sorted by gap, one
 //!   after the other ([`soft`]);
 //! - a column from bit values is what is left of their magnitudes where signs agree, from a table of
@@ -37,13 +37,15 @@
 //!
 //! [`frames`] makes frames of thirteen kinds from a seed, each with every number of blank places,
 //! [`pairs`] those between codewords at least distance, [`fades`] those with consecutive places of
-//! noise, [`damage`] captures with faults, [`arrivals`] five sorts of order in which places arrive,
-//! [`below_frames`] thresholds and maxima, [`bit_frames`] bit values. The binary `compare` runs them in
-//! two ways. It counts the frames with blank places and with a margin, the tables in which a pinned
-//! second is not chosen as doubtful, the captures written after each sort of order, the withdrawals of
-//! each sort, the sorts of fades, those of thresholds, with what wrong rules would lead to ([`slips`]),
-//! and those of bit values, and fails where they are too few to try it ([`blanks`], [`margins`],
-//! [`choices`], [`written`], [`withdrawals`], [`fade_counts`], [`below_counts`], [`bit_counts`]).
+//! noise, [`damage`] captures with faults, [`versions`] those of both versions with each fault,
+//! [`arrivals`] five sorts of order in which places arrive, [`below_frames`] thresholds and maxima,
+//! [`bit_frames`] bit values. The binary `compare` runs them in two ways. It counts the frames with each
+//! number of doubtful places, with blank ones and with a margin, the tables in which a pinned second is
+//! not chosen as doubtful, the captures of both versions, with what wrong rules would make of them,
+//! those written after each sort of order, the withdrawals of each sort, the sorts of fades, those of
+//! thresholds, with what wrong rules would lead to ([`slips`]), and those of bit values, and fails where
+//! they are too few to try it ([`doubts`], [`blanks`], [`margins`], [`choices`], [`version_counts`],
+//! [`written`], [`withdrawals`], [`fade_counts`], [`below_counts`], [`bit_counts`]).
 //!
 //! Calls that cross as numbers and byte slices are linked: with the feature `proved`, and with
 //! `MODEM_LIB_DIR` naming the folder of `libmodem.a`, `compare code`, `compare tables`, `compare below`,
@@ -86,6 +88,7 @@ pub mod counted;
 pub mod curve;
 pub mod damage;
 pub mod decode;
+pub mod doubts;
 pub mod fade_counts;
 pub mod fades;
 pub mod faults;
@@ -111,6 +114,8 @@ pub mod slips;
 pub mod soft;
 pub mod streams;
 pub mod trials;
+pub mod version_counts;
+pub mod versions;
 pub mod withdrawal_lists;
 pub mod withdrawals;
 pub mod worst;

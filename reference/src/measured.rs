@@ -17,13 +17,13 @@ use crate::pairs::{pair, Gaps};
 use crate::random::Random;
 use crate::row::Row;
 use crate::soft::{doubtful_below, doubtful_places, Columns, DOUBT_LIMIT};
-use crate::worst::worst;
+use crate::worst::{worst, DRAWN_DOUBT};
 
 /// The calls of a case.
 pub const CALLS: u64 = 20;
 
 /// The doubts that are measured.
-pub const DOUBTS: [usize; 4] = [0, 3, 6, 8];
+pub const DOUBTS: [usize; 5] = [0, 3, 6, DRAWN_DOUBT, DOUBT_LIMIT];
 
 const SEED: u64 = 9;
 
@@ -61,7 +61,7 @@ const DAMAGES: [Damage; 5] = [
     Damage::Noise { decibels: 7 },
 ];
 
-/// With no doubt and with the largest.
+/// With no doubt and with eight doubtful places.
 const FADES: [Damage; 4] = [
     Damage::Noise { decibels: 5 },
     Damage::Noise { decibels: 4 },
@@ -69,20 +69,32 @@ const FADES: [Damage; 4] = [
     Damage::Fade { width: 12 },
 ];
 
-/// With the largest doubt only, for which they are made.
+/// With eight doubtful places only, for which they are made.
 const HARD: [Damage; 2] = [Damage::Between, Damage::Worst];
+
+/// With the largest doubt, at rate 39.
+const LARGEST: [Damage; 5] = [
+    Damage::None,
+    Damage::One,
+    Damage::Reach,
+    Damage::Beyond,
+    Damage::Fade { width: 12 },
+];
 
 impl Damage {
     /// Those that are measured with a doubt at a rate. At rate 49 one wrong place is T wrong places, and
-    /// stands there once.
+    /// stands there once; with the largest doubt there are no others than that and none.
     fn measured(rate: u64, doubt: usize) -> Vec<Damage> {
-        let mut damages = DAMAGES.to_vec();
-        damages.retain(|damage| rate == 39 || *damage != Damage::One);
-        if [0, DOUBT_LIMIT].contains(&doubt) {
-            damages.extend(FADES);
-        }
-        if doubt == DOUBT_LIMIT {
-            damages.extend(HARD);
+        let mut damages = match doubt {
+            0 => [&DAMAGES[..], &FADES].concat(),
+            DRAWN_DOUBT => [&DAMAGES[..], &FADES, &HARD].concat(),
+            DOUBT_LIMIT => LARGEST.to_vec(),
+            _ => DAMAGES.to_vec(),
+        };
+        match (rate, doubt) {
+            (39, _) => (),
+            (_, DOUBT_LIMIT) => damages.retain(|d| [Damage::None, Damage::Reach].contains(d)),
+            _ => damages.retain(|damage| *damage != Damage::One),
         }
         damages
     }

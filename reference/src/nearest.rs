@@ -4,6 +4,7 @@
 //! - [`Finder::unblanked`]: the places that are not blank, with what elimination computes once for a
 //!   frame; none where too many are blank.
 //! - [`Unblanked::nearest`]: the codeword that differs from a word in at most T of them, or none.
+//! - [`Unblanked::nearest_of_tree`]: the same for all words of a tree, which share their syndromes.
 //!
 //! Of the 64 places b are blank. Let f be a function of order at most M that differs from the word t
 //! in at most T of the others. The functions of order at most T + 6 have dimension above T, so one of
@@ -21,6 +22,11 @@
 //! Which words are such an N at the places that are not blank is said by the combinations of N's
 //! checks that are zero at the blank ones: the blank places are eliminated from these checks (the
 //! checks of the punctured code).
+//!
+//! What these checks say of E·t is linear in t. So a word that differs from another at one place has its
+//! syndromes and a multiple of that place's, and a tree of words, each doubled place one step, needs the
+//! checks of its first word only. Two codewords within T of the same word would differ in 2T + b places
+//! at most, fewer than the least distance: a word within T of a codeword found before has no other.
 
 use std::borrow::Cow;
 use std::sync::OnceLock;
@@ -159,21 +165,67 @@ impl Unblanked<'_> {
     /// The codeword that differs from the word in at most T of these places, if there is one. The
     /// word's symbols at blank places count for nothing.
     pub fn nearest(&self, word: &Row) -> Option<Near> {
-        let locator = self.cleared(self.locator(word)?);
+        self.nearest_by(word, &self.syndromes(word))
+    }
+
+    /// The codewords within T of the words that have, at each of the doubled places, their own symbol or
+    /// the second one given; and how many of these words have one.
+    pub fn nearest_of_tree(&self, word: &Row, doubled: &[(usize, u8)]) -> (Vec<Near>, u16) {
+        let step = |(place, second): &(usize, u8)| Step {
+            place: *place,
+            second: *second,
+            change: second ^ word.get(*place),
+            checked: self.at_place(*place),
+        };
+        let mut tree = Tree {
+            places: self,
+            steps: doubled.iter().map(step).collect(),
+            found: Vec::new(),
+            words: 0,
+        };
+        tree.walk(0, *word, &self.syndromes(word));
+        (tree.found, tree.words)
+    }
+
+    /// What the checks of N say of the word times each term of a locator.
+    fn syndromes(&self, word: &Row) -> Vec<Row> {
+        let of_term = |term: &LocatorTerm| {
+            Row::from_elements(term.checked.iter().map(|check| check.dot(word)))
+        };
+        self.locator_terms.iter().map(of_term).collect()
+    }
+
+    /// The syndromes of the word that is 1 at one place and zero elsewhere.
+    fn at_place(&self, place: usize) -> Vec<Row> {
+        let of_term = |term: &LocatorTerm| {
+            Row::from_elements(term.checked.iter().map(|check| check.get(place)))
+        };
+        self.locator_terms.iter().map(of_term).collect()
+    }
+
+    /// Whether the word differs from a codeword in at most T of these places.
+    fn within(&self, word: &Row, codeword: &Row) -> bool {
+        let mut difference = *word;
+        difference.add(codeword);
+        self.cleared(difference).weight() <= self.reach
+    }
+
+    /// The codeword within T of a word with these syndromes.
+    fn nearest_by(&self, word: &Row, syndromes: &[Row]) -> Option<Near> {
+        let locator = self.cleared(self.locator(syndromes)?);
         let errors = self.finder.errors_at_zeros(word, &locator)?;
         let mut codeword = *word;
         codeword.add(&errors);
         let message = self.finder.code.message(&codeword)?;
-        let differing = self.cleared(errors).weight();
-        (differing <= self.reach).then_some(Near { message, codeword })
+        self.within(word, &codeword)
+            .then_some(Near { message, codeword })
     }
 
-    /// The values of an E ≠ 0 whose product with the word passes the checks of N.
-    fn locator(&self, word: &Row) -> Option<Row> {
+    /// The values of an E ≠ 0 whose product with a word of these syndromes passes the checks of N.
+    fn locator(&self, syndromes: &[Row]) -> Option<Row> {
         let mut span = Span::default();
-        for (number, term) in self.locator_terms.iter().enumerate() {
-            let syndromes = Row::from_elements(term.checked.iter().map(|check| check.dot(word)));
-            if let Some(combination) = span.add(number, syndromes) {
+        for (number, (term, syndromes)) in self.locator_terms.iter().zip(syndromes).enumerate() {
+            if let Some(combination) = span.add(number, *syndromes) {
                 let mut locator = term.values;
                 for (earlier, scale) in self.locator_terms.iter().zip(combination.elements()) {
                     locator.add_scaled(scale, &earlier.values);
@@ -191,6 +243,52 @@ impl Unblanked<'_> {
             row.set(*place, 0);
         }
         row
+    }
+}
+
+/// A doubled place: its second symbol, how that changes the word, and the syndromes of the place.
+struct Step {
+    place: usize,
+    second: u8,
+    change: u8,
+    checked: Vec<Row>,
+}
+
+/// A tree of words, and what is found of it so far.
+struct Tree<'a> {
+    places: &'a Unblanked<'a>,
+    steps: Vec<Step>,
+    /// Each codeword once.
+    found: Vec<Near>,
+    /// The words that have one of them within T.
+    words: u16,
+}
+
+impl Tree<'_> {
+    /// Doubles the word at each step from this one on.
+    fn walk(&mut self, at: usize, word: Row, syndromes: &[Row]) {
+        let Some(step) = self.steps.get(at) else {
+            return self.try_word(&word, syndromes);
+        };
+        let mut second = word;
+        second.set(step.place, step.second);
+        let mut changed = syndromes.to_vec();
+        for (row, checked) in changed.iter_mut().zip(&step.checked) {
+            row.add_scaled(step.change, checked);
+        }
+        self.walk(at + 1, word, syndromes);
+        self.walk(at + 1, second, &changed);
+    }
+
+    fn try_word(&mut self, word: &Row, syndromes: &[Row]) {
+        let known = |near: &Near| self.places.within(word, &near.codeword);
+        if !self.found.iter().any(known) {
+            let Some(near) = self.places.nearest_by(word, syndromes) else {
+                return;
+            };
+            self.found.push(near);
+        }
+        self.words += 1;
     }
 }
 

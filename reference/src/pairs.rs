@@ -1,22 +1,23 @@
 //! Codewords at least distance, and frames between them.
 //!
-//! - [`pair`]: a frame that has two near codewords, or nearly; [`between`]: of any two codewords.
+//! - [`pair`]: a frame that has two near codewords, or nearly; [`pair_with`]: with more doubtful places
+//!   than they need; [`between`]: of any two codewords.
 //! - [`Gaps`]: how far their totals are apart; [`Planted::apart`]: by a number given.
-//! - [`Planted::faded`]: the frame with blank places.
+//! - [`Planted::faded`]: the frame with blank places; [`Planted::doubted`]: with more doubtful ones.
 //! - [`trio`]: a frame with a third codeword, at least distance from both.
 //! - [`clipped_pair`]: a frame that has one of two near by its own list, and the other by the places
 //!   that table decoding picks.
 //!
 //! Two codewords differ in 64 − M places or more, 20 at rate 39 and 10 at rate 49. If both are near,
 //! every settled place where they differ is wrong for one of them, and at most T are for each: 12
-//! places, or 2. So there are eight doubtful places, they differ in all of them, one has the best and
-//! the other the second symbol there, and they are at least distance apart. A third near codeword
-//! would have to differ from both in the doubtful places, with one of the same two symbols: there is
-//! none as long as eight places are the most that can be doubtful. With twelve there can be one.
+//! places, or 2. So they differ in eight doubtful places at least. With eight they differ in all of
+//! them, one has the best and the other the second symbol there, and they are at least distance apart;
+//! a third near codeword would have to differ from both in the doubtful places, with one of the same
+//! two symbols, and there is none. With twelve there can be one.
 //!
 //! With b blank places 2T + b is 12 or 13 at rate 39 and 2 or 3 at rate 49, the larger where b is odd.
-//! So two near codewords differ at every blank place, or, where b is odd, at all but one of the blank
-//! and doubtful ones.
+//! So with eight doubtful places two near codewords differ at every blank place, or, where b is odd, at
+//! all but one of the blank and doubtful ones.
 
 use crate::code::Code;
 use crate::curve::PLACES;
@@ -27,7 +28,7 @@ use crate::frames::{
 use crate::light::{light_pair, lightest};
 use crate::random::Random;
 use crate::row::Row;
-use crate::soft::{best, is_blank, total, CEILING, DOUBT_LIMIT};
+use crate::soft::{best, is_blank, total, CEILING};
 
 /// With wide gaps those of doubtful places are at most this, those of settled ones larger.
 const WIDE_DOUBTFUL_GAP: usize = 30_000;
@@ -39,6 +40,9 @@ const TRIO_DOUBT: usize = 4;
 
 /// Half of the least distance is T and so many more, at both rates.
 const PAIR_DOUBT: usize = 4;
+
+/// Two near codewords differ in so many doubtful places at least.
+pub const NEAR_DOUBT: usize = 2 * PAIR_DOUBT;
 
 /// How the gaps are drawn where codewords differ.
 #[derive(Clone, Copy, Debug, PartialEq, Eq)]
@@ -99,6 +103,29 @@ impl Planted {
         self
     }
 
+    /// Settled places become doubtful, until there are so many: some where all the codewords agree, with
+    /// their symbol as best or second, so that whichever is near stays so and no other becomes near.
+    pub fn doubted(mut self, doubt: usize, random: &mut Random) -> Planted {
+        let agree = |place: &usize| {
+            let symbol = self.codewords[0].get(*place);
+            !self.is_doubtful(*place) && self.codewords.iter().all(|c| c.get(*place) == symbol)
+        };
+        let more = doubt.saturating_sub(self.frame.doubtful.len());
+        let places = random.shuffled((0..PLACES).filter(agree));
+        for place in places.into_iter().take(more) {
+            let symbol = self.codewords[0].get(place);
+            let mut symbols = [symbol, random.other_symbol(symbol)];
+            if random.once_in(2) {
+                symbols.reverse();
+            }
+            let gap = random.between(0, DOUBTFUL_GAP);
+            self.frame.columns[place] = column(symbols[0], symbols[1], gap, random);
+            self.frame.doubtful.push(place as u8);
+        }
+        self.frame.doubtful.sort_unstable();
+        self
+    }
+
     fn is_doubtful(&self, place: usize) -> bool {
         self.frame.doubtful.contains(&(place as u8))
     }
@@ -145,14 +172,20 @@ impl Planted {
     }
 }
 
-/// Two codewords at least distance, with as many doubtful places where they differ as there can be.
+/// Two codewords at least distance, with as few doubtful places as they need, all where they differ.
 /// With `lean` = T both are near.
 pub fn pair(rate: u64, lean: usize, gaps: Gaps, random: &mut Random) -> Planted {
+    pair_with(rate, NEAR_DOUBT, lean, gaps, random)
+}
+
+/// The same with so many doubtful places where they differ: with more than [`NEAR_DOUBT`] there are test
+/// words within T of each that have some of the other one's symbols.
+pub fn pair_with(rate: u64, doubt: usize, lean: usize, gaps: Gaps, random: &mut Random) -> Planted {
     let code = Code::of_rate(rate).expect("a known rate");
     let first = random_codeword(code, random);
     let mut second = first;
     second.add(&lightest(code, random));
-    between([first, second], rate, DOUBT_LIMIT, lean, gaps, random)
+    between([first, second], rate, doubt, lean, gaps, random)
 }
 
 /// Two codewords: `doubt` of the places where they differ are doubtful; of the others `lean` have the
@@ -496,13 +529,43 @@ mod tests {
         }
     }
 
+    /// With nine to twelve doubtful places where two codewords differ, or ten at rate 49, several test
+    /// words are near each; with others doubled both stay near.
+    #[test]
+    fn pairs_stay_near_with_more_doubtful_places() {
+        for rate in RATES {
+            let distance = PLACES - Code::of_rate(rate).unwrap().top;
+            for doubt in NEAR_DOUBT..=12 {
+                for number in 0..6 {
+                    let mut random = Random::new(46, number);
+                    let differing = doubt.min(distance);
+                    let planted = pair_with(rate, differing, reach(rate), Gaps::Mixed, &mut random);
+                    let planted = planted.doubted(doubt, &mut random);
+                    assert_eq!(near(&planted).len(), 2);
+                    assert!(margin(&planted).is_some());
+                    let Frame {
+                        doubtful, columns, ..
+                    } = &planted.frame;
+                    assert_eq!(doubtful_places(columns, doubt), *doubtful);
+                    let tests = answer(&planted).unwrap().tests;
+                    assert_eq!(tests > 2, differing > NEAR_DOUBT, "{tests}");
+                    let planted = pair(rate, reach(rate) + 1, Gaps::Mixed, &mut random);
+                    let planted = planted.doubted(doubt, &mut random);
+                    assert_eq!(planted.frame.doubtful.len(), doubt);
+                    assert_eq!(margin(&planted), None);
+                }
+            }
+        }
+    }
+
     #[test]
     fn the_third_of_a_trio_is_not_near_and_may_cost_least() {
         for rate in RATES {
             let (mut cheapest, mut next) = (0, 0);
             for number in 0..40 {
                 let mut random = Random::new(40, number);
-                let planted = trio(rate, DOUBT_LIMIT, Gaps::Mixed, &mut random);
+                let doubt = NEAR_DOUBT + number as usize % TRIO_DOUBT;
+                let planted = trio(rate, doubt, Gaps::Mixed, &mut random);
                 let totals = planted.totals();
                 assert_eq!(near(&planted).len(), 2);
                 assert_eq!(margin(&planted), Some(totals[0].abs_diff(totals[1])));
@@ -517,7 +580,6 @@ mod tests {
         }
     }
 
-    /// More doubtful places than a call takes.
     #[test]
     fn trios_with_twelve_doubtful_places_have_three_near_codewords() {
         for rate in RATES {

@@ -147,7 +147,7 @@ impl Session {
     }
 }
 
-/// "A doubtful list longer than 8, with a place above 63 or not strictly rising" is refused.
+/// A doubtful list longer than the limit, "with a place above 63 or not strictly rising" is refused.
 pub fn check_doubtful(doubtful: &[u8]) -> Result<(), Refusal> {
     let short = doubtful.len() <= DOUBT_LIMIT;
     let in_range = doubtful.iter().all(|place| usize::from(*place) < PLACES);
@@ -171,13 +171,14 @@ mod tests {
             &[64][..],
             &[3, 3],
             &[4, 3],
-            &[0, 1, 2, 3, 4, 5, 6, 7, 8],
+            &[0, 1, 2, 3, 4, 5, 6, 7, 8, 9, 10, 11, 12],
+            &[0, 1, 2, 3, 4, 5, 6, 7, 8, 9, 10, 64],
             &[0, 255],
         ] {
             assert_eq!(Session::open(39, list), Err(Refusal::Doubt));
         }
-        let opened = Session::open(49, &[0, 1, 2, 3, 4, 5, 6, 63]).unwrap();
-        assert_eq!((opened.rate(), opened.doubtful().len()), (49, 8));
+        let opened = Session::open(49, &[0, 1, 2, 3, 4, 5, 6, 7, 8, 9, 10, 63]).unwrap();
+        assert_eq!((opened.rate(), opened.doubtful().len()), (49, 12));
         assert_eq!(opened.columns(), [[0; 16]; 64]);
         assert!(opened.row().is_empty());
     }

@@ -36,6 +36,8 @@ pub enum Slip {
     Above,
     /// The threshold in a byte.
     OneByte,
+    /// No more than eight, the limit of before.
+    LimitOfEight,
 }
 
 /// What a slip leads to, where this is not the answer.
@@ -51,7 +53,7 @@ pub enum Told {
 
 /// The rules with what may come of them: one that takes places away never finds more codewords near,
 /// and one that adds places never fewer.
-pub const SLIPS: [(Slip, &[Told]); 12] = [
+pub const SLIPS: [(Slip, &[Told]); 13] = [
     (Slip::Inclusive, &ADDING),
     (Slip::OneLess, &TAKING),
     (Slip::NoneOnAClearLink, &TAKING),
@@ -64,7 +66,11 @@ pub const SLIPS: [(Slip, &[Told]); 12] = [
     (Slip::NoMaximum, &ADDING),
     (Slip::Above, &BOTH),
     (Slip::OneByte, &TAKING),
+    (Slip::LimitOfEight, &TAKING),
 ];
+
+/// The limit of doubt before it rose.
+const LIMIT_BEFORE: usize = 8;
 
 const TAKING: [Told; 2] = [Told::Found, Told::Otherwise];
 const ADDING: [Told; 2] = [Told::Lost, Told::Otherwise];
@@ -113,6 +119,7 @@ impl Slip {
             Slip::NoMaximum => first_and(&order, DOUBT_LIMIT, below),
             Slip::Above => first_and(&order, most, |place| gap_at(place) > threshold),
             Slip::OneByte => first_and(&order, most, |place| gap_at(place) < threshold & 255),
+            Slip::LimitOfEight => first_and(&order, most.min(LIMIT_BEFORE), below),
         };
         places.sort_unstable();
         places
@@ -176,6 +183,13 @@ mod tests {
         assert_eq!(places(Slip::NoMaximum, 7, 1), [9, 20, 30, 40, 50]);
         assert_eq!(places(Slip::Above, 5, 8), [20, 50, 55, 63]);
         assert_eq!(places(Slip::OneByte, 259, 8), [20]);
+        let many: Vec<(usize, u16)> = (0..16).map(|place| (place, place as u16)).collect();
+        let columns = self::columns(&many);
+        for (most, taken) in [(7, 7), (8, 8), (9, 8), (12, 8)] {
+            let places = Slip::LimitOfEight.places(&columns, 300, most);
+            assert_eq!(places.len(), taken);
+            assert_eq!(doubtful_below(&columns, 300, most).len(), most);
+        }
     }
 
     /// What a slip takes away or adds.

@@ -14,8 +14,8 @@ use crate::field::SYMBOLS;
 /// "65535 is the ceiling, reads 'at least' and is summed as 65535." (Saturation.)
 pub const CEILING: u16 = 65535;
 
-/// The largest doubt, and the length of the longest doubtful list.
-pub const DOUBT_LIMIT: usize = 8;
+/// "The limit rises from 8 to 12": the largest doubt, and the length of the longest doubtful list.
+pub const DOUBT_LIMIT: usize = 12;
 
 /// The bytes of a column: two for each cost, high first.
 pub const COLUMN_BYTES: usize = 2 * SYMBOLS;
@@ -88,7 +88,7 @@ pub fn blank_places(columns: &Columns) -> Vec<u8> {
     (0..PLACES as u8).filter(blank).collect()
 }
 
-/// "Table decoding with doubt d (0 to 8) takes the d places of smallest gap. Equal gaps go to the
+/// "Table decoding with doubt d takes the d places of smallest gap. Equal gaps go to the
 /// lower place." A blank place is "not chosen": they are the d of the others, or all of these where
 /// they are fewer. A pinned second counts as the largest gap. The list rises.
 pub fn doubtful_places(columns: &Columns, doubt: usize) -> Vec<u8> {
@@ -255,7 +255,7 @@ mod tests {
     fn the_place_of_smallest_gap_is_chosen_whatever_the_threshold() {
         let columns = with_gaps(&[(40, 7), (41, 7), (50, 8)]);
         for threshold in [0, 1, 6, 7] {
-            for most in 1..=8 {
+            for most in 1..=12 {
                 assert_eq!(doubtful_below(&columns, threshold, most), [40]);
             }
         }
@@ -295,7 +295,7 @@ mod tests {
         ] {
             assert_eq!(doubtful_below(&columns, 10, most), places);
         }
-        for most in 1..=8 {
+        for most in 1..=12 {
             let all = doubtful_places(&columns, most);
             assert_eq!(doubtful_below(&columns, 9_001, most), all);
         }

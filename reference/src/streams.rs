@@ -18,20 +18,24 @@ use crate::calls::Call;
 use crate::capture::open_capture;
 use crate::damage::{capture_of, damaged};
 use crate::decode::{margin_of, REPORT_BYTES};
+use crate::doubts::{Came, Doubts};
 use crate::fade_counts::FadeCounts;
 use crate::fades::Fade;
 use crate::frames::{Frame, Kind};
 use crate::margins::Margins;
 use crate::random::Random;
+use crate::refusal;
 use crate::session::Session;
 use crate::show::show;
+use crate::version_counts::VersionCounts;
+use crate::versions::spoilt;
 use crate::withdrawal_lists::withdrawal_list;
 use crate::withdrawals::{Since, Withdrawals};
 use crate::written::Written;
 
 /// How often each call was answered with each number; the withdrawals; what was made with blank
-/// places; and, from sessions without a withdrawal, the captures written after each sort of order,
-/// and the margins and blank places, a frame each.
+/// places; the captures of both versions; and, from sessions without a withdrawal, the captures written
+/// after each sort of order, and the margins, blank places and doubtful ones, a frame each.
 #[derive(Clone, Debug, Default, PartialEq, Eq)]
 pub struct Tally {
     /// By letter and number; a look-up's number is the part's length.
@@ -39,6 +43,8 @@ pub struct Tally {
     pub written: Written,
     pub withdrawals: Withdrawals,
     pub blanks: Blanks,
+    pub versions: VersionCounts,
+    pub doubts: Doubts,
     pub margins: Margins,
 }
 
@@ -53,6 +59,9 @@ impl Tally {
             Call::LookUp { .. } => u16::from_be_bytes([answer[0], answer[1]]),
             _ => u16::from(answer[0]),
         };
+        if let (Call::Open { doubtful, .. }, 4) = (call, number) {
+            self.doubts.count_refused(doubtful.len() as u64);
+        }
         let answer = (char::from(call.letter()), number);
         *self.answers.entry(answer).or_default() += 1;
     }
@@ -65,6 +74,15 @@ impl Tally {
         if number == 0 {
             self.margins.count(margin);
         }
+        let came = match number {
+            0 => Some(Came::of_report(report)),
+            9 => Some(Came::NoneNear),
+            _ => None,
+        };
+        if let Some(came) = came {
+            let doubt = session.doubtful().len();
+            self.doubts.count(session.rate(), doubt, came);
+        }
         let faded = faded(kind, session);
         self.blanks.count(&faded, number, margin);
     }
@@ -76,6 +94,8 @@ impl Tally {
         self.written.add(other.written);
         self.withdrawals.add(other.withdrawals);
         self.blanks.add(other.blanks);
+        self.versions.add(other.versions);
+        self.doubts.add(other.doubts);
         self.margins.add(other.margins);
     }
 }
@@ -95,10 +115,15 @@ impl fmt::Display for Tally {
             written,
             withdrawals,
             blanks,
+            versions,
+            doubts,
             margins,
             ..
         } = self;
-        write!(out, "; {written}; {withdrawals}; {blanks}; {margins}")
+        write!(
+            out,
+            "; {written}; {withdrawals}; {blanks}; {versions}; {doubts}; {margins}"
+        )
     }
 }
 
@@ -201,6 +226,7 @@ pub fn check_answers(frames: &[(u64, Vec<Call>)], answers: &[u8]) -> Result<Tall
             rest = after(rest, &expected, call, *number, at)?;
             tally.count(call, &expected);
             tally.blanks.count_call(call, &expected, &session);
+            tally.versions.count_call(call, &expected);
             for event in since.events(call, expected[0], &before) {
                 withdrawals.count(event);
             }
@@ -284,12 +310,15 @@ fn difference(expected: &[u8], got: &[u8]) -> String {
     format!("byte {same} of {length}: expected {expected}, got {got}")
 }
 
-/// The number of captures compared, and the margins shown for them and the blank places in them.
-#[derive(Clone, Copy, Debug, Default, PartialEq, Eq)]
+/// The number of captures compared, their sorts, and the margins shown for them and the blank and the
+/// doubtful places in them.
+#[derive(Clone, Debug, Default, PartialEq, Eq)]
 pub struct Shown {
     pub captures: u64,
+    pub versions: VersionCounts,
     pub margins: Margins,
     pub blanks: Blanks,
+    pub doubts: Doubts,
 }
 
 impl Shown {
@@ -300,22 +329,40 @@ impl Shown {
         if let Some(margin) = margin {
             self.margins.count(margin);
         }
-        if let Ok(session) = open_capture(capture) {
+        let opened = open_capture(capture);
+        self.versions
+            .count_opening(capture, refusal::number(&opened));
+        if let Ok(session) = opened {
             let margin = margin.flatten();
-            self.blanks
-                .count(&faded(kind, &session), number_shown(lines), margin);
+            let number = number_shown(lines);
+            self.blanks.count(&faded(kind, &session), number, margin);
+            let came = match number {
+                0 => Some(Came::Answered {
+                    tests: tests_shown(lines),
+                    margin: margin.is_some(),
+                }),
+                9 => Some(Came::NoneNear),
+                _ => None,
+            };
+            if let Some(came) = came {
+                let doubt = session.doubtful().len();
+                self.doubts.count(session.rate(), doubt, came);
+            }
         }
     }
 
     fn add(&mut self, other: Shown) {
         self.captures += other.captures;
+        self.versions.add(other.versions);
         self.margins.add(other.margins);
         self.blanks.add(other.blanks);
+        self.doubts.add(other.doubts);
     }
 }
 
-/// Runs a program on `count` captures of numbered frames, every second one damaged. What was
-/// compared, or a line that names the first difference.
+/// Runs a program on `count` captures of numbered frames, every second one damaged, every second one of
+/// these with the faults of both versions by turns. What was compared, or a line that names the first
+/// difference.
 pub fn compare_shows(program: &[String], seed: u64, count: u64) -> Result<Shown, String> {
     let shares = in_shares(count, |numbers| {
         let mut shown = Shown::default();
@@ -346,6 +393,12 @@ fn number_shown(lines: &str) -> u8 {
     number.map_or(0, |number| number.trim_end().parse().expect("a number"))
 }
 
+/// The test words near in the first of two lines.
+fn tests_shown(lines: &str) -> u16 {
+    let tests = lines.split(' ').nth(3);
+    tests.expect("seven numbers").parse().expect("a number")
+}
+
 /// The margin, or `-`, at the end of the first of two lines.
 fn margin_shown(lines: &str) -> Option<Option<u32>> {
     let (heading, message) = lines.split_once('\n')?;
@@ -353,15 +406,16 @@ fn margin_shown(lines: &str) -> Option<Option<u32>> {
     (!message.is_empty()).then(|| margin.parse().ok())
 }
 
-/// The capture of a numbered frame in random order; damaged where the number is odd.
+/// The capture of a numbered frame in random order; damaged where the number is odd, by turns anyhow and
+/// with the faults of both versions.
 pub fn numbered_capture(seed: u64, number: u64) -> Vec<u8> {
     let mut random = Random::new(seed, number);
     let frame = Frame::numbered(seed, number / 2);
-    let capture = capture_of(&frame, &random.shuffled(0..64));
-    if number.is_multiple_of(2) {
-        capture
-    } else {
-        damaged(&capture, &mut random)
+    let places = random.shuffled(0..64);
+    match number % 4 {
+        1 => damaged(&capture_of(&frame, &places), &mut random),
+        3 => spoilt(&frame, &places, number / 4, &mut random),
+        _ => capture_of(&frame, &places),
     }
 }
 

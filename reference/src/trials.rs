@@ -7,7 +7,7 @@
 //!   [`bits_trial`]: one numbered call, right or damaged, on a library; the [`Outcome`] is its number and
 //!   every byte of its buffers.
 //! - [`compare`]: many trials on two libraries; the [`Tally`] of numbers, margins, blank places,
-//!   doubtful ones and sorts of fades, of thresholds and of bit values, or a [`Difference`].
+//!   doubtful ones, doubts and sorts of fades, of thresholds and of bit values, or a [`Difference`].
 
 use std::sync::atomic::{AtomicBool, Ordering};
 use std::thread;
@@ -15,18 +15,20 @@ use std::thread;
 use crate::below_counts::BelowCounts;
 use crate::below_frames::BelowCall;
 use crate::bit_counts::BitCounts;
-use crate::bit_frames::BitCall;
+use crate::bit_frames::{BitCall, DOUBTS};
 use crate::bits::decode_bits;
 use crate::blanks::{Blanks, Faded};
 use crate::choices::{Choice, Choices};
 use crate::code::{encode, read_back, Code};
 use crate::decode::{decode_table, decode_table_below, margin_of, table_of_columns, REPORT_BYTES};
+use crate::doubts::{Came, Doubts};
 use crate::fade_counts::FadeCounts;
 use crate::fades::Fade;
 use crate::frames::{random_codeword, Frame, Kind, RATES};
 use crate::margins::Margins;
 use crate::random::Random;
 use crate::refusal::number;
+use crate::soft::DOUBT_LIMIT;
 
 /// Encoding and reading back, as the firmware calls them: "these return the refusal, or 0."
 pub struct Coding {
@@ -80,6 +82,8 @@ pub struct Outcome {
     pub faded: Option<Faded>,
     /// What its pinned seconds make of the doubtful places, where the table was decoded.
     pub choice: Option<Choice>,
+    /// The rate and the doubt, where the call has no other rule and the table is a frame's.
+    pub asked: Option<(u64, u64)>,
     /// The fade, where the table is one.
     pub fade: Option<Fade>,
     /// The call, where it decodes a table with a threshold.
@@ -109,6 +113,7 @@ pub struct Tally {
     pub margins: Margins,
     pub blanks: Blanks,
     pub choices: Choices,
+    pub doubts: Doubts,
     pub fades: FadeCounts,
     pub below: BelowCounts,
     pub bits: BitCounts,
@@ -127,6 +132,17 @@ impl Tally {
         }
         if let Some(choice) = &outcome.choice {
             self.choices.count(choice);
+        }
+        if let Some((rate, doubt)) = outcome.asked {
+            match (outcome.number, report) {
+                (0, Some(report)) => {
+                    let came = Came::of_report(report);
+                    self.doubts.count(rate, doubt as usize, came);
+                }
+                (9, _) => self.doubts.count(rate, doubt as usize, Came::NoneNear),
+                (4, _) => self.doubts.count_refused(doubt),
+                _ => (),
+            }
         }
         if let Some(fade) = &outcome.fade {
             self.fades.count(fade, outcome.number);
@@ -147,6 +163,7 @@ impl Tally {
         self.margins.add(other.margins);
         self.blanks.add(other.blanks);
         self.choices.add(other.choices);
+        self.doubts.add(other.doubts);
         self.fades.add(other.fades);
         self.below.add(other.below);
         self.bits.add(other.bits);
@@ -211,8 +228,8 @@ pub fn table_trial(decode_table: &DecodeTable, seed: u64, number: u64) -> Outcom
     let mut table = table_of_columns(&frame.columns);
     table.resize(perhaps_other(table.len(), &mut random), 0);
     let doubt = match random.below(20) {
-        0 => random.one_of(&[9, 10, 255, 256, 256 + 3, u64::MAX]),
-        1 => random.below(9) as u64,
+        0 => random.one_of(&DOUBTS),
+        1 => random.below(DOUBT_LIMIT + 1) as u64,
         _ => frame.doubtful.len() as u64,
     };
     let rate = perhaps_unknown(frame.rate, &mut random);
@@ -226,6 +243,7 @@ pub fn table_trial(decode_table: &DecodeTable, seed: u64, number: u64) -> Outcom
         report: Some(report),
         faded: Some(faded),
         choice: decoded.then(|| Choice::of(rate, &frame.columns, doubt as usize)),
+        asked: Some((rate, doubt)),
         ..Outcome::default()
     }
 }
@@ -430,7 +448,7 @@ mod tests {
         };
         let miscounting: DecodeTable = |rate, table, doubt, message, report| {
             let number = REFERENCE_TABLE(rate, table, doubt, message, report);
-            if number == 0 && doubt == 8 {
+            if number == 0 && doubt == 12 {
                 report[5] = report[5].wrapping_add(1);
             }
             number
@@ -449,6 +467,63 @@ mod tests {
         let both = [&REFERENCE, &REFERENCE];
         let tally = compare(encode_trial, both, 62, 40).unwrap();
         assert_eq!(tally.margins, Margins::default());
+    }
+
+    #[test]
+    fn trials_have_every_number_of_doubtful_places() {
+        let both = [&REFERENCE_TABLE, &REFERENCE_TABLE];
+        let tally = compare(table_trial, both, 73, 2400).unwrap();
+        assert_eq!(tally.doubts.check(2400, true), Ok(()));
+        let both = [&REFERENCE, &REFERENCE];
+        let tally = compare(encode_trial, both, 73, 40).unwrap();
+        assert_eq!(tally.doubts, Doubts::default());
+    }
+
+    /// Table decoding with one fault each in what it makes of nine to twelve doubtful places.
+    #[test]
+    fn wrong_limits_of_doubt_are_found() {
+        let faults: [(&str, DecodeTable); 6] = [
+            ("limit of 8", |rate, table, doubt, message, report| {
+                let doubt = if doubt > 8 { u64::MAX } else { doubt };
+                REFERENCE_TABLE(rate, table, doubt, message, report)
+            }),
+            ("eight of more", |rate, table, doubt, message, report| {
+                let doubt = if (9..=12).contains(&doubt) { 8 } else { doubt };
+                REFERENCE_TABLE(rate, table, doubt, message, report)
+            }),
+            ("limit of 11", |rate, table, doubt, message, report| {
+                let doubt = if doubt > 11 { u64::MAX } else { doubt };
+                REFERENCE_TABLE(rate, table, doubt, message, report)
+            }),
+            ("limit of 13", |rate, table, doubt, message, report| {
+                let doubt = if doubt == 13 { 12 } else { doubt };
+                REFERENCE_TABLE(rate, table, doubt, message, report)
+            }),
+            (
+                "tests in one byte",
+                |rate, table, doubt, message, report| {
+                    let number = REFERENCE_TABLE(rate, table, doubt, message, report);
+                    if number == 0 {
+                        report[4] = 0;
+                    }
+                    number
+                },
+            ),
+            (
+                "tests low byte first",
+                |rate, table, doubt, message, report| {
+                    let number = REFERENCE_TABLE(rate, table, doubt, message, report);
+                    if number == 0 && report[4] != 0 {
+                        report.swap(4, 5);
+                    }
+                    number
+                },
+            ),
+        ];
+        for (name, library) in faults {
+            let compared = compare(table_trial, [&REFERENCE_TABLE, &library], 74, 1200);
+            assert!(compared.is_err(), "{name}");
+        }
     }
 
     #[test]
@@ -890,7 +965,7 @@ mod tests {
             (
                 "the doubt before the size",
                 |rate, values, doubt, message, report| match (rate, doubt) {
-                    (39 | 49, 9..) => 4,
+                    (39 | 49, 13..) => 4,
                     _ => REFERENCE_BITS(rate, values, doubt, message, report),
                 },
             ),
@@ -914,8 +989,8 @@ mod tests {
                     number
                 },
             ),
-            ("doubt 9", |rate, values, doubt, message, report| {
-                let doubt = if doubt == 9 { 8 } else { doubt };
+            ("doubt 13", |rate, values, doubt, message, report| {
+                let doubt = if doubt == 13 { 12 } else { doubt };
                 REFERENCE_BITS(rate, values, doubt, message, report)
             }),
             (
@@ -949,9 +1024,9 @@ mod tests {
                 },
             ),
             (
-                "a maximum of 9",
+                "a maximum of 13",
                 |rate, table, threshold, most, message, report| {
-                    let most = if most == 9 { 8 } else { most };
+                    let most = if most == 13 { 12 } else { most };
                     REFERENCE_BELOW(rate, table, threshold, most, message, report)
                 },
             ),
@@ -971,7 +1046,7 @@ mod tests {
             (
                 "the maximum before the size",
                 |rate, table, threshold, most, message, report| match (rate, most) {
-                    (39 | 49, 0 | 9..) => 4,
+                    (39 | 49, 0 | 13..) => 4,
                     _ => REFERENCE_BELOW(rate, table, threshold, most, message, report),
                 },
             ),

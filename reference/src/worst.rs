@@ -1,6 +1,6 @@
 //! Frames drawn in search of those that cost most, and the ones that did.
 //!
-//! - [`Drawn`], [`Drawn::made`]: a frame with eight doubtful places, made from a rate and a list of
+//! - [`Drawn`], [`Drawn::made`]: a frame with [`DRAWN_DOUBT`] doubtful places, made from a rate and a list of
 //!   numbers: the first draws it, each one after it changes it a little.
 //! - [`Drawn::named`]: from its rate and numbers as text, as it is printed.
 //! - [`worst`]: those that cost most of all that a search found, from `worst.txt`.
@@ -20,7 +20,10 @@ use crate::frames::{
 use crate::light::lightest;
 use crate::random::Random;
 use crate::row::Row;
-use crate::soft::{Columns, DOUBT_LIMIT};
+use crate::soft::Columns;
+
+/// The doubt of the frames that are drawn.
+pub const DRAWN_DOUBT: usize = 8;
 
 const SEED: u64 = 27;
 
@@ -99,7 +102,7 @@ impl Place {
     }
 }
 
-/// A frame for the largest doubt, and the numbers that it is made from.
+/// A frame for eight doubtful places, and the numbers that it is made from.
 #[derive(Clone, Debug, PartialEq, Eq)]
 pub struct Drawn {
     pub rate: u64,
@@ -205,10 +208,10 @@ fn drawn(rate: u64, random: &mut Random) -> [Place; PLACES] {
     let wrong = random.below(WRONG);
     let mut doubtful: Vec<usize> = match random.below(3) {
         0 => order[random.below(WRONG)..].to_vec(),
-        1 => random.shuffled(order[..wrong + DOUBT_LIMIT].to_vec()),
+        1 => random.shuffled(order[..wrong + DRAWN_DOUBT].to_vec()),
         _ => random.shuffled(0..PLACES),
     };
-    doubtful.truncate(DOUBT_LIMIT);
+    doubtful.truncate(DRAWN_DOUBT);
     let mut places = [(); PLACES].map(|_| Place::right(random));
     let more = |at: usize, random: &mut Random| match toward.get(at) {
         0 => random.other_symbol(0),
@@ -345,8 +348,9 @@ mod tests {
                 let places = places.filter(move |(_, place)| place.sort == sort);
                 places.map(|(at, _)| at).collect::<Vec<u8>>()
             };
-            let doubtful = doubtful_places(&columns, DOUBT_LIMIT);
-            assert_eq!((doubtful.len(), &doubtful), (8, &of_sort(Sort::Doubtful)));
+            let doubtful = doubtful_places(&columns, DRAWN_DOUBT);
+            assert_eq!(doubtful.len(), DRAWN_DOUBT);
+            assert_eq!(doubtful, of_sort(Sort::Doubtful));
             let blank = blank_places(&columns);
             assert_eq!(blank, of_sort(Sort::Blank));
             assert!(blank.len() <= blank_limit(frame.rate));

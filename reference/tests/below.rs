@@ -33,7 +33,7 @@ fn by_threshold(call: &BelowCall) -> Decoded {
 /// Calls whose table has 2,048 bytes and whose maximum is allowed, with their columns.
 fn calls(seed: u64, count: u64) -> impl Iterator<Item = (BelowCall, Columns)> {
     let calls = (0..count).map(move |number| BelowCall::numbered(seed, number));
-    let right = |call: &BelowCall| call.table.len() == TABLE_BYTES && (1..=8).contains(&call.most);
+    let right = |call: &BelowCall| call.table.len() == TABLE_BYTES && (1..=12).contains(&call.most);
     calls.filter(right).map(|call| {
         let columns = columns_of_table(&call.table);
         (call, columns)

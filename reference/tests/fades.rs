@@ -48,7 +48,7 @@ fn faults_are_found_on_fades() {
             "a test word too many",
             |rate, table, doubt, message, report| {
                 let number = REFERENCE_TABLE(rate, table, doubt, message, report);
-                if number == 0 && doubt == 8 {
+                if number == 0 && doubt == 12 {
                     report[5] = report[5].wrapping_add(1);
                 }
                 number
@@ -63,7 +63,7 @@ fn faults_are_found_on_fades() {
         (
             "no doubt on a fade",
             |rate, table, doubt, message, report| {
-                let doubt = if doubt == 8 { 0 } else { doubt };
+                let doubt = if doubt == 12 { 0 } else { doubt };
                 REFERENCE_TABLE(rate, table, doubt, message, report)
             },
         ),

@@ -11,14 +11,14 @@ use reference::decode::{decode, decode_table, table_of_columns, test_words, REPO
 use reference::frames::{frame, Frame, Kind, RATES};
 use reference::margins::Margins;
 use reference::nearest::Finder;
-use reference::pairs::{between, Gaps};
+use reference::pairs::{between, Gaps, NEAR_DOUBT};
 use reference::random::Random;
 use reference::refusal::Refusal;
 use reference::row::Row;
 use reference::session::Session;
 use reference::show::show;
 use reference::soft::{
-    best, blank_places, column_bytes, doubtful_places, is_blank, second, total, Column, DOUBT_LIMIT,
+    best, blank_places, column_bytes, doubtful_places, is_blank, second, total, Column,
 };
 
 /// A frame delivered in the order of the places given.
@@ -239,27 +239,48 @@ fn look_up_hands_back_a_part_of_the_capture_itself() {
 
 type Damage = fn(&mut Vec<u8>);
 
-/// Where the place of a record stands, with two doubtful places.
-fn place_at(record: usize) -> usize {
-    7 + 33 * record
+/// Where the place of a record stands.
+fn place_at(bytes: &[u8], record: usize) -> usize {
+    5 + usize::from(bytes[4]) + 33 * record
 }
 
-/// One fault for each check, in document 01's order; the records' faults in the order of records.
-const FAULTS: [(Refusal, Damage); 8] = [
+/// Another place for a record of the capture.
+fn record(bytes: &mut [u8], number: usize, place: u8) {
+    let at = place_at(bytes, number);
+    bytes[at] = place;
+}
+
+/// One fault for each check, in document 01's order; the records' faults in the order of records. Version
+/// 1 becomes 2, and 2 becomes 1, where the count does not suit it.
+const FAULTS: [(Refusal, Damage); 9] = [
     (Refusal::Length, |bytes| bytes.truncate(2116)),
-    (Refusal::Version, |bytes| bytes[0] = 2),
+    (Refusal::Version, |bytes| bytes[0] = 3),
     (Refusal::Length, |bytes| bytes[2] += 1),
     (Refusal::Rate, |bytes| bytes[3] = 40),
+    (Refusal::Doubt, |bytes| bytes[0] ^= 3),
     (Refusal::Doubt, |bytes| bytes[6] = bytes[5]),
-    (Refusal::Place, |bytes| bytes[place_at(5)] = 64),
-    (Refusal::Taken, |bytes| bytes[place_at(9)] = 0),
-    (Refusal::Place, |bytes| bytes[place_at(12)] = 255),
+    (Refusal::Place, |bytes| record(bytes, 5, 64)),
+    (Refusal::Taken, |bytes| record(bytes, 9, 0)),
+    (Refusal::Place, |bytes| record(bytes, 12, 255)),
 ];
 
 #[test]
 fn captures_are_checked_in_document_01s_order() {
-    let frame = frame(Kind::Valid, 39, 2, &mut Random::new(87, 0));
+    for (doubt, version) in [(2, 1), (8, 1), (9, 2), (12, 2)] {
+        captures_with_doubt_are_checked(doubt, version);
+    }
+    for size in [0, 1, 2116, 2130, 2131] {
+        for version in [1, 2] {
+            assert_eq!(open_capture(&vec![version; size]), Err(Refusal::Length));
+        }
+    }
+}
+
+fn captures_with_doubt_are_checked(doubt: usize, version: u8) {
+    let frame = frame(Kind::Valid, 39, doubt, &mut Random::new(87, 0));
     let capture = capture_of(&frame, &(0..64).collect::<Vec<u8>>());
+    assert_eq!((capture.len(), capture[0]), (2117 + doubt, version));
+    assert!(open_capture(&capture).is_ok());
     let refused = |damages: &[Damage]| {
         let mut bytes = capture.clone();
         for damage in damages {
@@ -275,9 +296,6 @@ fn captures_are_checked_in_document_01s_order() {
     }
     assert_eq!(refused(&[|bytes| bytes.push(0)]), Err(Refusal::Length));
     assert_eq!(refused(&[|bytes| bytes[4] = 3]), Err(Refusal::Length));
-    for size in [0, 1, 2116, 2126] {
-        assert_eq!(open_capture(&vec![1; size]), Err(Refusal::Length));
-    }
 }
 
 /// At rate 49 every codeword near some test word is found by trying all changes of one place.
@@ -353,7 +371,7 @@ fn margins_of_small_codes_agree_with_trying_every_message() {
             let first = all[random.below(all.len())].1;
             let mut other = first;
             other.add(&random.one_of(&light));
-            let doubt = DOUBT_LIMIT + number as usize % 3;
+            let doubt = NEAR_DOUBT + number as usize % 3;
             let lean = (PLACES - top - doubt) / 2 + random.below(3);
             let gaps = random.one_of(&[Gaps::Mixed, Gaps::Wide]);
             let rate = code.symbols as u64;

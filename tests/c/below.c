@@ -119,7 +119,7 @@ static void send(size_t rate, unsigned gaps, unsigned leaning, unsigned blanks, 
     for (size_t i = 0; i < HERMITIAN_PLACES; i++) {
         size_t place = order[i];
         unsigned symbol = word[place], other = symbol ^ (1 + random_below(15));
-        unsigned low = random_below(500), gap = i < 12 ? 1 + random_below(gaps) : gaps + random_below(60);
+        unsigned low = random_below(500), gap = i < 16 ? 1 + random_below(gaps) : gaps + random_below(60);
         if (i < leaning)
             put_column(place, other, symbol, low, gap);
         else
@@ -214,6 +214,8 @@ static void seven_wrong(void)
     answers(39, 40, 8, 127, "the next gap is the threshold");
     answers(39, 41, 8, 247, "place 1 is the eighth");
     answers(39, CEILING, 8, 247, "the largest threshold");
+    answers(39, 41, HERMITIAN_MOST_DOUBT, 2510, "places 1 to 5 are the eighth to the twelfth: at most six of twelve are wrong in 2,510 test words");
+    answers(39, CEILING, HERMITIAN_MOST_DOUBT, 2510, "the largest of both");
     frame_s(2);
     answers(49, 0, 8, 1, "at the other rate, with T = 1");
     answers(49, 31, 8, 3, "both");
@@ -223,10 +225,10 @@ static void seven_wrong(void)
     answers(49, 31, 2, 1, "two are chosen");
 }
 
-/* All places are right: the test words near are those with at most T second symbols. */
+/* All places are right: the test words near are those with at most T second symbols. Above eight places the count takes two bytes. */
 static void clear_link(void)
 {
-    static const unsigned near[] = {1, 2, 4, 8, 16, 32, 64, 127, 247};
+    static const unsigned near[] = {1, 2, 4, 8, 16, 32, 64, 127, 247, 466, 848, 1486, 2510};
     frame_s(0);
     for (size_t most = 1; most <= HERMITIAN_MOST_DOUBT; most++) {
         answers(39, 0, most, 2, "a clear link: one doubtful place");
@@ -243,7 +245,7 @@ static void pinned_seconds(void)
     for (size_t place = 0; place < HERMITIAN_PLACES; place++)
         put_pinned(place, 0, 65534);
     for (unsigned threshold = 0; threshold <= CEILING; threshold += 13107)
-        answers(49, threshold, 8, 2, "pinned seconds alone: the first and no other");
+        answers(49, threshold, HERMITIAN_MOST_DOUBT, 2, "pinned seconds alone: the first and no other");
     put_pinned(0, 1, 65534);
     put_pinned(1, 1, 65534);
     answers(49, CEILING, 8, 1, "and the first is place 0, whose second is right");
@@ -255,7 +257,7 @@ static void pinned_seconds(void)
     put_column(62, 0, 7, 0, 65534);
     put_column(63, 0, 7, 12, 5);
     answers(49, 65534, 8, 2, "and not below 65534: place 63 alone");
-    answers(49, CEILING, 8, 4, "three, and no pinned one");
+    answers(49, CEILING, HERMITIAN_MOST_DOUBT, 4, "three, and no pinned one");
     answers(49, CEILING, 2, 3, "two of them");
 }
 
@@ -270,12 +272,13 @@ static unsigned choices(unsigned places, unsigned most)
     return sum;
 }
 
+/* The blank places lie above one x each: of blank and doubtful places above five x, twenty of them, another codeword may be near. */
 static void blank_places(size_t rate, size_t limit)
 {
     for (size_t blanks = 1; blanks <= limit + 1; blanks++) {
         frame_s(0);
-        for (size_t place = 0; place < blanks; place++)
-            put_blank(place, (unsigned)(17 * place));
+        for (size_t i = 0; i < blanks; i++)
+            put_blank(4 * i + 1, (unsigned)(17 * i));
         for (size_t most = 1; most <= HERMITIAN_MOST_DOUBT; most++)
             for (unsigned threshold = 0; threshold <= 41; threshold += 41)
                 if (blanks > limit)
@@ -287,12 +290,12 @@ static void blank_places(size_t rate, size_t limit)
     for (size_t place = 1; place <= limit; place++)
         put_blank(place, 0);
     answers(rate, 0, 1, 1, "T = 0, and the wrong place is chosen, not a blank one");
-    for (size_t open = 0; open <= 9; open++) {
+    for (size_t open = 0; open <= HERMITIAN_MOST_DOUBT + 1; open++) {
         frame_s(0);
         for (size_t place = open; place < HERMITIAN_PLACES; place++)
             put_blank(place, 7);
         refuses(rate, 0, 1, HERMITIAN_TOO_BLANK, "all blank but a few");
-        refuses(rate, CEILING, 8, HERMITIAN_TOO_BLANK, "all blank but a few, the largest of both");
+        refuses(rate, CEILING, HERMITIAN_MOST_DOUBT, HERMITIAN_TOO_BLANK, "all blank but a few, the largest of both");
     }
 }
 
@@ -300,7 +303,7 @@ static void blank_places(size_t rate, size_t limit)
 static void frames(size_t rate, unsigned reach, unsigned limit)
 {
     for (unsigned i = 0; i < 24; i++) {
-        send(rate, 1 + random_below(9), random_below(reach + 9), i % 3 == 0 ? random_below(limit + 2) : 0, i % 4 == 0 ? 24 : 0);
+        send(rate, 1 + random_below(9), random_below(reach + HERMITIAN_MOST_DOUBT + 1), i % 3 == 0 ? random_below(limit + 2) : 0, i % 4 == 0 ? 24 : 0);
         for (size_t most = 1; most <= HERMITIAN_MOST_DOUBT; most++) {
             for (unsigned threshold = 0; threshold <= 12; threshold++)
                 decode(rate, threshold, most);

@@ -6,7 +6,7 @@
 
 #include "hermitian.h"
 
-enum { GUARD = 32, ROOM = 64, LONGEST = HERMITIAN_TABLE_BYTES };
+enum { GUARD = 32, ROOM = 64, LONGEST = HERMITIAN_TABLE_BYTES, TOO_MANY = HERMITIAN_MOST_DOUBT + 1 };
 
 static unsigned checks, failures;
 
@@ -160,7 +160,7 @@ static void one_value(size_t rate, size_t bit, int v)
     send_constant(v > 0 ? -magnitude : magnitude);
     values[4 * (size_t)random_below(HERMITIAN_PLACES) + bit] = (int8_t)v;
     expect(decode(rate, 0) == HERMITIAN_ACCEPTED && message_came_back(rate) && total() == (unsigned)(v < 0 ? -v : v), "each value in each position");
-    decode(rate, (size_t)random_below(9));
+    decode(rate, (size_t)random_below(TOO_MANY));
 }
 
 static void frames(size_t rate)
@@ -174,7 +174,7 @@ static void frames(size_t rate)
     for (int i = 0; i < 200; i++) {
         send(rate, 40);
         noise(50);
-        decode(rate, (size_t)random_below(9));
+        decode(rate, (size_t)random_below(TOO_MANY));
         send(rate, 60);
         noise(59);
         expect(decode(rate, 0) == HERMITIAN_ACCEPTED && message_came_back(rate), "noise that turns no bit");
@@ -183,9 +183,9 @@ static void frames(size_t rate)
         send(rate, 77);
         memset(values + 4 * 20, 0, 4 * blanks);
         if (blanks <= most_blank)
-            expect(decode(rate, 8) == HERMITIAN_ACCEPTED && message_came_back(rate) && total() == 0, "places with four zeros are blank");
+            expect(decode(rate, HERMITIAN_MOST_DOUBT) == HERMITIAN_ACCEPTED && message_came_back(rate) && total() == 0, "places with four zeros are blank");
         else
-            expect(decode(rate, 8) == HERMITIAN_TOO_BLANK, "more blank places than leave a T");
+            expect(decode(rate, HERMITIAN_MOST_DOUBT) == HERMITIAN_TOO_BLANK, "more blank places than leave a T");
     }
     send(rate, 77);
     for (size_t place = 0; place < HERMITIAN_PLACES; place++)
@@ -193,6 +193,17 @@ static void frames(size_t rate)
     expect(decode(rate, 0) != HERMITIAN_TOO_BLANK, "three zeros of four make no blank place");
     memset(values, 0, sizeof values);
     expect(decode(rate, 0) == HERMITIAN_TOO_BLANK, "a frame of zeros");
+}
+
+/* Every doubt up to the limit, with all places right: the test words near are those with at most T second symbols. */
+static void every_doubt(size_t rate)
+{
+    static const unsigned near[HERMITIAN_MOST_DOUBT + 1] = {1, 2, 4, 8, 16, 32, 64, 127, 247, 466, 848, 1486, 2510};
+    for (size_t doubt = 0; doubt <= HERMITIAN_MOST_DOUBT; doubt++) {
+        send(rate, 31);
+        expect(decode(rate, doubt) == HERMITIAN_ACCEPTED && message_came_back(rate) && total() == 0, "each doubt");
+        expect(((unsigned)report.bytes[4] << 8 | report.bytes[5]) == (rate == 39 ? near[doubt] : 1 + doubt), "the test words near");
+    }
 }
 
 /* -128 favours a bit 1 with 128, 127 a bit 0 with 127. */
@@ -216,16 +227,16 @@ static void refusals(void)
     memset(values, 0, sizeof values);
     for (size_t i = 0; i < sizeof unknown / sizeof unknown[0]; i++) {
         refused(unknown[i], HERMITIAN_BIT_VALUES, 0, 39, HERMITIAN_REPORT_BYTES, HERMITIAN_UNKNOWN_RATE, "unknown rate");
-        refused(unknown[i], 5, 9, 3, 7, HERMITIAN_UNKNOWN_RATE, "the rate is checked first");
+        refused(unknown[i], 5, TOO_MANY, 3, 7, HERMITIAN_UNKNOWN_RATE, "the rate is checked first");
     }
     for (size_t rate = 39; rate <= 49; rate += 10) {
         for (size_t i = 0; i < sizeof lengths / sizeof lengths[0]; i++)
-            refused(rate, lengths[i], 9, rate, HERMITIAN_REPORT_BYTES, HERMITIAN_WRONG_SIZE, "a frame that has not 256 values");
-        refused(rate, HERMITIAN_BIT_VALUES, 9, rate - 1, HERMITIAN_REPORT_BYTES, HERMITIAN_WRONG_SIZE, "a short message buffer");
-        refused(rate, HERMITIAN_BIT_VALUES, 9, rate + 1, HERMITIAN_REPORT_BYTES, HERMITIAN_WRONG_SIZE, "a long message buffer");
-        refused(rate, HERMITIAN_BIT_VALUES, 9, rate, HERMITIAN_REPORT_BYTES - 1, HERMITIAN_WRONG_SIZE, "a short report");
-        refused(rate, HERMITIAN_BIT_VALUES, 9, rate, HERMITIAN_REPORT_BYTES + 1, HERMITIAN_WRONG_SIZE, "a long report");
-        refused(rate, HERMITIAN_BIT_VALUES, 9, rate, HERMITIAN_REPORT_BYTES, HERMITIAN_WRONG_DOUBT, "doubt 9");
+            refused(rate, lengths[i], TOO_MANY, rate, HERMITIAN_REPORT_BYTES, HERMITIAN_WRONG_SIZE, "a frame that has not 256 values");
+        refused(rate, HERMITIAN_BIT_VALUES, TOO_MANY, rate - 1, HERMITIAN_REPORT_BYTES, HERMITIAN_WRONG_SIZE, "a short message buffer");
+        refused(rate, HERMITIAN_BIT_VALUES, TOO_MANY, rate + 1, HERMITIAN_REPORT_BYTES, HERMITIAN_WRONG_SIZE, "a long message buffer");
+        refused(rate, HERMITIAN_BIT_VALUES, TOO_MANY, rate, HERMITIAN_REPORT_BYTES - 1, HERMITIAN_WRONG_SIZE, "a short report");
+        refused(rate, HERMITIAN_BIT_VALUES, TOO_MANY, rate, HERMITIAN_REPORT_BYTES + 1, HERMITIAN_WRONG_SIZE, "a long report");
+        refused(rate, HERMITIAN_BIT_VALUES, TOO_MANY, rate, HERMITIAN_REPORT_BYTES, HERMITIAN_WRONG_DOUBT, "doubt 13");
         refused(rate, HERMITIAN_BIT_VALUES, SIZE_MAX, rate, HERMITIAN_REPORT_BYTES, HERMITIAN_WRONG_DOUBT, "the largest doubt");
         refused(rate, HERMITIAN_BIT_VALUES, 0, rate, HERMITIAN_REPORT_BYTES, HERMITIAN_TOO_BLANK, "every place blank");
         send(rate, 50);
@@ -241,6 +252,7 @@ int main(void)
 {
     for (size_t rate = 39; rate <= 49; rate += 10) {
         frames(rate);
+        every_doubt(rate);
         extremes(rate);
     }
     refusals();

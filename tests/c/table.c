@@ -1,11 +1,11 @@
 /* Table decoding as the firmware calls it: bench sheet R1, R2 and R4 to R6, margins, blank places,
- * every refusal in its order, and guard bytes around each buffer. */
+ * every doubt up to the limit, every refusal in its order, and guard bytes around each buffer. */
 #include <stdio.h>
 #include <string.h>
 
 #include "hermitian.h"
 
-enum { GUARD = 32, ROOM = 64 };
+enum { GUARD = 32, ROOM = 64, TOO_MANY = HERMITIAN_MOST_DOUBT + 1 };
 
 static unsigned checks, failures;
 
@@ -202,16 +202,81 @@ static void blank_places(void)
     for (size_t m = 0; m <= 7; m += 7) {
         faded(m, 14, 7);
         refused(39, HERMITIAN_TABLE_BYTES, 0, 39, HERMITIAN_REPORT_BYTES, HERMITIAN_TOO_BLANK, "14 blank places at rate 39, near or not");
-        refused(39, HERMITIAN_TABLE_BYTES, 8, 39, HERMITIAN_REPORT_BYTES, HERMITIAN_TOO_BLANK, "the same with doubt");
-        refused(39, HERMITIAN_TABLE_BYTES, 9, 39, HERMITIAN_REPORT_BYTES, HERMITIAN_WRONG_DOUBT, "the doubt comes first");
+        refused(39, HERMITIAN_TABLE_BYTES, HERMITIAN_MOST_DOUBT, 39, HERMITIAN_REPORT_BYTES, HERMITIAN_TOO_BLANK, "the same with doubt");
+        refused(39, HERMITIAN_TABLE_BYTES, TOO_MANY, 39, HERMITIAN_REPORT_BYTES, HERMITIAN_WRONG_DOUBT, "the doubt comes first");
         faded(m, 4, 7);
         refused(49, HERMITIAN_TABLE_BYTES, 0, 49, HERMITIAN_REPORT_BYTES, HERMITIAN_TOO_BLANK, "4 blank places at rate 49");
-        refused(49, HERMITIAN_TABLE_BYTES, 9, 49, HERMITIAN_REPORT_BYTES, HERMITIAN_WRONG_DOUBT, "the doubt comes first");
+        refused(49, HERMITIAN_TABLE_BYTES, TOO_MANY, 49, HERMITIAN_REPORT_BYTES, HERMITIAN_WRONG_DOUBT, "the doubt comes first");
     }
     frame_s(0);
     for (size_t place = 1; place <= 14; place++)
         put_cost(place, 1, 0);
     answers(39, 0, 0, 1, 0, 0, ABSENT, "14 places with a gap of zero: none of them is blank");
+}
+
+/* How many of 2^places choices change at most so many of the places. */
+static unsigned choices(unsigned places, unsigned most)
+{
+    unsigned sum = 0, term = 1;
+    for (unsigned i = 0; i <= places && i <= most; i++) {
+        sum += term;
+        term = term * (places - i) / (i + 1);
+    }
+    return sum;
+}
+
+/* Frame S(m) with so many places more, none of those of S(7), where symbol 5 costs 0 and symbol 0 costs 9: they have the smallest gaps. */
+static void doubted(size_t m, size_t doubtful)
+{
+    frame_s(m);
+    for (size_t i = 0; i < doubtful; i++) {
+        put_cost(5 * i + 1, 5, 0);
+        put_cost(5 * i + 1, 0, 9);
+    }
+}
+
+/* At rate 39 the product of x - a over the eleven a but 0, 1, 2, 3 and 5 is not zero at the twenty places above these only, and takes one value
+ * above 3 and 5. With the places above 0, 1 and 2 blank, T = 0; with the next twelve doubtful, where symbol 0 is best and symbol 1, which costs
+ * 40, second, the multiple that is 1 above 3 and 5 is near beside zero. With one doubtful place fewer it is not. */
+static void blank_fibres(void)
+{
+    frame_s(0);
+    for (size_t place = 0; place < 12; place++)
+        for (size_t symbol = 0; symbol < 16; symbol++)
+            put_cost(place, symbol, (unsigned)(17 * place));
+    answers(39, 12, 17 * 66, 2, 0, 0, 8 * 40, "two near codewords, and twelve places doubtful");
+    answers(39, 11, 17 * 66, 1, 0, 0, ABSENT, "eleven doubtful: one is near");
+}
+
+/* Every doubt up to the limit, which is twelve. With all places right, or with as many wrong as are doubtful, the test words near are those
+ * with at most T wrong symbols: of twelve doubtful places at rate 39 all but those with seven or more, 2,510 of 4,096, and the count takes
+ * two bytes. With T settled places wrong beside them only the test word of twelve second symbols is near, and with one more none. */
+static void every_doubt(void)
+{
+    expect(HERMITIAN_MOST_DOUBT == 12, "the limit is twelve");
+    expect(choices(12, 6) == 2510 && choices(9, 6) == 466 && choices(12, 1) == 13, "what is counted here");
+    for (unsigned doubt = 0; doubt <= HERMITIAN_MOST_DOUBT; doubt++) {
+        frame_s(0);
+        answers(39, doubt, 0, choices(doubt, 6), 0, 0, ABSENT, "a clear link at rate 39");
+        answers(49, doubt, 0, choices(doubt, 1), 0, 0, ABSENT, "a clear link at rate 49");
+        faded(0, 2, 7);
+        answers(39, doubt, 14, choices(doubt, 5), 0, 0, ABSENT, "two blank places leave T = 5");
+        doubted(0, doubt);
+        answers(39, doubt, 9 * doubt, choices(doubt, 6), 0, doubt, ABSENT, "every doubtful place wrong at rate 39");
+        answers(49, doubt, 9 * doubt, choices(doubt, 1), 0, doubt, ABSENT, "every doubtful place wrong at rate 49");
+        doubted(6, doubt);
+        answers(39, doubt, 180 + 9 * doubt, 1, 0, 6 + doubt, ABSENT, "T settled places wrong too");
+        doubted(7, doubt);
+        refused(39, HERMITIAN_TABLE_BYTES, doubt, 39, HERMITIAN_REPORT_BYTES, HERMITIAN_NONE_NEAR, "T + 1 settled places wrong");
+        doubted(1, doubt);
+        answers(49, doubt, 30 + 9 * doubt, 1, 0, 1 + doubt, ABSENT, "T settled places wrong at rate 49");
+        doubted(2, doubt);
+        refused(49, HERMITIAN_TABLE_BYTES, doubt, 49, HERMITIAN_REPORT_BYTES, HERMITIAN_NONE_NEAR, "T + 1 settled places wrong at rate 49");
+    }
+    blank_fibres();
+    frame_s(0);
+    for (size_t rate = 39; rate <= 49; rate += 10)
+        refused(rate, HERMITIAN_TABLE_BYTES, TOO_MANY, rate, HERMITIAN_REPORT_BYTES, HERMITIAN_WRONG_DOUBT, "doubt 13 on a clear link");
 }
 
 /* Each wrong argument set beside those that a later check would refuse. */
@@ -221,18 +286,19 @@ static void refusals(void)
     frame_s(7);
     for (size_t i = 0; i < sizeof unknown / sizeof unknown[0]; i++) {
         refused(unknown[i], HERMITIAN_TABLE_BYTES, 0, 39, HERMITIAN_REPORT_BYTES, HERMITIAN_UNKNOWN_RATE, "unknown rate");
-        refused(unknown[i], 5, 9, 3, 7, HERMITIAN_UNKNOWN_RATE, "the rate is checked first");
+        refused(unknown[i], 5, TOO_MANY, 3, 7, HERMITIAN_UNKNOWN_RATE, "the rate is checked first");
     }
     for (size_t rate = 39; rate <= 49; rate += 10) {
-        refused(rate, 0, 9, rate, HERMITIAN_REPORT_BYTES, HERMITIAN_WRONG_SIZE, "no table");
-        refused(rate, HERMITIAN_TABLE_BYTES - 1, 9, rate, HERMITIAN_REPORT_BYTES, HERMITIAN_WRONG_SIZE, "a short table");
-        refused(rate, HERMITIAN_TABLE_BYTES + 1, 9, rate, HERMITIAN_REPORT_BYTES, HERMITIAN_WRONG_SIZE, "a long table");
-        refused(rate, HERMITIAN_TABLE_BYTES, 9, rate - 1, HERMITIAN_REPORT_BYTES, HERMITIAN_WRONG_SIZE, "a short message buffer");
-        refused(rate, HERMITIAN_TABLE_BYTES, 9, rate + 1, HERMITIAN_REPORT_BYTES, HERMITIAN_WRONG_SIZE, "a long message buffer");
-        refused(rate, HERMITIAN_TABLE_BYTES, 9, rate, 8, HERMITIAN_WRONG_SIZE, "a report without room for the margin");
-        refused(rate, HERMITIAN_TABLE_BYTES, 9, rate, HERMITIAN_REPORT_BYTES - 1, HERMITIAN_WRONG_SIZE, "a short report");
-        refused(rate, HERMITIAN_TABLE_BYTES, 9, rate, HERMITIAN_REPORT_BYTES + 1, HERMITIAN_WRONG_SIZE, "a long report");
-        refused(rate, HERMITIAN_TABLE_BYTES, 9, rate, HERMITIAN_REPORT_BYTES, HERMITIAN_WRONG_DOUBT, "doubt 9");
+        refused(rate, 0, TOO_MANY, rate, HERMITIAN_REPORT_BYTES, HERMITIAN_WRONG_SIZE, "no table");
+        refused(rate, HERMITIAN_TABLE_BYTES - 1, TOO_MANY, rate, HERMITIAN_REPORT_BYTES, HERMITIAN_WRONG_SIZE, "a short table");
+        refused(rate, HERMITIAN_TABLE_BYTES + 1, TOO_MANY, rate, HERMITIAN_REPORT_BYTES, HERMITIAN_WRONG_SIZE, "a long table");
+        refused(rate, HERMITIAN_TABLE_BYTES, TOO_MANY, rate - 1, HERMITIAN_REPORT_BYTES, HERMITIAN_WRONG_SIZE, "a short message buffer");
+        refused(rate, HERMITIAN_TABLE_BYTES, TOO_MANY, rate + 1, HERMITIAN_REPORT_BYTES, HERMITIAN_WRONG_SIZE, "a long message buffer");
+        refused(rate, HERMITIAN_TABLE_BYTES, TOO_MANY, rate, 8, HERMITIAN_WRONG_SIZE, "a report without room for the margin");
+        refused(rate, HERMITIAN_TABLE_BYTES, TOO_MANY, rate, HERMITIAN_REPORT_BYTES - 1, HERMITIAN_WRONG_SIZE, "a short report");
+        refused(rate, HERMITIAN_TABLE_BYTES, TOO_MANY, rate, HERMITIAN_REPORT_BYTES + 1, HERMITIAN_WRONG_SIZE, "a long report");
+        refused(rate, HERMITIAN_TABLE_BYTES, TOO_MANY, rate, HERMITIAN_REPORT_BYTES, HERMITIAN_WRONG_DOUBT, "doubt 13");
+        refused(rate, HERMITIAN_TABLE_BYTES, 256 + 3, rate, HERMITIAN_REPORT_BYTES, HERMITIAN_WRONG_DOUBT, "doubt 259");
         refused(rate, HERMITIAN_TABLE_BYTES, SIZE_MAX, rate, HERMITIAN_REPORT_BYTES, HERMITIAN_WRONG_DOUBT, "the largest doubt");
         refused(rate, HERMITIAN_TABLE_BYTES, 0, rate, HERMITIAN_REPORT_BYTES, HERMITIAN_NONE_NEAR, "none near");
     }
@@ -242,6 +308,7 @@ int main(void)
 {
     bench_sheet();
     blank_places();
+    every_doubt();
     refusals();
     printf("table decoding from C: %u checks, %u failed\n", checks, failures);
     return failures == 0 ? 0 : 1;

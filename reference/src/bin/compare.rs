@@ -14,7 +14,9 @@ use reference::frames::{frame, frame_s, Frame, Kind, RATES};
 use reference::nearest::Finder;
 use reference::random::Random;
 use reference::show::show;
+use reference::soft::DOUBT_LIMIT;
 use reference::streams::{chosen_calls, compare_calls, compare_shows, Shown};
+use reference::version_counts::By;
 
 const USAGE: &str = "\
 compare calls LETTERS SEED COUNT            write the calls of COUNT frames
@@ -37,6 +39,11 @@ by what came of them, and in lists of calls those of readings, captures and look
 places; too few of one of them are a failure.
 The counts of tables are printed in which a pinned second keeps a place from being chosen as
 doubtful, by what the plain gap would have led to; too few of one of them are a failure.
+The counts of frames with each number of doubtful places at each rate are printed, answered and refused
+with 9, of those with more than 255 test words near and with a margin and more than eight doubtful
+places, and of doubts and lists above the limit; too few of one of them are a failure.
+The counts of captures of both versions are printed, opened, looked up and written, and those that a
+wrong rule of versions would lead elsewhere; a size and set of faults that is missing is a failure.
 The counts of captures written after places that arrived in each sort of order are printed; fewer
 than one in five frames after deliveries, or one a frame after captures, are a failure, and so is a
 capture that comes back unchanged and is not in place order, or the other way round.
@@ -86,6 +93,8 @@ fn run(arguments: &[String]) -> Result<(), String> {
             }
             if chosen("OCDRWXL") {
                 tally.blanks.check(number(count)?, &OF_LISTS)?;
+                tally.versions.check(By::Lists)?;
+                tally.doubts.check(number(count)?, true)?;
             }
             Ok(())
         }
@@ -95,11 +104,16 @@ fn run(arguments: &[String]) -> Result<(), String> {
             let shown = compare_shows(&arguments[3..], number(seed)?, number(count)?)?;
             let Shown {
                 captures,
+                versions,
                 margins,
                 blanks,
+                doubts,
             } = shown;
-            output(format!("{captures} captures alike ({blanks}; {margins})\n").as_bytes())?;
+            let line = format!("{blanks}; {versions}; {doubts}; {margins}");
+            output(format!("{captures} captures alike ({line})\n").as_bytes())?;
             blanks.check(captures / 2, &OF_CAPTURES)?;
+            versions.check(By::Openings)?;
+            doubts.check(captures / 2, false)?;
             margins.check(captures)
         }
         ["time", count] => time(number(count)?),
@@ -156,12 +170,18 @@ fn write_calls(letters: &str, seed: u64, count: u64) -> Result<(), String> {
     Ok(())
 }
 
-/// Times frames with eight doubtful places on one thread, by rate and kind.
+/// Times frames with eight doubtful places, and with as many as there may be, on one thread, by rate and
+/// kind.
 fn time(count: u64) -> Result<(), String> {
+    time_with(8, count)?;
+    time_with(DOUBT_LIMIT, count)
+}
+
+fn time_with(doubt: usize, count: u64) -> Result<(), String> {
     for rate in RATES {
         let finder = Finder::of_rate(rate).map_err(|refusal| format!("{refusal:?}"))?;
         for kind in [Kind::Valid, Kind::Wrong, Kind::Pair, Kind::Beyond] {
-            let make = |number| frame(kind, rate, 8, &mut Random::new(1, number));
+            let make = |number| frame(kind, rate, doubt, &mut Random::new(1, number));
             let frames: Vec<_> = (0..count).map(make).collect();
             let tests = frames
                 .iter()
@@ -175,7 +195,7 @@ fn time(count: u64) -> Result<(), String> {
             let micros = start.elapsed().as_secs_f64() * 1e6 / tests as f64;
             output(
                 format!(
-                    "rate {rate}, {kind:?}: {tests} test words, {near} near, {micros:.2} µs each\n"
+                    "rate {rate}, doubt {doubt}, {kind:?}: {tests} test words, {near} near, {micros:.2} µs each\n"
                 )
                 .as_bytes(),
             )?;
@@ -208,11 +228,14 @@ mod proved {
             margins,
             blanks,
             choices,
+            doubts,
             ..
         } = tally;
-        super::output(format!("decode table: {blanks}; {choices}; {margins}\n").as_bytes())?;
+        let line = format!("{blanks}; {choices}; {doubts}; {margins}");
+        super::output(format!("decode table: {line}\n").as_bytes())?;
         blanks.check(count, &OF_TABLES)?;
         choices.check(count)?;
+        doubts.check(count, true)?;
         margins.check(count)
     }
 

@@ -21,7 +21,6 @@ use reference::frames::RATES;
 use reference::measured::{Form, Measured};
 use reference::proved::{PROVED_BELOW, PROVED_TABLE};
 use reference::sent::{decibels, Sent};
-use reference::soft::DOUBT_LIMIT;
 
 /// The frames at a point, if the command doesn't say otherwise.
 const FRAMES: u64 = 10_000;
@@ -33,20 +32,23 @@ const COUNTED: u64 = 200;
 /// eight doubtful places to a clear link.
 const QUARTERS: [[u64; 7]; 2] = [[18, 20, 22, 24, 28, 32, 36], [22, 24, 26, 28, 32, 36, 40]];
 
+/// The doubt and the maximum of the forms that are compared there.
+const MOST: usize = 8;
+
 /// The forms that are compared there.
 const FORMS: [Form; 6] = [
-    Form::Doubt(DOUBT_LIMIT),
-    up_to_the_limit(16),
-    up_to_the_limit(12),
-    up_to_the_limit(8),
-    up_to_the_limit(4),
-    up_to_the_limit(0),
+    Form::Doubt(MOST),
+    up_to_most(16),
+    up_to_most(12),
+    up_to_most(8),
+    up_to_most(4),
+    up_to_most(0),
 ];
 
-const fn up_to_the_limit(threshold: u16) -> Form {
+const fn up_to_most(threshold: u16) -> Form {
     Form::Below {
         threshold,
-        most: DOUBT_LIMIT,
+        most: MOST,
     }
 }
 

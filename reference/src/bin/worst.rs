@@ -14,9 +14,8 @@ use reference::decode::{table_of_columns, REPORT_BYTES};
 use reference::frames::RATES;
 use reference::measured::{Form, Measured, CALLS};
 use reference::proved::PROVED_TABLE;
-use reference::soft::DOUBT_LIMIT;
 use reference::trials::{DecodeTable, REFERENCE_TABLE};
-use reference::worst::Drawn;
+use reference::worst::{Drawn, DRAWN_DOUBT};
 
 /// The frames that are printed: as many as the benchmark has of a case.
 const KEPT: usize = CALLS as usize;
@@ -65,7 +64,7 @@ fn make_calls(rate: &str, frames: &[&str]) -> Result<(), String> {
 
 fn call(drawn: &Drawn) -> Measured {
     let table = table_of_columns(&drawn.columns());
-    Form::Doubt(DOUBT_LIMIT).call(drawn.rate, table)
+    Form::Doubt(DRAWN_DOUBT).call(drawn.rate, table)
 }
 
 /// The number returned, and the bytes of message and report, as `counted` prints them.
@@ -165,7 +164,7 @@ fn instructions_of(folder: &Path, rate: u64, found: &[Counted]) -> Result<Vec<Co
 fn print(rate: u64, drawn: usize, found: &[Counted]) {
     let drawn = grouped(drawn as u64);
     println!(
-        "Rate {rate}, doubt {DOUBT_LIMIT}, {drawn} frames drawn and {drawn} changed. The {KEPT} that took \
+        "Rate {rate}, doubt {DRAWN_DOUBT}, {drawn} frames drawn and {drawn} changed. The {KEPT} that took \
          most, by their instructions:"
     );
     println!();
