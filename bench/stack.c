@@ -1,6 +1,7 @@
-/* How many bytes of stack a table decoding touches: a thread with a painted stack decodes frames without doubt and with eight doubtful places,
- * and by a threshold above all gaps with the maxima 1 and 8, with no wrong place, one and so many that none is near, at both rates, and the
- * paint that is left is counted. */
+/* How many bytes of stack a table decoding touches: a thread with a painted stack decodes frames without doubt, with eight doubtful places and
+ * with as many as there may be, and by a threshold above all gaps with the maxima 1 and the largest, with no wrong place, one, six and so many
+ * that none is near, and without and with a blank place, at both rates, and the paint that is left is counted. At rate 39 the tree is deepest
+ * where six places are wrong and one is blank: there it takes every doubtful place before it decides. */
 #include <pthread.h>
 #include <stdio.h>
 #include <stdlib.h>
@@ -11,7 +12,7 @@
 enum { STACK = 1 << 20, PAINT = 0xa5, ROOM = 1 << 12 };
 
 struct job {
-    size_t rate, wrong, doubt;
+    size_t rate, wrong, blanks, doubt;
     int below, decode;
     uint8_t answer;
 };
@@ -54,12 +55,13 @@ static size_t touched(struct job *job)
 
 int main(void)
 {
-    const size_t rates[] = {39, 49}, wrongs[] = {0, 1, 12}, doubts[] = {0, 8, 1, 8};
+    const size_t rates[] = {39, 49}, wrongs[] = {0, 1, 6, 12}, doubts[] = {0, 8, HERMITIAN_MOST_DOUBT, 1, HERMITIAN_MOST_DOUBT};
     uint8_t word[HERMITIAN_PLACES] = {0};
+    size_t most = 0;
     for (size_t r = 0; r < 2; r++)
-        for (size_t w = 0; w < 3; w++)
-            for (size_t d = 0; d < 4; d++) {
-                struct job job = {.rate = rates[r], .wrong = wrongs[w], .doubt = doubts[d], .below = d >= 2};
+        for (size_t w = 0; w < 8; w++)
+            for (size_t d = 0; d < 5; d++) {
+                struct job job = {.rate = rates[r], .wrong = wrongs[w / 2], .blanks = w % 2, .doubt = doubts[d], .below = d >= 3};
                 for (size_t t = 0; t < sizeof message; t++)
                     message[t] = (uint8_t)(t * 7 % 16);
                 if (hermitian_encode(job.rate, message, job.rate, word, sizeof word, 0) != 0)
@@ -69,13 +71,18 @@ int main(void)
                     for (size_t s = 0; s < 16; s++)
                         cost(p, s, 500);
                     cost(p, best, 0);
-                    if (at >= 56)
+                    if (at >= HERMITIAN_PLACES - HERMITIAN_MOST_DOUBT)
                         cost(p, (best + 3) % 16, 5);
+                    if (at == 12 && job.blanks)
+                        cost(p, best, 500);
                 }
                 size_t idle = touched(&job);
                 job.decode = 1;
                 size_t used = touched(&job) - idle;
-                printf("rate %zu, %2zu wrong places, %s %zu: %zu bytes of stack, answer %u\n", job.rate, job.wrong, job.below ? "maximum" : "doubt", job.doubt, used, job.answer);
+                if (used > most)
+                    most = used;
+                printf("rate %zu, %2zu wrong places, %zu blank, %s %zu: %zu bytes of stack, answer %u\n", job.rate, job.wrong, job.blanks, job.below ? "maximum" : "doubt", job.doubt, used, job.answer);
             }
+    printf("the most of all: %zu bytes of stack\n", most);
     return 0;
 }

@@ -42,6 +42,8 @@ pub enum Sort {
     Chosen { rate: u64, count: usize, end: End },
     /// An answer with this maximum.
     Most { rate: u64, most: u64 },
+    /// An answer with more than 255 test words near.
+    ManyTests,
     /// An answer with this threshold.
     Threshold { rate: u64, threshold: u16 },
     /// An answer where equal gaps below the threshold lie on both sides of the maximum.
@@ -128,6 +130,7 @@ fn wanted() -> Vec<Sort> {
         wanted.push(Sort::TieAtThreshold { rate });
     }
     wanted.extend([true, false].map(|zero| Sort::Margin { zero }));
+    wanted.push(Sort::ManyTests);
     wanted.extend(MAXIMA.map(|most| Sort::Maximum { most }));
     wanted.extend(SIZES.map(|table| Sort::Size { table }));
     wanted
@@ -177,6 +180,9 @@ fn sorts(call: &BelowCall, number: u8, message: &[u8], report: &[u8]) -> Vec<Sor
     }
     let threshold = call.threshold;
     sorts.push(Sort::Most { rate, most });
+    if report[4] > 0 {
+        sorts.push(Sort::ManyTests);
+    }
     sorts.push(Sort::Threshold { rate, threshold });
     if let Some(margin) = margin_of(report) {
         let zero = margin == 0;
@@ -377,9 +383,11 @@ impl fmt::Display for BelowCounts {
         let [zero, above] = [true, false].map(|zero| self.times(&Sort::Margin { zero }));
         write!(
             out,
-            "; {} with all blank but {} at most; {} with a margin, {zero} of them zero; maxima",
+            "; {} with all blank but {} at most; {} with more than 255 test words near; {} with a margin, \
+             {zero} of them zero; maxima",
             self.came(few).1,
             OPEN.len() - 1,
+            self.times(&Sort::ManyTests),
             zero + above
         )?;
         for most in MAXIMA {

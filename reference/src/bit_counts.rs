@@ -6,7 +6,7 @@
 use std::collections::BTreeMap;
 use std::fmt;
 
-use crate::bit_frames::{BitCall, BitKind, BIT_KINDS, SIZES};
+use crate::bit_frames::{BitCall, BitKind, BIT_KINDS, DOUBTS, SIZES};
 use crate::bits::{columns_of_bits, BITS, FRAME_VALUES, MOST_COST, SENT};
 use crate::code::Code;
 use crate::decode::margin_of;
@@ -29,6 +29,10 @@ pub enum Sort {
     },
     /// An answer with this doubt.
     Doubt { rate: u64, doubt: u64 },
+    /// An answer with more than 255 test words near.
+    ManyTests,
+    /// This doubt, refused with 4.
+    TooLarge { doubt: u64 },
     /// So many blank places: an answer, or, where they are too many, a frame refused with 12.
     Blank { rate: u64, blanks: usize },
     /// A frame of one value everywhere that is answered, or, of zeros, refused with 12.
@@ -97,6 +101,8 @@ fn wanted() -> Vec<Sort> {
         wanted.push(Sort::MostCost { rate });
     }
     wanted.extend([true, false].map(|zero| Sort::Margin { zero }));
+    wanted.push(Sort::ManyTests);
+    wanted.extend(DOUBTS.map(|doubt| Sort::TooLarge { doubt }));
     wanted.extend(SIZES.map(|values| Sort::Size { values }));
     wanted
 }
@@ -116,6 +122,10 @@ fn sorts(call: &BitCall, number: u8, message: &[u8], report: &[u8]) -> Vec<Sort>
             sorts.push(Sort::Size { values });
         }
     }
+    if number == 4 {
+        let doubt = call.doubt;
+        sorts.push(Sort::TooLarge { doubt });
+    }
     if call.values.len() != FRAME_VALUES || ![0, 12].contains(&number) {
         return sorts;
     }
@@ -134,6 +144,9 @@ fn sorts(call: &BitCall, number: u8, message: &[u8], report: &[u8]) -> Vec<Sort>
     }
     let doubt = call.doubt;
     sorts.push(Sort::Doubt { rate, doubt });
+    if report[4] > 0 {
+        sorts.push(Sort::ManyTests);
+    }
     if let Some(margin) = margin_of(report) {
         let zero = margin == 0;
         sorts.push(Sort::Margin { zero });
@@ -233,6 +246,18 @@ impl fmt::Display for BitCounts {
                 .collect();
             let numbers = numbers.join(" ");
             write!(out, "; by their blank places at rate {rate} {numbers}")?;
+        }
+        for rate in RATES {
+            let doubts = (0..=DOUBT_LIMIT as u64).map(|doubt| Sort::Doubt { rate, doubt });
+            let numbers: Vec<String> = doubts.map(|sort| self.times(&sort).to_string()).collect();
+            let numbers = numbers.join(" ");
+            write!(out, "; answers by doubt at rate {rate} {numbers}")?;
+        }
+        let many = self.times(&Sort::ManyTests);
+        write!(out, "; {many} with more than 255 test words near; doubts")?;
+        for doubt in DOUBTS {
+            let times = self.times(&Sort::TooLarge { doubt });
+            write!(out, " {doubt}: {times}")?;
         }
         for value in [-128, 0, 127] {
             let everywhere = RATES.map(|rate| Sort::Everywhere { rate, value });

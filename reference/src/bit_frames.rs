@@ -344,7 +344,7 @@ fn refused(round: usize, random: &mut Random) -> BitCall {
         call.report = random.one_of(&[0, 8, REPORT_BYTES - 1, REPORT_BYTES + 1, FRAME_VALUES]);
     }
     if call.has(Fault::Doubt) {
-        call.doubt = random.one_of(&DOUBTS);
+        call.doubt = DOUBTS[(set + turn_of_sets) % DOUBTS.len()];
     }
     call
 }

@@ -173,15 +173,15 @@ mod tests {
         let full = full();
         assert_eq!(full.check(400, true), Ok(()));
         assert!(full.check(800, true).is_err());
-        for rate in 0..RATES.len() {
+        for (at, rate) in RATES.iter().enumerate() {
             for doubt in 0..=DOUBT_LIMIT {
                 let mut few = full;
-                few.answered[rate][doubt] = 0;
-                let named = format!("({doubt} at rate {} answered)", RATES[rate]);
+                few.answered[at][doubt] = 0;
+                let named = format!("({doubt} at rate {rate} answered)");
                 assert!(few.check(1, true).unwrap_err().contains(&named));
                 let mut few = full;
-                few.none_near[rate][doubt] = 0;
-                let named = format!("({doubt} at rate {} none near)", RATES[rate]);
+                few.none_near[at][doubt] = 0;
+                let named = format!("({doubt} at rate {rate} none near)");
                 assert!(few.check(1, true).unwrap_err().contains(&named));
             }
         }

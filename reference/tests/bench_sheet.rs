@@ -141,6 +141,18 @@ fn r3_seven_wrong_places_one_of_them_doubtful() {
     assert_eq!(show(&capture), expected);
 }
 
+/// R3 with nine doubtful places, which is a capture of version 2.
+#[test]
+fn r3_with_nine_doubtful_places() {
+    let session = delivered(39, &[0, 1, 2, 3, 4, 5, 6, 7, 8], &frame_s(7));
+    let mut capture = vec![0; capture_size(&session)];
+    assert_eq!(write_capture(&session, &mut capture), Ok(()));
+    assert_eq!(capture, include_bytes!("../../examples/nine.capture"));
+    assert_eq!((capture[0], capture.len()), (2, 2126));
+    let expected = format!("39 9 210 1 0 7 -\n{}\n", "0".repeat(39));
+    assert_eq!(show(&capture), expected);
+}
+
 #[test]
 fn r4_two_doubtful_places() {
     assert_eq!(decoded(39, &frame_s(7), 2), Ok(zero(210, 3, 0, 7)));

@@ -22,7 +22,8 @@ const USAGE: &str = "\
 compare calls LETTERS SEED COUNT            write the calls of COUNT frames
 compare answers                             read calls, write their answers
 compare run LETTERS SEED COUNT PROGRAM ..   run a program on these calls and compare its answers
-compare example                             write the capture of the bench sheet's R3
+compare example [nine]                      write the capture of the bench sheet's R3, or the same with
+                                            places 0 to 8 doubtful, which has version 2
 compare show                                read a capture, print what `show` prints
 compare shows SEED COUNT PROGRAM ..         run a program on COUNT captures and compare
 compare time COUNT                          decode COUNT frames of each sort and time them
@@ -98,7 +99,8 @@ fn run(arguments: &[String]) -> Result<(), String> {
             }
             Ok(())
         }
-        ["example"] => output(&example()),
+        ["example"] => output(&example(1)),
+        ["example", "nine"] => output(&example(9)),
         ["show"] => output(show(&input()?).as_bytes()),
         ["shows", seed, count, _, ..] => {
             let shown = compare_shows(&arguments[3..], number(seed)?, number(count)?)?;
@@ -133,11 +135,11 @@ fn run(arguments: &[String]) -> Result<(), String> {
     }
 }
 
-/// The capture of R3, its places in their order.
-fn example() -> Vec<u8> {
+/// The capture of R3, its places in their order, with so many doubtful from place 0 on.
+fn example(doubt: u8) -> Vec<u8> {
     let frame = Frame {
         rate: 39,
-        doubtful: vec![0],
+        doubtful: (0..doubt).collect(),
         columns: frame_s(7),
     };
     let places: Vec<u8> = (0..64).collect();
