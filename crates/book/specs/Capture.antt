@@ -33,7 +33,7 @@ unfoldable pub rowBytes : List Entry → List ℕ
 rowBytes [] = []
 rowBytes (e ∷ row) = (e .place ∷ costBytes (e .column)) ++ rowBytes row
 
--- ---- 'Captures with 9 to 12 doubtful places carry version 2 in the same layout; those up to 8 stay version 1, byte for byte'
+-- ---- two versions of one layout, told apart by the number of doubtful places
 
 abbrev pub firstVersion : ℕ
 firstVersion = 1

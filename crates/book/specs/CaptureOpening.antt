@@ -32,22 +32,22 @@ listIn bytes = take (doubtIn bytes) (drop 5 bytes)
 abbrev pub recordsIn : List ℕ → List Entry
 recordsIn bytes = recordsOf places (drop (5 + doubtIn bytes) bytes)
 
--- 'total size from 2,117 to 2,125'; document 02: 'Sizes up to 2,129 pass the first check'
+-- the total size of a capture with no doubtful place up to one with all that there may be (#109)
 unfoldable pub sizeFits : List ℕ → Bool
 sizeFits bytes = leb (captureLength 0) (length bytes) && leb (length bytes) (captureLength mostDoubt)
 
--- 'versions 1 and 2 pass the second'
+-- one of the two versions (#109)
 unfoldable pub versionFits : List ℕ → Bool
 versionFits bytes = isVersion (versionIn bytes)
 
 abbrev pub lengthIn : List ℕ → ℕ
 lengthIn bytes = 256 * getD bytes 1 0 + getD bytes 2 0
 
--- 'length against both the total and d'
+-- the length that is told is that of the bytes, and that of a capture with d doubtful places
 unfoldable pub lengthFits : List ℕ → Bool
 lengthFits bytes = eqb (lengthIn bytes + 3) (length bytes) && eqb (lengthIn bytes) (bodyLength (doubtIn bytes))
 
--- 'a doubtful count that doesn't suit its version is a doubtful-list fault'
+-- the number of doubtful places is one that this version has (#109)
 unfoldable pub suitsVersion : List ℕ → Bool
 suitsVersion bytes = eqb (versionIn bytes) (versionOf (doubtIn bytes))
 

@@ -25,7 +25,7 @@ use Rattle.book.specs.CaptureOpening.{versionIn, rateIn, doubtIn, listIn
 use Rattle.book.specs.CaptureCases.{open-unknown, open-misfit, open-suited, capture-fit}
 use Rattle.book.specs.Here.{refusedOpening}
 
--- 'total size from 2,117'; 'Sizes up to 2,129 pass the first check'
+-- the sizes of document 01 and of #109
 pub capture-sizes : (captureLength 0 ≡ 2117) × (captureLength mostDoubt ≡ 2129)
 capture-sizes = (refl, refl)
 
@@ -45,17 +45,17 @@ version-is d = go (decLe d mostInFirstVersion)
     go (yes few) = ap isVersion (version-one d few)
     go (no many) = ap isVersion (version-two d (omega arith))
 
--- 'those up to 8 stay version 1, byte for byte'
+-- up to 8 doubtful places nothing changes in a capture
 pub version-one-kept : (book : Book) → length (book .doubtful) ≤ mostInFirstVersion → captureOf book ≡ laidOut firstVersion book
 unfolding captureOf
 version-one-kept book few = ap (λ v. laidOut v book) (version-one (length (book .doubtful)) few)
 
--- 'Captures with 9 to 12 doubtful places carry version 2 in the same layout'
+-- with more the first byte is 2, and the others are as they were
 pub version-two-written : (book : Book) → mostInFirstVersion < length (book .doubtful) → captureOf book ≡ laidOut secondVersion book
 unfolding captureOf
 version-two-written book many = ap (λ v. laidOut v book) (version-two (length (book .doubtful)) many)
 
--- 'a doubtful count that doesn't suit its version is a doubtful-list fault'
+-- a number of doubtful places that does not suit the version is a fault of the list
 module _ (bytes : List ℕ) (s : sizeFits bytes ≡ true) (v : versionFits bytes ≡ true) (l : lengthFits bytes ≡ true)
     (misfit : versionIn bytes ≢ versionOf (doubtIn bytes)) where
   pub misfit-refused : knownRate (rateIn bytes) ≡ true → openCaptureOf bytes ≡ refusedOpening wrongDoubt
