@@ -53,8 +53,7 @@ fn doubled_places(doubtful: [u8; MOST_DOUBT], doubt: usize, counts: [u8; PLACES]
     while i < doubt {
         let place = doubtful[i];
         let chosen = has_flag(counts, place as usize);
-        let longer = with_place(places, count, place, chosen);
-        places = longer;
+        with_place(&mut places, count, place, chosen);
         count += bit(chosen) as usize;
         i += 1;
     }

@@ -9,10 +9,10 @@ use columns::least::lesser;
 ghost use mathlib.Core.Path.{_≡_};
 ghost use mathlib.Core.Bool.{cond};
 ghost use Prim.Native.Nat.{_<_};
-ghost use lib.ListN.{set};
+ghost use lib.ListN.{length, set};
 ghost use Rattle.lists.specs.Least.{leastOf};
 ghost use Rattle.soft.specs.Column.{places, symbols, columnOf};
-ghost use Rattle.soft.specs.Doubt.{doubtfulOf};
+ghost use Rattle.soft.specs.Doubt.{mostDoubt, doubtfulOf};
 ghost use Rattle.soft.specs.Threshold.{closestOf, clampOf};
 ghost use Rattle.doubt.specs.Keys.{far, KeyOf, Keyed, Apart, chosenOf, belowBy};
 ghost use Rattle.doubt.specs.Bound.{fromBound, keyFrom, pastOf, Bound};
@@ -97,16 +97,15 @@ fn bound_of(keys: [u32; PLACES], doubt: usize) -> u32
 }
 
 // One place more, if it is chosen and there is room.
-pub fn with_place(list: [u8; MOST_DOUBT], at: usize, place: u8, chosen: bool) -> [u8; MOST_DOUBT]
-    ensures { λ r. ⌜ r ≡ cond chosen (set list at place) list ⌝ }
+pub fn with_place(list: &mut [u8; MOST_DOUBT], at: usize, place: u8, chosen: bool)
+    requires { ⌜ length (now list) ≡ mostDoubt ⌝ }
+    ensures { λ _. ⌜ now (list .exit) ≡ cond chosen (set (now (list .entry)) at place) (now (list .entry)) ⌝ }
 {
-    let mut out = list;
     if chosen {
         if at < MOST_DOUBT {
-            out[at] = place;
+            list[at] = place;
         }
     }
-    out
 }
 
 // The places with fewer than so many ahead of them, rising; the most doubt allowed finds room for all.
@@ -119,8 +118,7 @@ fn picked_by(keys: [u32; PLACES], doubt: usize) -> Picked
     let mut found = 0;
     for place in 0..PLACES {
         let taken = keys[place] < bound;
-        let longer = with_place(out, found, place as u8, taken);
-        out = longer;
+        with_place(&mut out, found, place as u8, taken);
         found += bit(taken) as usize;
     }
     Picked {

@@ -1,9 +1,9 @@
 -- The loop's invariant: the list holds those of the places passed that count, and `count` is their number.
-use mathlib.Core.Path.{_≡_}
+use mathlib.Core.Path.{_≡_, ap, _∙_}
 use Prim.Native.Nat.{_<_, _≤_, _-_}
 use native.Mathlib.Omega.{arith}
 use lib.ListN.{length, take}
-use Rattle.lists.specs.Padded.{padded}
+use Rattle.lists.specs.Padded.{padded, padded-length}
 use Rattle.soft.specs.Doubt.{mostDoubt}
 use Rattle.soft.specs.Blank.{flagAt, unblanked}
 use Rattle.chase.proofs.Doubling.{doubled-start, doubled-turn, doubled-end, count-start, count-turn, count-fits}
@@ -32,7 +32,7 @@ has-flag-requires : tie.Need-has-flag-requires Inv-loop μ-loop
 has-flag-requires c κs = search needs
 
 with-place-requires : tie.Need-with-place-requires Inv-loop μ-loop
-with-place-requires c κs = search needs
+with-place-requires c κs = ap length (c .before .before .before .loop .inv .4) ∙ padded-length mostDoubt _
 
 bit-requires : tie.Need-bit-requires Inv-loop μ-loop
 bit-requires c κs = search needs
@@ -51,10 +51,10 @@ loop-less c = search needs
 
 loop-again : tie.Need-loop-again Inv-loop μ-loop
 loop-again c =
-    let s = c .before .before .before .before in
+    let s = c .before .before .before .before .before in
     let i = s .loop .inv in
     let n : s .loop .i < length (s .before .args .t1) = omega (arith, i .1) in
-    let b = c .before .before .has-flag .ensures in
+    let b = c .before .before .before .has-flag .ensures in
     let counted = count-turn (flagAt (s .before .args .counts)) (s .before .args .t1) (s .loop .i) n _ _ _ (i .3) b (c .bit .ensures .0) in (
       search needs,
       i .1,

@@ -1,10 +1,11 @@
 -- `doubt::picked_by` meets its contract. The loop's invariant: `out` holds the places passed whose keys are below the bound, and `found` counts them.
-use mathlib.Core.Path.{_≡_, refl, sym, _∙_}
+use mathlib.Core.Path.{_≡_, refl, sym, ap, _∙_}
 use Prim.Native.Nat.{_≤_, _-_}
 use native.Mathlib.Omega.{arith}
+use lib.ListN.{length}
 use borrow.Author.Needs.{needs}
 use Rattle.lists.specs.Count.{count, count-nil, count-turn, kept, kept-length}
-use Rattle.lists.specs.Padded.{padded}
+use Rattle.lists.specs.Padded.{padded, padded-length}
 use Rattle.soft.specs.Doubt.{mostDoubt}
 use Rattle.doubt.specs.Keys.{far}
 use Rattle.doubt.specs.Bound.{belowAt, chosen-below}
@@ -36,7 +37,7 @@ cast-with-place : tie.Need-cast-with-place Inv-loop μ-loop
 cast-with-place c = search needs
 
 with-place-requires : tie.Need-with-place-requires Inv-loop μ-loop
-with-place-requires c κs = search needs
+with-place-requires c κs = ap length (c .before .before .loop .inv .3) ∙ padded-length mostDoubt _
 
 bit-requires : tie.Need-bit-requires Inv-loop μ-loop
 bit-requires c κs = search needs
@@ -55,7 +56,7 @@ loop-less c = search needs
 
 loop-again : tie.Need-loop-again Inv-loop μ-loop
 loop-again c =
-    let i = c .before .before .before .loop .inv in (
+    let i = c .before .before .before .before .loop .inv in (
       omega arith,
       omega arith,
       count-turn _ _ _ _ (i .2) (c .bit .ensures .0),
