@@ -22,7 +22,8 @@
  *             another codeword is near too, else 0 (1), and the margin: the least total of
  *             such another one minus the answer's, 0 where there is none (4)
  *
- * Stack: table decoding with eight doubtful places touches some 49 kB of it (bench/stack).
+ * Stack: table decoding touches some 14 kB of it without doubt, some 50 kB with eight
+ * doubtful places and some 67 kB with twelve (bench/stack).
  *
  * What C cannot check and the caller must see to:
  *   - a pointer is not null, also where its length is 0, and its bytes may be read, or
