@@ -12,8 +12,7 @@ use Rattle.family.specs.Member as Family
 use Rattle.family.specs.Member.{Member, m16}
 use Rattle.code.specs.Encoding.{knownRate}
 use Rattle.code.specs.Rates.{known-bounds}
-use Rattle.interpolation.specs.Settled.{settled}
-use Rattle.interpolation.specs.Flagged.{settled-member, settled-only}
+use Rattle.values.specs.Settled.{settled, settled-member, settled-only}
 use Rattle.near.specs.Here.{mOf, limitOf, blankLimit, blanksIn}
 use Rattle.near.specs.Tree.{Places, places-unblanked, Decided}
 use Rattle.near.specs.Flags.{Flagged}

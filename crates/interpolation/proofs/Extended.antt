@@ -19,7 +19,8 @@ use Rattle.family.specs.Member.{m16, places, px}
 use Rattle.family.specs.Nodes.{Node, node}
 use Rattle.curve.specs.Curve.{xOf}
 use Rattle.planes.specs.Rows.{valueAt}
-use Rattle.values.specs.Step.{Stepped, same, raised-at, stepped-stored, moved-stored}
+use Rattle.values.specs.Step.{Stepped, same, raised-at, moved-stored}
+use Rattle.values.specs.Settling.{stepped-more}
 use Rattle.basis.specs.Choice.{leadAt, Nonzero, Chosen, none, one}
 use Rattle.basis.specs.Step.{classes, rowValues, discrepancyOf, discrepancyAt, discrepancy-live, discrepancy-spent, discrepancy-small, NextRows, MovedRows}
 use Rattle.interpolation.specs.Extending.{Stored, ExtendsOwn, Extends}
@@ -71,7 +72,7 @@ module _ (L : ℕ) (rows : List (List ℕ)) (leads : List ℕ) (p : ℕ) (inside
         go (one s f) = live at h (s .passes .nonzero)
 
     pub extends-same : classes ≤ at → ExtendsOwn L p rows leads rows leads
-    extends-same h = record { rows-long = refl; as-long = refl; stored = λ M word ns S. stepped-stored m16 S p inside (go chosen) }
+    extends-same h = record { rows-long = refl; as-long = refl; stored = stepped-more m16 L p _ _ _ _ inside (go chosen) }
       where
         go : Chosen classes ds leads at → Stepped m16 L p (rowValues rows) (leadAt leads) (rowValues rows) (leadAt leads)
         go (none q z) = same (λ r l u. sym (element r l u) ∙ ap toF (z r l) ∙ toF-zero) (λ r l. refl) (λ r l u a b c d. refl)
@@ -84,7 +85,7 @@ module _ (L : ℕ) (rows : List (List ℕ)) (leads : List ℕ) (p : ℕ) (inside
         record {
           rows-long = next .as-long;
           as-long = length-set leads at (getD leads at 0 + 8);
-          stored = λ M word ns S. stepped-stored m16 S p inside (go chosen);
+          stored = stepped-more m16 L p _ _ _ _ inside (go chosen);
         }
       where
         point : toF x ≡ px m16 p

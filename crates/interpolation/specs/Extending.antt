@@ -3,6 +3,7 @@
 --   Stored M word L ns rows leads   the rows have the values of a basis up to L of the Q through the nodes ns, with the word's symbols for z
 --   ExtendsOwn L p rows leads rows′ leads′   for every M, every word and every list of nodes: what stores a basis of the Q through some nodes, stores one
 --                     of the Q that also vanish at the place p, with the word's own symbol there
+--   ExtendsIf L p flag …   so for a place whose flag is 1; nothing changes for another
 --   Extends L p c …   so with the symbol that is c away from the word's own; the word has it from then on
 use mathlib.Core.Path.{_≡_}
 use mathlib.Core.List.{List, _∷_}
@@ -12,6 +13,7 @@ use lib.ListN.{length, getD, set}
 use Rattle.family.specs.Member.{m16}
 use Rattle.family.specs.Nodes.{Node, node}
 use Rattle.values.specs.Holds as Values
+use Rattle.values.specs.Settling.{OneMore, Passes}
 use Rattle.basis.specs.Choice.{leadAt}
 use Rattle.basis.specs.Step.{rowValues}
 
@@ -21,7 +23,12 @@ Stored M word L ns rows leads = Values.Stored m16 M word L ns (rowValues rows) (
 pub record ExtendsOwn (L p : ℕ) (rows : List (List ℕ)) (leads : List ℕ) (rows′ : List (List ℕ)) (leads′ : List ℕ) : Type 0 where
   pub rows-long : length rows′ ≡ length rows
   pub as-long : length leads′ ≡ length leads
-  pub stored : (M : ℕ) (word : List ℕ) (ns : List Node) → Stored M word L ns rows leads → Stored M word L (node p (getD word p 0) ∷ ns) rows′ leads′
+  pub stored : OneMore m16 L p (rowValues rows) (leadAt leads) (rowValues rows′) (leadAt leads′)
+
+pub record ExtendsIf (L p flag : ℕ) (rows : List (List ℕ)) (leads : List ℕ) (rows′ : List (List ℕ)) (leads′ : List ℕ) : Type 0 where
+  pub rows-long : length rows′ ≡ length rows
+  pub as-long : length leads′ ≡ length leads
+  pub stored : Passes m16 L p (rowValues rows) (leadAt leads) (rowValues rows′) (leadAt leads′) flag
 
 pub record Extends (L p c : ℕ) (rows : List (List ℕ)) (leads : List ℕ) (rows′ : List (List ℕ)) (leads′ : List ℕ) : Type 0 where
   pub rows-long : length rows′ ≡ length rows

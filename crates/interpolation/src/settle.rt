@@ -2,8 +2,8 @@
 ghost use mathlib.Core.Path.{_≡_};
 ghost use Prim.Native.Nat.{_<_, _≤_};
 ghost use lib.ListN.{length};
-ghost use Rattle.interpolation.specs.Extending.{Stored};
-ghost use Rattle.interpolation.specs.Settled.{settled, ExtendsIf};
+ghost use Rattle.values.specs.Settled.{settled};
+ghost use Rattle.interpolation.specs.Extending.{Stored, ExtendsIf};
 use crate::PLACES;
 use crate::node::extend_own;
 use basis::CLASSES;

@@ -23,7 +23,7 @@ use Rattle.soft.specs.TestWordLaws.{bestWord-at}
 use Rattle.family.specs.Nodes.{Node, node}
 use Rattle.near.specs.Here.{mOf, m-is}
 use Rattle.interpolant.specs.LeastQ.{readingOf}
-use Rattle.interpolation.specs.Settled.{settled, settled-nil, settled-suc}
+use Rattle.values.specs.Settled.{settled, settled-nil, settled-suc}
 use Rattle.book.specs.Reading.{isSettled, settledAt, settledBelow, settledOf}
 use Rattle.book.specs.Here.{places}
 use Rattle.session.specs.declared.Session.{Session}

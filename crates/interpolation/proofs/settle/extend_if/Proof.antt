@@ -11,7 +11,7 @@ returns : tie.Need-returns
 returns c = extends-taken (c .before .before .before .if1 .taken) (c .extend-own .ensures)
 
 returns-2 : tie.Need-returns-2
-returns-2 c = extends-not _ _ _ _ _ (c .if1 .left)
+returns-2 c = extends-not (c .if1 .left)
 
 pub extend-if-spec : {M : Type 1} → statement M
 extend-if-spec = tie.close (tie.spec extend-own-requires returns returns-2)

@@ -7,9 +7,11 @@ use native.Mathlib.Omega.{arith}
 use lib.ListN.{length}
 use Rattle.lists.specs.Listed.{listed-length}
 use Rattle.hermitian.specs.Keys.{first}
+use Rattle.family.specs.Member.{m16}
+use Rattle.values.specs.Settled.{settled}
+use Rattle.values.specs.Settling.{settle-turn}
 use Rattle.interpolation.specs.Extending.{Stored}
-use Rattle.interpolation.specs.Settled.{settled}
-use Rattle.interpolation.proofs.Settling.{settle-start, settle-turn}
+use Rattle.interpolation.proofs.Settling.{listed-start}
 use Rattle.interpolation.proofs.settle.settle.Statement.{statement}
 use Rattle.interpolation.proofs.settle.settle.Tie as tie
 
@@ -49,12 +51,12 @@ loop-less c = search needs
 loop-again : tie.Need-loop-again Inv-loop μ-loop
 loop-again c =
     let i = c .before .before .before .before .loop .inv in
-    (search needs, c .extend-if .ensures .as-long ∙ i .1, c .extend-if .ensures .rows-long ∙ i .2, λ word S. settle-turn _ _ word _ _ _ _ _ _ (c .extend-if .ensures) (i .3 word S))
+    (search needs, c .extend-if .ensures .as-long ∙ i .1, c .extend-if .ensures .rows-long ∙ i .2, λ word S. settle-turn m16 _ _ word _ _ (c .extend-if .ensures .stored) (i .3 word S))
 
 returns : tie.Need-returns Inv-loop μ-loop
 returns c =
     let e : c .before .loop .place ≡ 64 = omega arith in
-    let start = settle-start _ _ _ _ _ _ (c .before .before .before .before .start-leads .ensures) (c .before .before .start-rows .ensures .are) in
+    let start = listed-start _ _ _ _ _ _ (c .before .before .before .before .start-leads .ensures) (c .before .before .start-rows .ensures .are) in
     rw e at (c .before .loop .inv .3 _ start)
 
 pub settle-spec : {M : Type 1} → statement M

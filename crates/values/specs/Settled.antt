@@ -1,11 +1,13 @@
--- The nodes that `settled` lists are those of the flagged places.
+-- The settled places that are taken, and their nodes; no member is named.
 --
+--   taken word p flag ns   the nodes ns after the place p: its node stands before them if the flag is 1
+--   settled word flags n   the nodes of the places below n with flag 1, each with the word's symbol; settled-nil, settled-suc
 --   settled-member      the node of a flagged place is listed
 --   FlaggedNode n q     q is the node of a flagged place below n
 --   settled-only        so is every node that is listed
 use mathlib.Core.Bool.{Bool, true, false, cond}
 use mathlib.Core.Path.{_≡_, refl, sym, ap, _∙_, subst}
-use mathlib.Core.List.{List, _∷_, List·Memᴰ, List·Memᴰ·head, List·Memᴰ·tail, List·Memᴰ·not-nil, List·Memᴰ·cases-cons}
+use mathlib.Core.List.{List, [], _∷_, List·Memᴰ, List·Memᴰ·head, List·Memᴰ·tail, List·Memᴰ·not-nil, List·Memᴰ·cases-cons}
 use mathlib.Core.Logic.{⊎-elim}
 use Prim.Native.Nat.{ℕ, zero, suc, _<_}
 use native.Mathlib.Nat.{eq-or-lt-of-le, le-of-suc-le-suc}
@@ -14,7 +16,21 @@ use lib.Dec.{eqb}
 use lib.ListN.{getD}
 use borrow.Author.Tests.{eqb-true, eq-eqb}
 use Rattle.family.specs.Nodes.{Node, node}
-use Rattle.interpolation.specs.Settled.{settled, settled-nil, settled-suc}
+
+abbrev pub taken : List ℕ → ℕ → ℕ → List Node → List Node
+taken word p flag ns = cond (eqb flag 1) (node p (getD word p 0) ∷ ns) ns
+
+unfoldable pub settled : List ℕ → List ℕ → ℕ → List Node
+settled word flags zero = []
+settled word flags (suc p) = taken word p (getD flags p 0) (settled word flags p)
+
+pub settled-nil : (word flags : List ℕ) → settled word flags 0 ≡ []
+unfolding settled
+settled-nil word flags = refl
+
+pub settled-suc : (word flags : List ℕ) (p : ℕ) → settled word flags (suc p) ≡ taken word p (getD flags p 0) (settled word flags p)
+unfolding settled
+settled-suc word flags p = refl
 
 cond-more : (b : Bool) (n : Node) {x : Node} {ns : List Node} → List·Memᴰ x ns → List·Memᴰ x (cond b (n ∷ ns) ns)
 cond-more true n m = List·Memᴰ·tail m
