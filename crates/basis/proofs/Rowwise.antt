@@ -1,8 +1,9 @@
 -- The rows of a step, stored one after another.
 --
 --   Cleared ds by pivot rows   of row k: what is stored is the row and a multiple of the pivot's
+--   added-nothing, added-product   of no discrepancy the row itself; otherwise by the product that the code computes
 --   step-stored                the pivot's row is the last to be stored
-use mathlib.Core.Path.{_≡_, ap, _∙_, subst}
+use mathlib.Core.Path.{_≡_, sym, ap, _∙_, subst}
 use mathlib.Core.List.{List, []}
 use Prim.Native.Nat.{ℕ, _+_, _<_, _≤_}
 use native.Mathlib.Nat.{le-refl}
@@ -10,16 +11,27 @@ use native.Mathlib.Omega.{arith}
 use lib.ListN.{length, getD, set, length-set}
 use lib.Seq.{getD-set-same, getD-set-other}
 use Rattle.lists.specs.Passed.{Passed, passed-turn}
-use Rattle.algebra.specs.Field.{Field}
+use Rattle.algebra.specs.Field.{Field, add-zero, zero-mul}
 use Rattle.galois.specs.Gf16.{times, inverse}
-use Rattle.galois.specs.Field16.{K16, toF}
+use Rattle.galois.specs.Field16.{K16, toF, toF-zero, times-comm, times-zero}
 use Rattle.planes.specs.Rows.{valueAt, MultiplesOf, Added, AddedBy, Raised, Moved}
 use Rattle.basis.specs.Step.{classes, rowValues, NextRows, MovedRows}
-open Field K16 using (_⊕_, _⊗_)
+open Field K16 using (_⊕_, _⊗_, 𝟘)
 
 -- what is stored as row k
 pub record Cleared (ds : List ℕ) (by : ℕ) (pivot : List ℕ) (rows : List (List ℕ)) (k : ℕ) (row : List ℕ) : Type 0 where
   pub added : Added (getD rows k []) (times (getD ds k 0) by) pivot row
+
+pub added-nothing : {row : List ℕ} {ms : List (List ℕ)} (d by : ℕ) → d ≡ 0 → AddedBy row (times d by) ms row
+added-nothing {row} d by e =
+    let z : toF (times d by) ≡ 𝟘 = ap (λ x. toF (times x by)) e ∙ ap toF (times-comm 0 by ∙ times-zero by) ∙ toF-zero in
+    record {
+      from = λ other made.
+          record {
+            lanes = λ h p l.
+                sym (ap (λ x. valueAt h row p ⊕ x ⊗ valueAt h other p) z ∙ ap (λ x. valueAt h row p ⊕ x) (zero-mul K16 _) ∙ add-zero K16 _);
+          };
+    }
 
 pub added-product : {row r : List ℕ} {ms : List (List ℕ)} {k : ℕ} (d by : ℕ) → k ≡ times d by → AddedBy row k ms r → AddedBy row (times d by) ms r
 added-product {row} {r} {ms} d by e h = subst (λ x. AddedBy row x ms r) e h

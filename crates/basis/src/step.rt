@@ -74,10 +74,13 @@ pub fn choice(ds: [u8; CLASSES], leads: Leads) -> usize
     best
 }
 
-// A row and the multiple of the pivot's row that takes its discrepancy d away; by is the inverse of the pivot's.
+// A row and the multiple of the pivot's row that takes its discrepancy d away; by is the inverse of the pivot's. Where there is none, the row stays.
 fn next_row(row: Row, d: u8, by: u8, pivots: &Multiples) -> Row
     ensures { λ r. ⌜ AddedBy row (times d by) (now (pivots .entry)) r ⌝ }
 {
+    if d == 0 {
+        return row;
+    }
     added(row, product(d, by), pivots)
 }
 

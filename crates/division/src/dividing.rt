@@ -18,11 +18,14 @@ fn y_powers(c: [u8; 64]) -> [[u8; 64]; 4]
     [c, first, second, third]
 }
 
-// The rest and a multiple of a function moved up by some orders; the rest is changed where it stands.
+// The rest and a multiple of a function moved up by some orders; the rest is changed where it stands. Zero times the function changes nothing.
 fn less(rest: &mut [u8; 64], by: u8, function: [u8; 64], up: usize)
     requires { ⌜ length (now rest) ≡ plainWidth ⌝ }
     ensures { λ _. ⌜ now (rest .exit) ≡ listed plainWidth (lessAt (now (rest .entry)) by function up) ⌝ }
 {
+    if by == 0 {
+        return;
+    }
     let mut k = up;
     while k < 64 {
         rest[k] = rest[k] ^ product(function[k - up], by);

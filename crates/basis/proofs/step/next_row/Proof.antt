@@ -1,6 +1,6 @@
--- The multiple is the product of the discrepancy and the pivot's inverse.
+-- No discrepancy is no multiple; otherwise it is the product of the discrepancy and the pivot's inverse.
 use borrow.Author.Needs.{needs}
-use Rattle.basis.proofs.Rowwise.{added-product}
+use Rattle.basis.proofs.Rowwise.{added-nothing, added-product}
 use Rattle.basis.proofs.step.next_row.Statement.{statement}
 use Rattle.basis.proofs.step.next_row.Tie as tie
 
@@ -11,7 +11,10 @@ added-requires : tie.Need-added-requires
 added-requires c κs = search needs
 
 returns : tie.Need-returns
-returns c = added-product _ _ (c .before .product .ensures) (c .added .ensures)
+returns c = added-nothing _ _ (c .if1 .taken)
+
+returns-2 : tie.Need-returns-2
+returns-2 c = added-product _ _ (c .before .product .ensures) (c .added .ensures)
 
 pub next-row-spec : {M : Type 1} → statement M
-next-row-spec = tie.close (tie.spec product-requires added-requires returns)
+next-row-spec = tie.close (tie.spec returns product-requires added-requires returns-2)

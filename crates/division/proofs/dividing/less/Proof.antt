@@ -1,10 +1,10 @@
--- Each position passed holds the sum there.
+-- Zero changes nothing; otherwise each position passed holds the sum there.
 use borrow.Author.Needs.{needs}
 use mathlib.Core.Path.{_≡_, _∙_}
 use Prim.Native.Nat.{_≤_, _-_}
 use lib.ListN.{length}
 use Rattle.lists.specs.Passed.{Passed, passed-start}
-use Rattle.division.proofs.Less.{Taken, taken-turn, taken-all}
+use Rattle.division.proofs.Less.{Taken, taken-nothing, taken-turn, taken-all}
 use Rattle.division.proofs.dividing.less.Statement.{statement}
 use Rattle.division.proofs.dividing.less.Tie as tie
 
@@ -13,6 +13,9 @@ Inv-loop rest₀ by up function k₀ rest k = (up ≤ k) × (length rest₀ ≡ 
 
 abbrev μ-loop : tie.MeasureT-loop
 μ-loop rest₀ by up function k₀ rest k = 64 - k
+
+returns : tie.Need-returns Inv-loop μ-loop
+returns c = taken-nothing _ _ _ _ (c .if1 .taken) (search needs)
 
 loop-holds : tie.Need-loop-holds Inv-loop μ-loop
 loop-holds c = (search needs, search needs, search needs, passed-start _ _ _ _)
@@ -44,8 +47,8 @@ loop-again c =
     let P = taken-turn _ _ _ _ _ _ _ (i .0) (search needs) (c .product .ensures) (i .3) in
     (search needs, i .1, P .as-long ∙ i .1, P)
 
-returns : tie.Need-returns Inv-loop μ-loop
-returns c = taken-all _ _ _ _ _ (c .before .loop .inv .2) (c .loop-test .left) (c .before .loop .inv .3)
+returns-2 : tie.Need-returns-2 Inv-loop μ-loop
+returns-2 c = taken-all _ _ _ _ _ (c .before .loop .inv .2) (c .loop-test .left) (c .before .loop .inv .3)
 
 pub less-spec : {M : Type 1} → statement M
 less-spec =
@@ -53,6 +56,7 @@ less-spec =
     (tie.spec
     Inv-loop
     μ-loop
+    returns
     loop-holds
     element-copy-out-rest
     sub-product
@@ -62,4 +66,4 @@ less-spec =
     add-k
     loop-less
     loop-again
-    returns)
+    returns-2)
