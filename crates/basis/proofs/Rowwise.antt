@@ -2,8 +2,8 @@
 --
 --   Cleared ds by pivot rows   of row k: what is stored is the row and a multiple of the pivot's
 --   added-nothing, added-product   of no discrepancy the row itself; otherwise by the product that the code computes
---   step-stored                the pivot's row is the last to be stored
-use mathlib.Core.Path.{_≡_, sym, ap, _∙_, subst}
+--   step-stored                the pivot's row is cleared by nothing, and is the last to be stored
+use mathlib.Core.Path.{_≡_, sym, ap, ap₂, _∙_, subst}
 use mathlib.Core.List.{List, []}
 use Prim.Native.Nat.{ℕ, _+_, _<_, _≤_}
 use native.Mathlib.Nat.{le-refl}
@@ -45,7 +45,7 @@ cleared-turn ds by pivot rows out k v {ms} l P A made =
     (record { added = subst (λ (row : List ℕ). Added row (times (getD ds k 0) by) pivot v) (P .later k (le-refl k)) (A .from pivot made) }) P
 
 pub step-stored : (at a : ℕ) (ds : List ℕ) (rows out : List (List ℕ)) (by i : ℕ) (last : List ℕ) → at < classes → classes ≤ i → length rows ≡ classes
-    → by ≡ inverse (getD ds at 0) → Passed [] (Cleared ds by (getD rows at []) rows) 0 i rows out → Raised (getD rows at []) a last
+    → by ≡ inverse (getD ds at 0) → Passed [] (Cleared (set ds at 0) by (getD rows at []) rows) 0 i rows out → Raised (getD rows at []) a last
     → NextRows at a ds rows (set out at last)
 unfolding rowValues
 step-stored at a ds rows out by i last h done size b P R =
@@ -55,7 +55,7 @@ step-stored at a ds rows out by i last h done size b P R =
           ap (λ (row : List ℕ). valueAt p row q) (getD-set-same out at last [] (omega (arith, P .as-long))) ∙ R .lanes p q k m;
       other = λ r k n p q m.
           ap (λ (row : List ℕ). valueAt p row q) (getD-set-other out at r last [] n) ∙ P .stored r (omega arith) (omega arith) .added .lanes p q m
-          ∙ ap (λ x. valueAt p (getD rows r []) q ⊕ toF (times (getD ds r 0) x) ⊗ valueAt p (getD rows at []) q) b;
+          ∙ ap₂ (λ d x. valueAt p (getD rows r []) q ⊕ toF (times d x) ⊗ valueAt p (getD rows at []) q) (getD-set-other ds at r 0 0 n) b;
     }
 
 -- ---- the rows by another symbol

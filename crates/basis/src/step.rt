@@ -84,7 +84,7 @@ fn next_row(row: Row, d: u8, by: u8, pivots: &Multiples) -> Row
     added(row, product(d, by), pivots)
 }
 
-// The rows after a step at class `at`, where the place's x is a. They are changed where they stand.
+// The rows after a step at class `at`, where the place's x is a. They are changed where they stand; the pivot's own is not cleared first.
 pub fn next_rows(rows: &mut Rows, ds: [u8; CLASSES], at: usize, a: u8)
     requires { ⌜ (length (now rows) ≡ 8) × (at < 8) ⌝ }
     ensures { λ _. ⌜ NextRows at a ds (now (rows .entry)) (now (rows .exit)) ⌝ }
@@ -92,10 +92,12 @@ pub fn next_rows(rows: &mut Rows, ds: [u8; CLASSES], at: usize, a: u8)
     let pivot = rows[at];
     let by = inverse(ds[at]);
     let pivots = multiples(pivot);
+    let mut others = ds;
+    others[at] = 0;
     let mut r = 0;
     while r < CLASSES {
         let row = rows[r];
-        rows[r] = next_row(row, ds[r], by, &pivots);
+        rows[r] = next_row(row, others[r], by, &pivots);
         r += 1;
     }
     rows[at] = raised(pivot, a);

@@ -1,4 +1,4 @@
--- Each row passed is cleared, and the row of the pivot is then replaced by the raised one.
+-- Each row passed is cleared, but that of the pivot, which is then replaced by the raised one.
 use borrow.Author.Needs.{needs}
 use mathlib.Core.Path.{_≡_, _∙_}
 use mathlib.Core.List.{[]}
@@ -11,10 +11,10 @@ use Rattle.basis.proofs.step.next_rows.Statement.{statement}
 use Rattle.basis.proofs.step.next_rows.Tie as tie
 
 abbrev Inv-loop : tie.InvT-loop
-Inv-loop rows₀ at a ds pivot by pivots r₀ rows r = (length rows₀ ≡ classes) × (length rows ≡ classes) × Passed [] (Cleared ds by pivot rows₀) 0 r rows₀ rows
+Inv-loop rows₀ at a pivot by pivots others r₀ rows r = (length rows₀ ≡ classes) × (length rows ≡ classes) × Passed [] (Cleared others by pivot rows₀) 0 r rows₀ rows
 
 abbrev μ-loop : tie.MeasureT-loop
-μ-loop rows₀ at a ds pivot by pivots r₀ rows r = classes - r
+μ-loop rows₀ at a pivot by pivots others r₀ rows r = classes - r
 
 mul-pivot : tie.Need-mul-pivot Inv-loop μ-loop
 mul-pivot c = search needs
@@ -31,6 +31,9 @@ inverse-requires c κs = search needs
 multiples-requires : tie.Need-multiples-requires Inv-loop μ-loop
 multiples-requires c κs = search needs
 
+array-write-others : tie.Need-array-write-others Inv-loop μ-loop
+array-write-others c = search needs
+
 loop-holds : tie.Need-loop-holds Inv-loop μ-loop
 loop-holds c = (search needs, search needs, passed-start [] _ 0 _)
 
@@ -46,8 +49,8 @@ array-read-next-row c = search needs
 next-row-requires : tie.Need-next-row-requires Inv-loop μ-loop
 next-row-requires c κs = search needs
 
-mul-t20 : tie.Need-mul-t20 Inv-loop μ-loop
-mul-t20 c = search needs
+mul-t24 : tie.Need-mul-t24 Inv-loop μ-loop
+mul-t24 c = search needs
 
 element-set-from-rows : tie.Need-element-set-from-rows Inv-loop μ-loop
 element-set-from-rows c = search needs
@@ -67,8 +70,8 @@ loop-again c =
 raised-requires : tie.Need-raised-requires Inv-loop μ-loop
 raised-requires c κs = search needs
 
-mul-t11 : tie.Need-mul-t11 Inv-loop μ-loop
-mul-t11 c = search needs
+mul-t12 : tie.Need-mul-t12 Inv-loop μ-loop
+mul-t12 c = search needs
 
 element-set-from-rows-2 : tie.Need-element-set-from-rows-2 Inv-loop μ-loop
 element-set-from-rows-2 c = search needs
@@ -89,17 +92,18 @@ next-rows-spec =
     array-read-inverse
     inverse-requires
     multiples-requires
+    array-write-others
     loop-holds
     mul-row
     element-copy-out-row
     array-read-next-row
     next-row-requires
-    mul-t20
+    mul-t24
     element-set-from-rows
     add-r
     loop-less
     loop-again
     raised-requires
-    mul-t11
+    mul-t12
     element-set-from-rows-2
     returns)
