@@ -20,8 +20,7 @@ use native.Mathlib.Omega.{arith}
 use lib.ListN.{length, getD, take, replicate, length-replicate, getD-replicate}
 use Rattle.lists.specs.Padded.{padded, padded-take, padded-zeros}
 use Rattle.lists.specs.Words.{Word, allBelow-from}
-use Rattle.code.specs.Encoding.{encodeOf}
-use Rattle.code.specs.Rates.{mostRate}
+use Rattle.code.specs.Encoding.{encodeOf, mostRate}
 use Rattle.soft.specs.Column.{symbols}
 use Rattle.totals.specs.declared.margin.Margin.{Margin}
 use Rattle.totals.specs.Margin.{marginFrom, is-from, from-is}

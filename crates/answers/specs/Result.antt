@@ -16,8 +16,7 @@ use native.Mathlib.Omega.{arith}
 use lib.ListN.{take, replicate}
 use Rattle.refusals.specs.Refusal.{accepted, noneNear}
 use Rattle.lists.specs.Padded.{padded}
-use Rattle.code.specs.Encoding.{encodeOf}
-use Rattle.code.specs.Rates.{mostRate}
+use Rattle.code.specs.Encoding.{encodeOf, mostRate}
 use Rattle.soft.specs.Column.{places}
 use Rattle.soft.specs.Blank.{openAt}
 use Rattle.totals.specs.declared.margin.Margin.{Margin}

@@ -6,14 +6,14 @@ ghost use lib.ListN.{take};
 ghost use Rattle.lists.specs.Margin.{lesser};
 ghost use Rattle.lists.specs.Words.{isBefore};
 ghost use Rattle.totals.specs.Margin.{marginIs};
-ghost use Rattle.code.specs.Rates.{mostRate};
+ghost use Rattle.code.specs.Encoding.{mostRate};
 ghost use Rattle.answers.specs.Result.{nothingFound};
 ghost use Rattle.answers.specs.Answered.{missedOf, toldOf};
 ghost use Rattle.answers.specs.Better.{betterOf};
 use candidate::Message;
 use candidate::Word;
-use candidate::rate::MOST_RATE;
 use columns::costs::PLACES;
+use encoding::MOST_RATE;
 use totals::margin::Margin;
 
 // Document 01's answer: no codeword is near, or the total of the cheapest near one, whose message stands beside it, and its margin to the

@@ -19,7 +19,7 @@ use Rattle.lists.specs.Listed.{listed}
 use Rattle.soft.specs.Column.{bestOf, isBlank}
 use Rattle.soft.specs.Doubt.{mostDoubt}
 use Rattle.family.specs.Nodes.{Node, node}
-use Rattle.interpolant.specs.LeastQ.{readingOf}
+use Rattle.interpolant.specs.LeastQ.{readingOf, readingLength}
 use Rattle.interpolant.specs.Bench.{oneAt, placeZero, reading-new, reading-place-0}
 use Rattle.book.specs.Model.{modem64}
 use Rattle.book.specs.Book.{Entry, Book, newBook, columnIn, present, taken, Outcome}
@@ -31,7 +31,7 @@ use Rattle.book.specs.Closing.{refusedClosing}
 use Rattle.book.specs.OpeningLaws.{Rate, rate-known, rate-orders}
 use Rattle.book.specs.Table.{zero-table}
 use Rattle.book.specs.Writing.{Filled}
-use Rattle.book.specs.Reading.{readingLength, highestOrder, isSettled, settledAt, settledBelow, settledOf, readOf}
+use Rattle.book.specs.Reading.{highestOrder, isSettled, settledAt, settledBelow, settledOf, readOf}
 use Rattle.book.specs.ReadingLaws.{settled-nil, settled-yes, settled-no, is-settled, free-unsettled, read-accepted}
 use Rattle.book.specs.ReadingSentences.{blank-delivered}
 use Rattle.book.specs.Here.{places, reportLength, tableLength, columnsOf, deliverOf, tableOf}

@@ -20,13 +20,14 @@ use lib.Dec.{eqb, ltb}
 use lib.ListN.{length}
 use borrow.Author.Tests.{eqb-true, eqb-false}
 use Rattle.refusals.specs.Refusal.{accepted, wrongSize, tooBlank}
+use Rattle.interpolant.specs.LeastQ.{readingLength}
 use Rattle.book.specs.Model.{modem64}
 use Rattle.book.specs.Book.{Book, newBook, taken, Outcome}
 use Rattle.book.specs.Delivery.{withEntry}
 use Rattle.book.specs.Delivery as Delivery
 use Rattle.book.specs.Capture.{captureLength}
 use Rattle.book.specs.Writing.{Filled, writeOf}
-use Rattle.book.specs.Reading.{readingLength, readOf}
+use Rattle.book.specs.Reading.{readOf}
 use Rattle.book.specs.ReadingLaws.{read-kept}
 use Rattle.book.specs.ClosingLaws.{close-kept}
 use Rattle.book.specs.RowLaws.{deliver-accepted, deliver-only}

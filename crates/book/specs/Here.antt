@@ -158,6 +158,9 @@ Repaired k columns doubtful m c = Repairs.Repaired modem64 k columns doubtful m 
 abbrev pub NoDearer : ℕ → (ℕ → List ℕ) → List ℕ → List ℕ → Closed → Type 0
 NoDearer k columns doubtful m c = Repairs.NoDearer modem64 k columns doubtful m c
 
+abbrev pub TooFar : ℕ → (ℕ → List ℕ) → ℕ → List ℕ → Type 0
+TooFar k columns T m = Repairs.TooFar modem64 k columns T m
+
 -- ---- the report
 
 abbrev pub pinnedIn : List ℕ → ℕ

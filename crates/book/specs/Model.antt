@@ -5,7 +5,7 @@
 --                      hands back, a known one; how many bytes the report has for each count of places; and that no count, total or number of test
 --                      words is too large for its bytes
 --   places 𝓓, width 𝓓  how many places there are, and how many costs a column has: one for each symbol
---   modem64            document 01's: GF(16) with w = 4, so 64 places and sixteen costs; rates 39 and 49, a doubt of at most 12, rate 39 after a refusal,
+--   modem64            document 01's: GF(16) with w = 4, so 64 places and sixteen costs; rates 6 to 52, a doubt of at most 12, rate 39 after a refusal,
 --                      and a byte for each count
 use mathlib.Core.Bool.{Bool, true}
 use mathlib.Core.Path.{_≡_, refl}

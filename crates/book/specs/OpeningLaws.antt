@@ -8,29 +8,28 @@
 --
 -- Of the modem of 64 places:
 --
---   Rate rate            the two rates: 39 and 49
+--   Rate rate            a rate: any from 6 to 52
 --   rate-known, known-rate   the rates that pass the test
---   reachAt, rate-reach  T without blank places: 6 at rate 39, 1 at rate 49
---   mostBlank, rate-blanks   the most blank places: 13 at rate 39, 3 at rate 49; so many leave T = 0
---   rate-orders          M is at least 43, so that the 82 bytes of a reading have room for the least Q
+--   rate-workable        each has a T; rate-reach: with no more blank places than its limit
+--   rate-blanks          that limit is 57 − M, where M is five more than the rate; so many leave T = 0
+--   rate-orders          M is at least 11, so that the 98 bytes of a reading have room for the least Q
+--   rate-6, rate-39, rate-49, rate-52   four of them; rate-reaches: T without blank places at three
 use mathlib.Core.Bool.{true, _&&_}
-use mathlib.Core.Path.{_≡_, refl, sym, subst}
+use mathlib.Core.Path.{_≡_, refl, subst}
 use mathlib.Core.List.{List, [], _∷_}
-use mathlib.Core.Logic.{⊎-elim}
-use Prim.Native.Nat.{ℕ, zero, suc, _<_, _≤_}
+use Prim.Native.Nat.{ℕ, zero, suc, _+_, _-_, _<_, _≤_}
 use native.Mathlib.Nat.{le-of-suc-le-suc}
 use native.Mathlib.Omega.{arith}
-use lib.Dec.{ltb, leb}
+use lib.Dec.{ltb, leb, lit≤}
 use lib.ListN.{length, getD}
 use borrow.Author.Tests.{lt-ltb, leb-true, le-leb}
 use Rattle.lists.specs.Distinct.{below, below-at, and-left, and-right, and-both}
 use Rattle.code.specs.Encoding.{knownRate}
-use Rattle.code.specs.Rates.{known-rates}
-use Rattle.near.specs.Near.{mOf}
+use Rattle.code.specs.Rates.{known-bounds, bounds-known}
 use Rattle.near.specs.Reach.{reach-is}
-use Rattle.near.specs.Here.{blankLimit, IsReach, reaches, blank-limits}
+use Rattle.near.specs.Here.{mOf, m-is, blankLimit, blank-limit-is, reachOf, Workable, workable, IsReach, limit-reach, reach-table}
 use Rattle.family.specs.Member.{m16}
-use Rattle.book.specs.Model.{Model, places, known-workable}
+use Rattle.book.specs.Model.{Model, places}
 use Rattle.book.specs.Opening.{risingFrom, rising, fitPlaces, fitDoubt}
 
 rising-of : (n : ℕ) (list : List ℕ) → (0 < length list → n ≤ getD list 0 0)
@@ -98,44 +97,43 @@ module _ (𝓓 : Model) where
 
 -- ---- the modem of 64 places
 
-pub data Rate : ℕ → Type 0 where
-  rate-39 : Rate 39
-  rate-49 : Rate 49
+pub record Rate (rate : ℕ) : Type 0 where
+  pub least : 6 ≤ rate
+  pub most : rate ≤ 52
 
 pub rate-known : {rate : ℕ} → Rate rate → knownRate rate ≡ true
-unfolding knownRate
-rate-known rate-39 = refl
-rate-known rate-49 = refl
+rate-known r = bounds-known (r .least) (r .most)
 
 pub known-rate : (rate : ℕ) → knownRate rate ≡ true → Rate rate
-known-rate rate e = ⊎-elim (λ f. subst Rate (sym f) rate-39) (λ f. subst Rate (sym f) rate-49) (known-rates rate e)
+known-rate rate e = let b = known-bounds rate e in record { least = b .0; most = b .1 }
 
--- 'T = 6 at rate 39, T = 1 at rate 49'
-unfoldable pub reachAt : {rate : ℕ} → Rate rate → ℕ
-reachAt rate-39 = 6
-reachAt rate-49 = 1
+pub rate-workable : {rate : ℕ} → Rate rate → Workable rate
+rate-workable r = workable (r .least) (r .most)
 
--- 'more than 13 blanks at rate 39, more than 3 at rate 49'
-unfoldable pub mostBlank : {rate : ℕ} → Rate rate → ℕ
-mostBlank rate-39 = 13
-mostBlank rate-49 = 3
+pub rate-reach : {rate b : ℕ} → Rate rate → b ≤ blankLimit rate → IsReach rate b (reachOf rate b)
+rate-reach r few = reach-is m16 (rate-workable r) few
 
-pub rate-reach : {rate : ℕ} (r : Rate rate) → IsReach rate 0 (reachAt r)
-unfolding reachAt
-rate-reach rate-39 = subst (IsReach 39 0) (reaches .1) (reach-is m16 (known-workable 39 (rate-known rate-39)) (omega arith))
-rate-reach rate-49 = subst (IsReach 49 0) (reaches .3) (reach-is m16 (known-workable 49 (rate-known rate-49)) (omega arith))
+-- document 02: 'the blank limit (57 − M)', 'M = k + 5'
+pub rate-blanks : {rate : ℕ} → Rate rate → (blankLimit rate ≡ 57 - (rate + 5)) × IsReach rate (57 - (rate + 5)) 0
+rate-blanks {rate} r =
+    let e : blankLimit rate ≡ 57 - (rate + 5) = omega (arith, blank-limit-is rate, m-is rate) in
+    (e, subst (λ b. IsReach rate b 0) e (limit-reach (rate-workable r)))
 
-pub rate-blanks : {rate : ℕ} (r : Rate rate) → (blankLimit rate ≡ mostBlank r) × IsReach rate (mostBlank r) 0
-unfolding mostBlank
-rate-blanks rate-39 = (
-  blank-limits .0,
-  subst (IsReach 39 13) (blank-limits .1) (reach-is m16 (known-workable 39 (rate-known rate-39)) (omega (arith, blank-limits .0))),
-)
-rate-blanks rate-49 = (
-  blank-limits .2,
-  subst (IsReach 49 3) (blank-limits .3) (reach-is m16 (known-workable 49 (rate-known rate-49)) (omega (arith, blank-limits .2))),
-)
+pub rate-orders : {rate : ℕ} → Rate rate → 11 ≤ mOf rate
+rate-orders {rate} r = omega (arith, m-is rate, r .least)
 
-pub rate-orders : {rate : ℕ} → Rate rate → 43 ≤ mOf m16 rate
-rate-orders rate-39 = omega (arith, reaches .0)
-rate-orders rate-49 = omega (arith, reaches .2)
+pub rate-6 : Rate 6
+rate-6 = record { least = lit≤ tt; most = lit≤ tt }
+
+pub rate-39 : Rate 39
+rate-39 = record { least = lit≤ tt; most = lit≤ tt }
+
+pub rate-49 : Rate 49
+rate-49 = record { least = lit≤ tt; most = lit≤ tt }
+
+pub rate-52 : Rate 52
+rate-52 = record { least = lit≤ tt; most = lit≤ tt }
+
+-- document 01: 'T = 6 at rate 39, T = 1 at rate 49'; document 02: 'rate 52 repairs nothing beyond its test words'
+pub rate-reaches : IsReach 39 0 6 × IsReach 49 0 1 × IsReach 52 0 0
+rate-reaches = (reach-table 0 .0 (lit≤ tt), reach-table 0 .1 (lit≤ tt), rate-blanks rate-52 .1)

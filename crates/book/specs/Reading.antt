@@ -4,7 +4,7 @@
 --   isSettled book p       p is taken, not doubtful and not blank
 --   settledBelow book n    the settled places below n, each with its best symbol
 --   settledOf book         all of them: the row as a set decides, in whatever order its places were accepted
---   readOf book out        2 if the buffer is not of 82 bytes, the buffer as it was; else 0 and the 82 bytes of the least Q for the row's settled places
+--   readOf book out        2 if the buffer is not of 98 bytes, the buffer as it was; else 0 and the 98 bytes of the least Q for the row's settled places
 use mathlib.Core.Bool.{Bool, cond, not, _&&_}
 use mathlib.Core.List.{List, [], _∷_}
 use Prim.Native.Nat.{ℕ, zero, suc}
@@ -16,13 +16,10 @@ use Rattle.soft.specs.Column.{bestOf}
 use Rattle.soft.specs.Blank.{openAt}
 use Rattle.family.specs.Nodes.{Node, node}
 use Rattle.near.specs.Here.{mOf}
-use Rattle.interpolant.specs.LeastQ.{readingOf}
+use Rattle.interpolant.specs.LeastQ.{readingLength, readingOf}
 use Rattle.book.specs.Book.{Book, taken}
 use Rattle.book.specs.Writing.{Filled}
 use Rattle.book.specs.Here.{places, columnsOf}
-
-abbrev pub readingLength : ℕ
-readingLength = 82
 
 abbrev pub highestOrder : Book → ℕ
 highestOrder book = mOf (book .rate)

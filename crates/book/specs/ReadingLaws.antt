@@ -24,13 +24,13 @@ use Rattle.refusals.specs.Refusal.{accepted, wrongSize}
 use Rattle.soft.specs.Column.{bestOf, isBlank}
 use Rattle.soft.specs.Blank.{openAt}
 use Rattle.family.specs.Nodes.{Node, node}
-use Rattle.interpolant.specs.LeastQ.{readingOf}
+use Rattle.interpolant.specs.LeastQ.{readingOf, readingLength}
 use Rattle.interpolant.specs.Reading.{reading-size, reading-any-order}
 use Rattle.book.specs.Model.{modem64}
 use Rattle.book.specs.Book.{Entry, Book, taken}
 use Rattle.book.specs.Columns.{columns-taken, column-taken}
 use Rattle.book.specs.Writing.{Filled}
-use Rattle.book.specs.Reading.{readingLength, highestOrder, isSettled, settledAt, settledBelow, settledOf, readOf}
+use Rattle.book.specs.Reading.{highestOrder, isSettled, settledAt, settledBelow, settledOf, readOf}
 use Rattle.book.specs.RowLaws.{placesOf, taken-among}
 use Rattle.book.specs.Entries.{place-among, entry-column, column-entry}
 use Rattle.book.specs.Here.{places, columnsOf, Proper}

@@ -1,6 +1,6 @@
 -- Document 01's sentences about interpolant readings, each a theorem of the book of the modem of 64 places.
 --
---   Reads book bytes, reading-least   reading into 82 bytes shows the least Q through the row's settled places, those taken, not doubtful and not blank:
+--   Reads book bytes, reading-least   reading into 98 bytes shows the least Q through the row's settled places, those taken, not doubtful and not blank:
 --                        each coefficient in its byte, none outside the bytes, and 0 for missing orders
 --   blank-unread         a blank column at the end of the row, at a place that was free, changes no reading; blank-delivered: so no delivery of a blank
 --                        column does, whether it is accepted or refused
@@ -17,7 +17,7 @@ use Rattle.refusals.specs.Refusal.{accepted}
 use Rattle.soft.specs.Column.{isBlank}
 use Rattle.hermitian.specs.Present.{Present}
 use Rattle.hermitian.specs.Keys.{Term, plain, timesZ, key}
-use Rattle.interpolant.specs.LeastQ.{coefficient}
+use Rattle.interpolant.specs.LeastQ.{coefficient, readingLength}
 use Rattle.interpolant.specs.Meaning.{IsLeastQ, Shown}
 use Rattle.interpolant.specs.Least.{leastQ-some}
 use Rattle.interpolant.specs.Reading.{reading-size, reading-plain, reading-z, missing-plain, missing-z, all-shown}
@@ -29,12 +29,12 @@ use Rattle.book.specs.Columns as Columns
 use Rattle.book.specs.Delivery.{withEntry}
 use Rattle.book.specs.RowLaws.{snoc-here, snoc-other, deliver-accepted, deliver-only}
 use Rattle.book.specs.Sentences.{deliver-kept}
-use Rattle.book.specs.Reading.{readingLength, highestOrder, isSettled, settledAt, settledBelow, settledOf, readOf}
+use Rattle.book.specs.Reading.{highestOrder, isSettled, settledAt, settledBelow, settledOf, readOf}
 use Rattle.book.specs.ReadingLaws.{settled-no, free-unsettled, settled-few, read-accepted}
 use Rattle.book.specs.OpeningLaws.{Rate, rate-orders}
 use Rattle.book.specs.Here.{places, columnsOf, deliverOf}
 
--- ---- 'the 82 bytes of the least Q for the row's settled places'; document 02: a blank place 'is not interpolated'
+-- ---- 'the … bytes of the least Q for the row's settled places', of document 02 98 of them; a blank place 'is not interpolated'
 
 pub record Reads (book : Book) (bytes : List ℕ) : Type 0 where
   pub q : List ℕ
@@ -42,11 +42,11 @@ pub record Reads (book : Book) (bytes : List ℕ) : Type 0 where
   pub least : IsLeastQ (highestOrder book) (settledOf book) q highest
   pub size : length bytes ≡ readingLength
   pub without-z : (o : ℕ) → o ≤ 64 → getD bytes o 0 ≡ coefficient q (key (highestOrder book) (plain o))
-  pub with-z : (o : ℕ) → o ≤ 16 → getD bytes (65 + o) 0 ≡ coefficient q (key (highestOrder book) (timesZ o))
+  pub with-z : (o : ℕ) → o ≤ 32 → getD bytes (65 + o) 0 ≡ coefficient q (key (highestOrder book) (timesZ o))
   -- 'It shows the least Q': all of it
   pub all-there : (k : ℕ) → coefficient q k ≢ 0 → Shown (highestOrder book) k
   -- 'missing orders hold 0'
-  pub missing-zero : (o : ℕ) → ¬ Present 4 o → (o ≤ 64 → getD bytes o 0 ≡ 0) × (o ≤ 16 → getD bytes (65 + o) 0 ≡ 0)
+  pub missing-zero : (o : ℕ) → ¬ Present 4 o → (o ≤ 64 → getD bytes o 0 ≡ 0) × (o ≤ 32 → getD bytes (65 + o) 0 ≡ 0)
 
 pub reading-least : (book : Book) → Rate (book .rate) → (out : List ℕ) → length out ≡ readingLength
     → (readOf book out .number ≡ accepted) × Reads book (readOf book out .bytes)

@@ -1,4 +1,4 @@
--- What closing and table decoding make of a message that was sent: when they give it back, and when they give nothing dearer.
+-- What closing and table decoding make of a message that was sent: when they give it back, when they give nothing dearer, and when they refuse.
 --
 --   wrongOf n columns doubtful word   the wrong places: settled ones, of n, that are not blank and at which the word's symbol is not the best symbol
 --   FewWrong k columns doubtful T m   m is a message; at each doubtful place that is not blank its codeword has the best or the second symbol, and at
@@ -15,9 +15,15 @@
 --                        message sent
 --   faded-repaired       so it does where no more places are blank than the limit says and at most T of the others are wrong
 --   faded-right          and where none of the others is wrong; thirteen-faded: at rate 39 with up to 13 blank places
+--   TooFar k columns T m more than T places that are not blank have not the sent symbol as their best one, but so few that no other codeword can be near
+--                        then: with M, T and the blank places they are less than all places
+--   always-refused       no doubtful places, and the message sent is so far: closing says 'none near', and nothing else is taken for it; the buffers are as
+--                        they were
+--   refused-at-52        so at rate 52 with 1 to 6 wrong symbols and none blank
 --   always-found         few wrong places: closing never says 'none near', and gives the message sent or one that is no dearer
 --   table-repaired       table decoding with doubt 0 gives the message sent where at most T of its symbols, blank places left out, are not the best symbols
 --   table-faded          so where no more places are blank than the limit says and none of the others is wrong
+--   table-refused        so does table decoding with doubt 0 refuse
 --   table-found          with no larger doubt than the largest it never says 'none near' where few places are wrong by the doubtful places picked
 --
 -- T is always the one that the blank places leave (Reach): there is none if they are too many.
@@ -29,12 +35,12 @@ use mathlib.Core.Bool.{Bool, true, false, not, _&&_, _||_, true≢false, false�
 use mathlib.Core.Path.{_≡_, refl, sym, ap, _∙_, subst, subst₂}
 use mathlib.Core.List.{List, [], _∷_, List·Memᴰ, List·Memᴰ·head, List·Memᴰ·tail, List·Memᴰ·eq-of-singleton}
 use mathlib.Core.Logic.{_≢_, _⊎_, inl, inr, ⊎-elim}
-use Prim.Native.Nat.{ℕ, zero, suc, _<_, _≤_}
+use Prim.Native.Nat.{ℕ, zero, suc, _+_, _<_, _≤_}
 use native.Mathlib.Omega.{arith}
 use lib.Dec.{T as Holds, eqb, le→leb}
 use lib.ListN.{length, getD}
 use borrow.Author.Tests.{eqb-true, eq-eqb}
-use Rattle.refusals.specs.Refusal.{accepted}
+use Rattle.refusals.specs.Refusal.{accepted, noneNear}
 use Rattle.lists.specs.Count.{count, count-mono, count-none}
 use Rattle.lists.specs.Every.{both-left, both-right, both-intro, T-true}
 use Rattle.lists.specs.Distinct.{among, among-member, below, below-append, below-one, below-nil, below-among, distinct, distinct-nil, distinct-snoc, and-both}
@@ -46,21 +52,24 @@ use Rattle.soft.specs.BlankLaws.{unblanked-nil}
 use Rattle.soft.specs.TestWord.{bestAt, Offered, bestWord, expand, testWords}
 use Rattle.soft.specs.TestWordLaws.{expand-nil, testWords-length, testWords-settled, chosen-test}
 use Rattle.soft.specs.Total.{symbolAt, changedAt, changedOf, totalOf, differAt, differingIn}
-use Rattle.soft.specs.TotalLaws.{agree-true, changed-differing}
+use Rattle.soft.specs.TotalLaws.{agree-true, changed-differing, differing-comm, differing-triangle}
 use Rattle.soft.specs.DoubtLaws.{doubtful-none}
 use Rattle.family.specs.Member.{m16}
 use Rattle.family.specs.Encoding.{encodeOf}
 use Rattle.family.specs.Evaluation.{encode-length}
-use Rattle.near.specs.Near.{blankLimit, reachOf, nearTo}
+use Rattle.near.specs.Near.{mOf, blankLimit, reachOf, nearTo}
 use Rattle.near.specs.Reach.{Workable, Reach, reach-is, reach-only, reach-within, reachIn, repairs-open}
 use Rattle.near.specs.Codeword.{near-one}
+use Rattle.near.specs.Distance.{open-apart}
+use Rattle.near.specs.Here as Near
 use Rattle.code.specs.Encoding.{knownRate}
 use Rattle.book.specs.Model.{Model, places, width, modem64}
 use Rattle.book.specs.Book.{Entry, Book}
 use Rattle.book.specs.Columns.{columnsOf}
 use Rattle.book.specs.Entries.{Missing, missing-none}
 use Rattle.book.specs.Closing.{reportLength, Closed, reportFor, closeOf}
-use Rattle.book.specs.OpeningLaws.{Known, rate-39, rate-known, mostBlank, rate-blanks}
+use Rattle.book.specs.ClosingLaws.{Kept, close-kept}
+use Rattle.book.specs.OpeningLaws.{Known, rate-39, rate-52, rate-known, rate-blanks}
 use Rattle.book.specs.Sentences.{testsOf, totalFor, blanksIn, IsNear, Dearer, IsAnswer, Closes, closes}
 use Rattle.book.specs.Table.{tableLength, tableColumns, pickedOf, tableOf, Delivered, delivered-columns, delivered-none-missing, table-as-session, entriesOf, order-delivered}
 
@@ -192,6 +201,15 @@ module _ (𝓓 : Model) where
     pub tie : totalOf (places 𝓓) columns (encodeOf member k (c .message)) ≡ totalOf (places 𝓓) columns (encodeOf member k m) → (c .message ≡ m) ⊎ Lex (c .message) m
     pub report : c .report ≡ reportFor 𝓓 k columns doubtful (c .message)
 
+  pub record TooFar (k : ℕ) (columns : ℕ → List ℕ) (T : ℕ) (m : List ℕ) : Type 0 where
+    pub word : Word (width 𝓓) k m
+    pub far : T < notBest k columns m
+    pub alone : notBest k columns m + T + mOf member k + blanksOf (places 𝓓) columns < places 𝓓
+
+  pub record RefusedAs (n : ℕ) (message report : List ℕ) (c : Closed) : Type 0 where
+    pub number : c .number ≡ n
+    pub kept : Kept message report c
+
   abbrev pub RepairedIn : Book → List ℕ → Closed → Type 0
   RepairedIn book = Repaired (book .rate) (columnsOf 𝓓 (book .row)) (book .doubtful)
 
@@ -292,6 +310,34 @@ module _ (𝓓 : Model) where
           near-one member (openAt (columnsOf 𝓓 (book .row))) (reachIn member (book .rate) (columnsOf 𝓓 (book .row))) can (bestIn book)
           (repairs-open member can (columnsOf 𝓓 (book .row)) (reach-within member reach)) (near-best n other) (near-best m near))
 
+      -- near the word of best symbols
+      near-few : (n : List ℕ) → IsNear 𝓓 book T n → notBest (book .rate) (columnsOf 𝓓 (book .row)) n ≤ T
+      near-few n near =
+          let e : near .test ≡ bestIn book = List·Memᴰ·eq-of-singleton (subst (List·Memᴰ (near .test)) (one-test book none-doubtful) (near .tested)) in
+          omega (arith, near .few, ap (differingIn (openAt (columnsOf 𝓓 (book .row))) (places 𝓓) (encodeOf member (book .rate) n)) e)
+
+      pub closes-refused : (m : List ℕ) → TooFar (book .rate) (columnsOf 𝓓 (book .row)) T m → c .number ≡ noneNear
+      closes-refused m far = sentences .none-near full reach .1 (λ n near. go n near (equal-or n m))
+        where
+          columns : ℕ → List ℕ
+          columns = columnsOf 𝓓 (book .row)
+
+          codeword : List ℕ → List ℕ
+          codeword = encodeOf member (book .rate)
+
+          -- the sent one is too far, and another one too near to it
+          go : (n : List ℕ) → IsNear 𝓓 book T n → (n ≡ m) ⊎ (m ≢ n) → ⊥
+          go n near (inl e) = omega (arith, near-few n near, far .far, ap (notBest (book .rate) columns) e)
+          go n near (inr d) =
+              omega (
+                arith,
+                near-few n near,
+                far .alone,
+                open-apart member columns (workable (book .rate) rate) (near .word) (far .word) (λ e. d (sym e)),
+                differing-triangle (openAt columns) (places 𝓓) (codeword n) (bestIn book) (codeword m),
+                differing-comm (openAt columns) (places 𝓓) (bestIn book) (codeword m),
+              )
+
   -- ---- closing
 
   module _ (book : Book) (full : (p : ℕ) → Missing 𝓓 (book .row) p → ⊥) (message report : List ℕ) (long : length message ≡ book .rate)
@@ -303,6 +349,12 @@ module _ (𝓓 : Model) where
       pub always-repaired : Known 𝓓 (book .rate) → book .doubtful ≡ [] → Word (width 𝓓) (book .rate) m
           → notBest (book .rate) (columnsOf 𝓓 (book .row)) m ≤ T → RepairedIn book m (closeOf 𝓓 book message report)
       always-repaired rate none-doubtful = closes-repaired (closes 𝓓 message report long whole-report) full reach rate none-doubtful m
+
+      pub always-refused : Known 𝓓 (book .rate) → book .doubtful ≡ [] → TooFar (book .rate) (columnsOf 𝓓 (book .row)) T m
+          → RefusedAs noneNear message report (closeOf 𝓓 book message report)
+      always-refused rate none-doubtful far =
+          let e = closes-refused (closes 𝓓 message report long whole-report) full reach rate none-doubtful m far in
+          record { number = e; kept = close-kept 𝓓 book message report (λ a. absurd (omega (arith, e, a))) }
 
       pub always-found : FewWrongIn book T m → NoDearerIn book m (closeOf 𝓓 book message report)
       always-found = closes-found (closes 𝓓 message report long whole-report) full reach m
@@ -360,6 +412,12 @@ module _ (𝓓 : Model) where
         rated (none-picked table) word
         (subst (λ c. notBest rate c m ≤ T) (sym columns) few))))
 
+    pub table-refused : TooFar rate (tableColumns 𝓓 table) T m → RefusedAs noneNear message report (tableOf 𝓓 rate table 0 message report)
+    table-refused far =
+        subst (RefusedAs noneNear message report) (session 0 (omega arith))
+        (always-refused (record { rate = rate; doubtful = pickedOf 𝓓 table 0; row = inOrder table }) full message report long whole-report m row-reach
+        rated (none-picked table) (subst (λ c. TooFar rate c T m) (sym columns) far))
+
     pub table-found : (doubt : ℕ) → doubt ≤ mostDoubt → FewWrong rate (tableColumns 𝓓 table) (pickedOf 𝓓 table doubt) T m
         → NoDearer rate (tableColumns 𝓓 table) (pickedOf 𝓓 table doubt) m (tableOf 𝓓 rate table doubt message report)
     table-found doubt most few =
@@ -381,7 +439,7 @@ module _ (𝓓 : Model) where
 
 -- up to '13 blanks at rate 39', and the others arrived as they were sent
 pub thirteen-faded : (book : Book) → book .rate ≡ 39 → book .doubtful ≡ [] → ((p : ℕ) → Missing modem64 (book .row) p → ⊥)
-    → blanksIn modem64 book ≤ mostBlank rate-39 → (message report : List ℕ) → length message ≡ 39 → length report ≡ reportLength modem64
+    → blanksIn modem64 book ≤ 13 → (message report : List ℕ) → length message ≡ 39 → length report ≡ reportLength modem64
     → (m : List ℕ) → Word (width modem64) 39 m
     → ((p : ℕ) → p < places modem64 → openAt (columnsOf modem64 (book .row)) p ≡ true → symbolAt (encodeOf m16 39 m) p ≡ bestAt (columnsOf modem64 (book .row)) p)
     → Repaired modem64 39 (columnsOf modem64 (book .row)) [] m (closeOf modem64 book message report)
@@ -390,3 +448,15 @@ thirteen-faded book rate none-doubtful full few message report long whole-report
     (faded-right modem64 book full message report (long ∙ sym rate) whole-report m (subst (λ k. knownRate k ≡ true) (sym rate) (rate-known rate-39)) none-doubtful
     (subst (λ k. Word (width modem64) k m) (sym rate) word) (omega (arith, rate-blanks rate-39 .0, ap (blankLimit m16) rate))
     (λ p l o. ap (λ k. symbolAt (encodeOf m16 k m) p) rate ∙ right p l o))
+
+-- document 02: 'rate 52 … without doubt still refuses a codeword with 1 to 6 wrong symbols'
+pub refused-at-52 : (book : Book) → book .rate ≡ 52 → book .doubtful ≡ [] → ((p : ℕ) → Missing modem64 (book .row) p → ⊥) → blanksIn modem64 book ≡ 0
+    → (message report : List ℕ) → length message ≡ 52 → length report ≡ reportLength modem64 → (m : List ℕ) → Word (width modem64) 52 m
+    → 1 ≤ notBest modem64 52 (columnsOf modem64 (book .row)) m → notBest modem64 52 (columnsOf modem64 (book .row)) m ≤ 6
+    → RefusedAs modem64 noneNear message report (closeOf modem64 book message report)
+refused-at-52 book rate none-doubtful full none-blank message report long whole-report m word some few =
+    always-refused modem64 book full message report (long ∙ sym rate) whole-report m
+    (subst₂ (λ k b. Reach m16 k b 0) (sym rate) (sym none-blank) (rate-blanks rate-52 .1))
+    (subst (λ k. knownRate k ≡ true) (sym rate) (rate-known rate-52)) none-doubtful
+    (subst (λ k. TooFar modem64 k (columnsOf modem64 (book .row)) 0 m) (sym rate)
+    (record { word = word; far = some; alone = omega (arith, few, none-blank, Near.m-is 52) }))

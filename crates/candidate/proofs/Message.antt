@@ -11,8 +11,8 @@ use Rattle.lists.specs.Filled.{Filled}
 use Rattle.lists.specs.Over.{over}
 use Rattle.lists.specs.Padded.{padded, padded-over}
 use Rattle.hermitian.specs.Orders.{orderOf}
-use Rattle.code.specs.Encoding.{encodeOf}
-use Rattle.code.specs.Rates.{mostRate, longest}
+use Rattle.code.specs.Encoding.{encodeOf, mostRate}
+use Rattle.code.specs.Rates.{longest}
 use Rattle.family.specs.Evaluation.{encode-beyond}
 use Rattle.candidate.specs.Candidate.{symbolIn}
 use Rattle.family.specs.Member.{m16}

@@ -17,8 +17,7 @@ use Rattle.rows.specs.Rows.{xOrder, coef, coef-at}
 use Rattle.division.specs.Dividing.{Divided}
 use Rattle.values.specs.Holds.{Holds}
 use Rattle.interpolation.specs.Parts.{valuesOf, firstOf, secondOf, first-is, second-is}
-use Rattle.code.specs.Encoding.{encodeOf}
-use Rattle.code.specs.Rates.{mostRate}
+use Rattle.code.specs.Encoding.{encodeOf, mostRate}
 use Rattle.soft.specs.Column.{places, symbols}
 use Rattle.near.specs.Here.{mOf, Workable}
 use Rattle.family.specs.Member.{m16}
@@ -27,7 +26,7 @@ use Rattle.near.specs.Codeword.{symbolsOf-at, messageFrom, messageFrom-word}
 use Rattle.near.specs.Held.{Held, message-in, held-lead, held-divides}
 use Rattle.candidate.specs.declared.Candidate.{Candidate}
 use Rattle.candidate.specs.Candidate.{symbolIn, CandidateOf}
-use Rattle.candidate.specs.Ranged.{Ranged, workable, top-small}
+use Rattle.candidate.specs.Ranged.{Ranged, workable}
 
 module _ {k : ℕ} (rate : Ranged k) (word row function : List ℕ) (divided : Divided (firstOf word row) (secondOf row) (mOf k) function) where
   candidate-is : listed k (symbolIn function) ≡ messageFrom m16 k (coef function)
@@ -49,7 +48,6 @@ module _ {k : ℕ} (rate : Ranged k) (word row function : List ℕ) (divided : D
       (divided .exact (j .0)
       (record {
         leads = subst (λ g. Lead K16 g (j .0)) (sym (second-is row holds small)) (j .2);
-        powers-fit = omega (arith, fits, top-small rate);
         terms-fit = fits;
       })
       ∙ ap₂ (λ r q. quotient K16 xOrder (j .0) r (mOf k) q) (second-is row holds small) (first-is row holds small))

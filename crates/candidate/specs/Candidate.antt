@@ -16,8 +16,7 @@ use Rattle.lists.specs.Words.{Word}
 use Rattle.lists.specs.Answers.{Found}
 use Rattle.algebra.specs.Coefficients.{Lead}
 use Rattle.galois.specs.Field16.{GF, K16}
-use Rattle.code.specs.Encoding.{encodeOf}
-use Rattle.code.specs.Rates.{mostRate}
+use Rattle.code.specs.Encoding.{encodeOf, mostRate}
 use Rattle.soft.specs.Blank.{openAt}
 use Rattle.soft.specs.Column.{places, symbols}
 use Rattle.soft.specs.TestWord.{expand}

@@ -1,9 +1,8 @@
--- The rates that rows have room for.
+-- The rates by their bounds.
 --
---   leastRate       27, the smallest of them
---   Ranged k        k from there to the largest rate
+--   Ranged k        k from the smallest rate to the largest
 --   workable        such a rate has a T
---   top-small       M is from 32 to 54
+--   top-small       M is at most 57
 --   reach-small     T is at most 28, however many places are blank
 --   limit-small     the limit of keys is at most 127, the largest key that a row has room for
 use Prim.Native.Nat.{ℕ, _≤_}
@@ -11,14 +10,11 @@ use native.Mathlib.Omega.{arith}
 use Rattle.hermitian.specs.Orders.{orderOf-most}
 use Rattle.hermitian.specs.Repair.{limit}
 use Rattle.rows.specs.Rows.{xOrder}
-use Rattle.code.specs.Rates.{mostRate}
+use Rattle.code.specs.Encoding.{leastRate, mostRate}
 use Rattle.near.specs.Here.{mOf, reachOf, Workable, genus-4, limitOf, workable as within}
 use Rattle.near.specs.Interpolated as Interpolated
 use Rattle.near.specs.Near as Near
 use Rattle.hermitian.specs.Present.{genus}
-
-abbrev pub leastRate : ℕ
-leastRate = 27
 
 pub record Ranged (k : ℕ) : Type 0 where
   pub least : leastRate ≤ k
@@ -27,7 +23,7 @@ pub record Ranged (k : ℕ) : Type 0 where
 pub workable : {k : ℕ} → Ranged k → Workable k
 workable h = within (omega arith) (omega arith)
 
-pub top-small : {k : ℕ} → Ranged k → (32 ≤ mOf k) × (mOf k ≤ 54)
+pub top-small : {k : ℕ} → Ranged k → mOf k ≤ 57
 unfolding Near.mOf genus
 top-small h = omega arith
 

@@ -8,11 +8,6 @@ ghost use Rattle.candidate.specs.Ranged.{Ranged};
 use encoding::order;
 use interpolation::PLACES;
 
-// The rates that rows have room for.
-pub const LEAST_RATE: usize = 27;
-
-pub const MOST_RATE: usize = 49;
-
 // The genus of the curve: so many orders are absent.
 const GENUS: usize = 6;
 

@@ -7,12 +7,10 @@ use Prim.Native.Nat.{ℕ, _*_, _<_, _≤_}
 use native.Mathlib.Omega.{arith}
 use lib.ListN.{length, take}
 use borrow.Author.Tests.{eq-eqb, ne-eqb, le-leb, lt-leb}
-use Rattle.code.specs.Encoding.{knownRate}
-use Rattle.code.specs.Rates.{mostRate}
+use Rattle.code.specs.Encoding.{leastRate, mostRate, knownRate}
 use Rattle.soft.specs.Column.{places, symbols, columnOf}
 use Rattle.soft.specs.Doubt.{mostDoubt}
 use Rattle.near.specs.Here.{blankLimit, blanksIn}
-use Rattle.candidate.specs.Ranged.{leastRate}
 use Rattle.answers.specs.declared.Found.{Found}
 use Rattle.chase.specs.Call.{Asked, wellFormed, nearestOf}
 use Rattle.chase.specs.Laws.{form-asked, nearest-unasked}

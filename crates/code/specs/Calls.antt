@@ -1,5 +1,5 @@
 -- What encoding and reading back return and leave in the caller's buffer, for all arguments, in the order of document 01's checks: the
--- family's, at GF(16) with w = 4 and rates 39 and 49.
+-- family's, at GF(16) with w = 4 and rates 6 to 52.
 --
 --   fitsFrame          there are 64 bytes of the frame from the start
 --   encodeCall         encode: rate; message of k bytes and 64 bytes of the frame; symbols

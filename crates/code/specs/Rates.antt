@@ -1,26 +1,21 @@
 -- What a known rate is.
 --
---   mostRate         49, the largest rate, and the length of the longest message
 --   longest          58: so many orders below 64 are present, and up to so many symbols are read back (longest-is)
 --   order-fits       the order of one of so many symbols is present, and below 64
---   known-rates      39 or 49
---   known-bounds     so between 39 and 49, which is all that most who ask want of it
---   known-small, known-few   and small enough to be read back
-use mathlib.Core.Bool.{Bool, true, false, _||_}
+--   known-bounds     it is no smaller than the smallest and no larger than the largest; bounds-known: and each such number is one
+--   known-small, known-few   so it is small enough to be read back
+use mathlib.Core.Bool.{true}
 use mathlib.Core.Path.{_≡_, refl, sym, subst}
-use mathlib.Core.Logic.{_⊎_, inl, inr, ⊎-elim}
 use Prim.Native.Nat.{ℕ, _-_, _%_, _<_, _≤_}
 use native.Mathlib.Omega.{arith}
-use lib.Dec.{eqb, lit≤}
-use borrow.Author.Tests.{eqb-true}
+use lib.Dec.{leb, lit≤}
+use borrow.Author.Tests.{leb-true, le-leb}
+use Rattle.lists.specs.Distinct.{and-left, and-right, and-both}
 use Rattle.hermitian.specs.Present.{Present, genus}
 use Rattle.hermitian.specs.Orders.{orderOf, orderOf-present}
 use Rattle.family.specs.Member.{m16, places}
 use Rattle.family.specs.Evaluation.{order-below}
-use Rattle.code.specs.Encoding.{knownRate}
-
-abbrev pub mostRate : ℕ
-mostRate = 49
+use Rattle.code.specs.Encoding.{leastRate, mostRate, knownRate}
 
 abbrev pub longest : ℕ
 longest = 58
@@ -35,17 +30,17 @@ order-fits t {o} e =
     let p : Present 4 o = subst (Present 4) (sym e) (orderOf-present 4 (lit≤ tt) (t % longest)) in
     (p, omega (arith, order-below m16 (t % longest) (omega (arith, longest-is))))
 
-module _ (k : ℕ) (known : knownRate k ≡ true) where
-  pub known-rates : (k ≡ 39) ⊎ (k ≡ 49)
-  unfolding knownRate
-  known-rates = go (eqb k 39) refl known
-    where
-      go : (b : Bool) → eqb k 39 ≡ b → (b || eqb k 49) ≡ true → (k ≡ 39) ⊎ (k ≡ 49)
-      go true e t = inl (eqb-true k 39 e)
-      go false e t = inr (eqb-true k 49 t)
+pub bounds-known : {k : ℕ} → leastRate ≤ k → k ≤ mostRate → knownRate k ≡ true
+unfolding knownRate
+bounds-known {k} l h = and-both (leb leastRate k) (leb k mostRate) (le-leb leastRate k l) (le-leb k mostRate h)
 
-  pub known-bounds : (39 ≤ k) × (k ≤ mostRate)
-  known-bounds = ⊎-elim (λ e. omega arith) (λ e. omega arith) known-rates
+module _ (k : ℕ) (known : knownRate k ≡ true) where
+  pub known-bounds : (leastRate ≤ k) × (k ≤ mostRate)
+  unfolding knownRate
+  known-bounds = (
+    leb-true leastRate k (and-left (leb leastRate k) (leb k mostRate) known),
+    leb-true k mostRate (and-right (leb leastRate k) (leb k mostRate) known),
+  )
 
   pub known-small : k ≤ longest
   known-small = omega (arith, known-bounds)

@@ -28,8 +28,7 @@ use Rattle.soft.specs.TestWord.{testWords}
 use Rattle.soft.specs.Total.{pinnedOf, changedOf, reportOf}
 use Rattle.totals.specs.declared.margin.Margin.{Margin}
 use Rattle.totals.specs.Margin.{marginIs}
-use Rattle.code.specs.Encoding.{encodeOf}
-use Rattle.code.specs.Rates.{mostRate}
+use Rattle.code.specs.Encoding.{encodeOf, mostRate}
 use Rattle.near.specs.Here.{blankLimit, blanksIn, reachIn, testsNear, messageCost}
 use Rattle.near.specs.Laws.{tests-tree}
 use Rattle.book.specs.Model.{modem64}

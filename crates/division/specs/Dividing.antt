@@ -5,10 +5,10 @@
 --   yPowers c             c times 1, y, y² and y³
 --   Roomy c l m           c has the lead l, and c times each monomial of order up to m ends by order 63
 --   Divided q0 q1 m r     r holds symbols, and where q1 has a lead that leaves room, the quotient of q0 by q1 from order m down
---   powers-at             the powers are exact where there is room
+--   powers-at             a power of y is exact where its order is at most m
 --   next-is, step-is      one turn of the loop is one step of the division
 use mathlib.Core.Bool.{cond}
-use mathlib.Core.Path.{_≡_, refl, sym, ap, ap₂, _∙_, subst}
+use mathlib.Core.Path.{_≡_, refl, sym, ap, ap₂, _∙_, fun-ext, subst}
 use mathlib.Core.List.{List, [], _∷_}
 use Prim.Native.Nat.{ℕ, zero, suc, _+_, _-_, _*_, _/_, _%_, _<_, _≤_}
 use native.Mathlib.Decide.{decLt}
@@ -44,7 +44,6 @@ yPowers c = c ∷ yOnce c ∷ yOnce (yOnce c) ∷ yOnce (yOnce (yOnce c)) ∷ []
 
 pub record Roomy (c : List ℕ) (l m : ℕ) : Type 0 where
   pub leads : Lead K16 (coef c) l
-  pub powers-fit : l + 15 < plainWidth
   pub terms-fit : l + m < plainWidth
 
 pub record Divided (q0 q1 : List ℕ) (m : ℕ) (r : List ℕ) : Type 0 where
@@ -84,30 +83,30 @@ coef-once c j f e b =
     coef-y c ∙ ap (λ g. cut (timesY K16 4 g)) e ∙ ap cut (sym (powY-suc K16 4 j f)) ∙ cut-below (powY K16 4 (suc j) f) b
 
 module _ (c : List ℕ) (l m : ℕ) (room : Roomy c l m) where
-  fits : (j : ℕ) → j < 4 → Below K16 (powY K16 4 j (coef c)) plainWidth
-  fits j h = below-mono K16 (omega (arith, room .powers-fit)) (below-powY K16 4 j (room .leads .above))
+  fits : (j : ℕ) → j * 5 ≤ m → Below K16 (powY K16 4 j (coef c)) plainWidth
+  fits j h = below-mono K16 (omega (arith, room .terms-fit)) (below-powY K16 4 j (room .leads .above))
 
-  first : coef (yOnce c) ≡ powY K16 4 1 (coef c)
-  first = coef-once c 0 (coef c) (sym (powY-nil K16 4 (coef c))) (fits 1 (omega arith))
+  first : 5 ≤ m → coef (yOnce c) ≡ powY K16 4 1 (coef c)
+  first h = coef-once c 0 (coef c) (sym (powY-nil K16 4 (coef c))) (fits 1 h)
 
-  second : coef (yOnce (yOnce c)) ≡ powY K16 4 2 (coef c)
-  second = coef-once (yOnce c) 1 (coef c) first (fits 2 (omega arith))
+  second : 10 ≤ m → coef (yOnce (yOnce c)) ≡ powY K16 4 2 (coef c)
+  second h = coef-once (yOnce c) 1 (coef c) (first (omega arith)) (fits 2 h)
 
-  third : coef (yOnce (yOnce (yOnce c))) ≡ powY K16 4 3 (coef c)
-  third = coef-once (yOnce (yOnce c)) 2 (coef c) second (fits 3 (omega arith))
+  third : 15 ≤ m → coef (yOnce (yOnce (yOnce c))) ≡ powY K16 4 3 (coef c)
+  third h = coef-once (yOnce (yOnce c)) 2 (coef c) (second (omega arith)) (fits 3 h)
 
-  pub powers-at : (j : ℕ) → j < 4 → coef (getD (yPowers c) j []) ≡ powY K16 4 j (coef c)
-  powers-at zero h = sym (powY-nil K16 4 (coef c))
-  powers-at (suc zero) h = first
-  powers-at (suc (suc zero)) h = second
-  powers-at (suc (suc (suc zero))) h = third
-  powers-at (suc (suc (suc (suc j)))) h = absurd (omega arith)
+  pub powers-at : (j : ℕ) → j < 4 → j * 5 ≤ m → coef (getD (yPowers c) j []) ≡ powY K16 4 j (coef c)
+  powers-at zero h f = sym (powY-nil K16 4 (coef c))
+  powers-at (suc zero) h f = first f
+  powers-at (suc (suc zero)) h f = second f
+  powers-at (suc (suc (suc zero))) h f = third f
+  powers-at (suc (suc (suc (suc j)))) h f = absurd (omega arith)
 
   -- ---- one turn
 
   module _ (o : ℕ) (small : o ≤ m) where
-    moved : coef (getD (yPowers c) (o % 4) []) ≡ powY K16 4 (o % 4) (coef c)
-    moved = powers-at (o % 4) (omega arith)
+    moved : Present 4 o → coef (getD (yPowers c) (o % 4) []) ≡ powY K16 4 (o % 4) (coef c)
+    moved h = powers-at (o % 4) (omega arith) (omega arith)
 
     -- the next coefficient
     pub next-is : (rest : List ℕ) → toF (nextAt rest (l + o) o (inverse (getD c l 0))) ≡ quotientAt K16 4 l (coef c) o (coef rest)
@@ -127,6 +126,11 @@ module _ (c : List ℕ) (l m : ℕ) (room : Roomy c l m) where
             ap toF (ap (λ b. cond b 0 (cond (ltb 63 (l + o)) 0 (times (getD rest (l + o) 0) (inverse (getD c l 0))))) (lt-ltb (o / 4) (o % 4) n))
             ∙ toF-zero ∙ sym (choose-no (no h) _ _ h)
 
+    -- no coefficient at an absent order
+    absent-none : (R : ℕ → GF) → (Present 4 o → ⊥) → quotientAt K16 4 l (coef c) o R ≡ 𝟘
+    unfolding quotientAt
+    absent-none R h = choose-no (decPresent 4 o) _ _ h
+
     -- the multiple that is taken away ends by order 63
     ends : (R : ℕ → GF) → Below K16 (scale K16 (quotientAt K16 4 l (coef c) o R) (timesMonomial K16 4 o (coef c))) plainWidth
     unfolding quotientAt timesMonomial
@@ -144,14 +148,24 @@ module _ (c : List ℕ) (l m : ℕ) (room : Roomy c l m) where
         ≡ divideStep K16 4 l (coef c) o R
     unfolding divideStep timesMonomial
     step-is rest a R n e q =
-        ap (λ g. cut (plus K16 (coef rest) (scale K16 (toF a) (shift K16 ((o / 4 - o % 4) * 4) g)))) moved
-        ∙ ap (λ x. cut (plus K16 (coef rest) (scale K16 x (same)))) q
+        ap (λ x. cut (plus K16 (coef rest) (scale K16 x (shift K16 ((o / 4 - o % 4) * 4) (coef (getD (yPowers c) (o % 4) [])))))) q
+        ∙ ap (λ g. cut (plus K16 (coef rest) g)) (taken (coef rest) (decPresent 4 o))
         ∙ cut-below _ (below-plus K16 (record { zero-from = λ k b. coef-beyond rest k (omega arith) }) (whole (coef rest)))
         ∙ ap (λ f. plus K16 f (scale K16 (quotientAt K16 4 l (coef c) o f) same)) e
         ∙ monomial R
       where
         same : ℕ → GF
         same = shift K16 ((o / 4 - o % 4) * 4) (powY K16 4 (o % 4) (coef c))
+
+        -- an absent order takes nothing away, so that its power of y does not matter
+        taken : (f : ℕ → GF) → Dec (Present 4 o)
+            → scale K16 (quotientAt K16 4 l (coef c) o f) (shift K16 ((o / 4 - o % 4) * 4) (coef (getD (yPowers c) (o % 4) [])))
+            ≡ scale K16 (quotientAt K16 4 l (coef c) o f) same
+        taken f (yes h) = ap (λ g. scale K16 (quotientAt K16 4 l (coef c) o f) (shift K16 ((o / 4 - o % 4) * 4) g)) (moved h)
+        taken f (no h) = nothing _ ∙ sym (nothing same)
+          where
+            nothing : (g : ℕ → GF) → scale K16 (quotientAt K16 4 l (coef c) o f) g ≡ (λ k. 𝟘)
+            nothing g = ap (λ x. scale K16 x g) (absent-none f h) ∙ fun-ext (λ k. zero-mul K16 (g k))
 
         same-is : timesMonomial K16 4 o (coef c) ≡ same
         same-is = refl

@@ -18,6 +18,11 @@ use refusals::NO_SYMBOL;
 use refusals::UNKNOWN_RATE;
 use refusals::WRONG_SIZE;
 
+// The rates: so many symbols a message has.
+pub const LEAST_RATE: usize = 6;
+
+pub const MOST_RATE: usize = 52;
+
 // The number of the message symbol that stands at a present order: 1, 2, 3, 6, 7 and 11 are missing.
 fn rank(order: usize) -> usize
     requires { ⌜ Present 4 order ⌝ }
@@ -85,10 +90,10 @@ pub fn codeword_of(message: &[u8]) -> [u8; 64]
 pub fn known_rate(rate: usize) -> bool
     ensures { λ r. ⌜ r ≡ knownRate rate ⌝ }
 {
-    if rate == 39 {
-        return true;
+    if rate < LEAST_RATE {
+        return false;
     }
-    rate == 49
+    rate <= MOST_RATE
 }
 
 // Whether every byte is a symbol.

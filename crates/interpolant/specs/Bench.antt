@@ -24,7 +24,7 @@ use Rattle.hermitian.specs.Interpolation.{Value}
 use Rattle.hermitian.specs.Frobenius.{value-power, constant-nowhere}
 use Rattle.code.specs.Nodes.{sampleAt, ThroughNodes}
 use Rattle.family.specs.Nodes.{Node, node}
-use Rattle.interpolant.specs.LeastQ.{readingOf}
+use Rattle.interpolant.specs.LeastQ.{readingLength, readingOf}
 use Rattle.interpolant.specs.Reading.{byteOf, byteOf-plain, byteOf-z, reading-least}
 open Field K16 using (𝟘)
 
@@ -66,8 +66,8 @@ least-new M =
       least = λ d m w g. omega arith;
     }
 
-pub reading-new : (M : ℕ) → readingOf M [] ≡ listed 82 (oneAt 0)
-reading-new M = reading-least M [] (least-new M) ∙ listed-ext 82 _ _ (λ i l. bytes-monomial M 0 (lit≤ tt) i)
+pub reading-new : (M : ℕ) → readingOf M [] ≡ listed readingLength (oneAt 0)
+reading-new M = reading-least M [] (least-new M) ∙ listed-ext readingLength _ _ (λ i l. bytes-monomial M 0 (lit≤ tt) i)
 
 -- place 0 is the point (0, 0)
 abbrev pub placeZero : Node
@@ -100,5 +100,5 @@ least-place-0 M h =
     go d m w g (isKey (plain o) p e) = small d m o w g p e (decLe 8 m)
     go d m w g (isKey (timesZ o) p e) = omega arith
 
-pub reading-place-0 : (M : ℕ) → 4 ≤ M → readingOf M (placeZero ∷ []) ≡ listed 82 (oneAt 4)
-reading-place-0 M h = reading-least M (placeZero ∷ []) (least-place-0 M h) ∙ listed-ext 82 _ _ (λ i l. bytes-monomial M 4 (lit≤ tt) i)
+pub reading-place-0 : (M : ℕ) → 4 ≤ M → readingOf M (placeZero ∷ []) ≡ listed readingLength (oneAt 4)
+reading-place-0 M h = reading-least M (placeZero ∷ []) (least-place-0 M h) ∙ listed-ext readingLength _ _ (λ i l. bytes-monomial M 4 (lit≤ tt) i)

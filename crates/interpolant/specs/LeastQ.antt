@@ -1,4 +1,5 @@
--- The interpolant reading (document 01, 'Calls, in the order of their checks'): the least Q = Q0 + Q1 z through the settled places, and its 82 bytes.
+-- The interpolant reading (document 01, 'Calls, in the order of their checks', with the bytes of document 02): the least Q = Q0 + Q1 z through the settled
+-- places, and its 98 bytes.
 --
 --   a node (`code`)     a settled place that is taken, with z the best symbol there
 --   coefficient q k     a Q is a list of coefficients by key, from the highest key down: that of key k has k others behind it
@@ -10,12 +11,15 @@
 --   isCandidate M ns q  all three
 --   keys                129: the key of x^16 + x, which vanishes at every place, is 128
 --   leastQ M ns         the first such Q of 129 coefficients below 16, the highest key compared first
---   byteKey M i         the key whose coefficient is byte i: bytes 0 to 64 are Q0 by order, 65 to 81 are Q1 by orders 0 to 16
---   readingOf M ns      the 82 bytes
+--   topPlain, topZ      64 and 32: the highest orders of Q0 and of Q1 that have a byte
+--   byteKey M i         the key whose coefficient is byte i: bytes 0 to 64 are Q0 by order, 65 to 97 are Q1 by orders 0 to 32
+--   bytesOfQ n M q      the first n of them
+--   readingLength       98
+--   readingOf M ns      the 98 bytes
 use mathlib.Core.Bool.{Bool, true, not, cond}
 use mathlib.Core.List.{List, [], _∷_}
 use mathlib.Core.Option.{Option, some, none}
-use Prim.Native.Nat.{ℕ, _-_}
+use Prim.Native.Nat.{ℕ, suc, _+_, _-_}
 use lib.Dec.{eqb, ltb}
 use lib.Bits.{bitXor}
 use lib.ListN.{length}
@@ -75,16 +79,25 @@ keys = 129
 unfoldable pub leastQ : ℕ → List Node → Option (List ℕ)
 leastQ M ns = firstThat (isCandidate M ns) (words 16 keys)
 
+abbrev pub topPlain : ℕ
+topPlain = 64
+
+abbrev pub topZ : ℕ
+topZ = 32
+
+abbrev pub readingLength : ℕ
+readingLength = suc topPlain + suc topZ
+
 unfoldable pub byteKey : ℕ → ℕ → ℕ
-byteKey M i = cond (ltb i 65) (key M (plain i)) (key M (timesZ (i - 65)))
+byteKey M i = cond (ltb i (suc topPlain)) (key M (plain i)) (key M (timesZ (i - suc topPlain)))
 
 unfoldable pub byteAt : ℕ → List ℕ → ℕ → ℕ
 byteAt M q i = coefficient q (byteKey M i)
 
 -- there is always a least Q: the theorem in specs/Least.antt
-unfoldable pub bytesOfQ : ℕ → Option (List ℕ) → List ℕ
-bytesOfQ M none = []
-bytesOfQ M (some q) = listed 82 (byteAt M q)
+unfoldable pub bytesOfQ : ℕ → ℕ → Option (List ℕ) → List ℕ
+bytesOfQ n M none = []
+bytesOfQ n M (some q) = listed n (byteAt M q)
 
 unfoldable pub readingOf : ℕ → List Node → List ℕ
-readingOf M ns = bytesOfQ M (leastQ M ns)
+readingOf M ns = bytesOfQ readingLength M (leastQ M ns)

@@ -3,7 +3,7 @@
 --   QThrough M ns q     q is a Q, zero or not: numbers below 16 at keys of terms, that vanishes at every node of ns
 --   Highest M q t       t is the highest term of q, in document 01's order of terms; so q is not zero
 --   IsLeastQ M ns q t   q is a Q through ns with highest term t and coefficient 1 there, and no Q through ns, of any length, has a highest term before t
---   Shown M k           k is the key of a term that has a byte: one of Q0 of order 0 to 64, or of Q1 of order 0 to 16
+--   Shown M k           k is the key of a term that has a byte: one of Q0 of order 0 to 64, or of Q1 of order 0 to 32
 use mathlib.Core.Path.{_≡_}
 use mathlib.Core.List.{List, List·Memᴰ}
 use mathlib.Core.Logic.{_≢_, _⊎_}
@@ -12,7 +12,7 @@ use lib.Dec.{T}
 use Rattle.lists.specs.Words.{allBelow}
 use Rattle.hermitian.specs.Keys.{Term, plain, timesZ, key, Before, IsKey}
 use Rattle.family.specs.Nodes.{Node}
-use Rattle.interpolant.specs.LeastQ.{coefficient, valueAtNode}
+use Rattle.interpolant.specs.LeastQ.{coefficient, valueAtNode, topPlain, topZ}
 
 pub record QThrough (M : ℕ) (ns : List Node) (q : List ℕ) : Type 0 where
   pub symbols : T (allBelow 16 q)
@@ -30,7 +30,7 @@ pub record IsLeastQ (M : ℕ) (ns : List Node) (q : List ℕ) (t : Term) : Type 
   pub one : coefficient q (key M t) ≡ 1
   pub smallest : (r : List ℕ) (u : Term) → QThrough M ns r → Highest M r u → (t ≡ u) ⊎ Before M t u
 
--- 'Bytes 0 to 64 are Q0 by order, 65 to 81 are Q1 by orders 0 to 16'
+-- 'Q0 for orders 0 to 64, Q1 for 0 to 32'
 pub data Shown (M k : ℕ) : Type 0 where
-  of-Q0 : (o : ℕ) → o ≤ 64 → k ≡ key M (plain o) → Shown M k
-  of-Q1 : (o : ℕ) → o ≤ 16 → k ≡ key M (timesZ o) → Shown M k
+  of-Q0 : (o : ℕ) → o ≤ topPlain → k ≡ key M (plain o) → Shown M k
+  of-Q1 : (o : ℕ) → o ≤ topZ → k ≡ key M (timesZ o) → Shown M k

@@ -16,6 +16,7 @@ use Rattle.family.specs.Nodes.{Node}
 use Rattle.basis.specs.Choice.{leadAt}
 use Rattle.basis.specs.Step.{rowValues}
 use Rattle.interpolant.specs.Least.{everywhere-least}
+use Rattle.interpolant.specs.LeastQ.{readingLength}
 use Rattle.interpolant.specs.Reading.{byteOf, reading-least}
 use Rattle.interpolation.specs.Extending.{Stored}
 use Rattle.interpolation.specs.Parts.{valuesOf, firstOf, secondOf, polynomialOf, recovered}
@@ -33,19 +34,19 @@ module _ (M : ℕ) (word : List ℕ) (rows : List (List ℕ)) (leads : List ℕ)
 
   pub read-held : (q0 q1 : List ℕ) (by : ℕ) → q0 ≡ firstOf word row → q1 ≡ secondOf row → leadAt leads best ≤ 127
       → toF by ≡ inv (polynomialOf M q0 q1 (leadAt leads best))
-      → bytes ≡ listed 82 (byteOf M (scale K16 (toF by) (polynomialOf M q0 q1))) → Interpolated M word rows leads bytes
+      → bytes ≡ listed readingLength (byteOf M (scale K16 (toF by) (polynomialOf M q0 q1))) → Interpolated M word rows leads bytes
   read-held q0 q1 by e0 e1 h e b =
       record {
         reading = λ ns S.
             let is : polynomialOf M q0 q1 ≡ S .polynomials best = ap₂ (polynomialOf M) e0 e1 ∙ held-row S h in
-            b ∙ ap (λ a. listed 82 (byteOf M (scale K16 a (polynomialOf M q0 q1)))) e
-            ∙ ap (λ (Q : ℕ → GF). listed 82 (byteOf M (scale K16 (inv (Q (leadAt leads best))) Q))) is
+            b ∙ ap (λ a. listed readingLength (byteOf M (scale K16 a (polynomialOf M q0 q1)))) e
+            ∙ ap (λ (Q : ℕ → GF). listed readingLength (byteOf M (scale K16 (inv (Q (leadAt leads best))) Q))) is
             ∙ sym (reading-least M ns
             (held-least K16 (S .basis) (through-space K16 4 M (omega arith) sampleAt ns)
             (record { within = lowest .within; passes = h; least = λ r l u. lowest .least r l })));
       }
 
-  pub read-spent : 127 < leadAt leads best → bytes ≡ listed 82 (byteOf M (frobenius K16 4 16)) → Interpolated M word rows leads bytes
+  pub read-spent : 127 < leadAt leads best → bytes ≡ listed readingLength (byteOf M (frobenius K16 4 16)) → Interpolated M word rows leads bytes
   read-spent h b =
       record {
         reading = λ ns S.

@@ -16,7 +16,7 @@ use Rattle.hermitian.specs.Interpolant.{without-joined, with-joined, gap-joined
 use Rattle.hermitian.specs.Frobenius.{frobenius}
 use Rattle.rows.specs.Rows.{coef, coef-at, value-times-toF}
 use Rattle.basis.specs.Choice.{Chosen, none, one}
-use Rattle.interpolant.specs.LeastQ.{byteKey}
+use Rattle.interpolant.specs.LeastQ.{byteKey, readingLength}
 use Rattle.interpolant.specs.Reading.{byteKey-plain, byteKey-z, byteOf}
 use Rattle.interpolation.specs.Parts.{polynomialOf}
 use Rattle.interpolation.specs.Reading.{Lowest}
@@ -74,14 +74,14 @@ scaled-byte q0 q1 by i s v M e f = e ∙ sym (value-times-toF by s) ∙ ap (λ a
 
 -- ---- x^16 + x
 abbrev plainZeros : List ℕ
-plainZeros = replicate 82 0
+plainZeros = replicate readingLength 0
 
 abbrev first : List ℕ
 first = set plainZeros 64 1
 
-pub field-bytes : (M : ℕ) → set first 4 1 ≡ listed 82 (byteOf M (frobenius K16 4 16))
+pub field-bytes : (M : ℕ) → set first 4 1 ≡ listed readingLength (byteOf M (frobenius K16 4 16))
 unfolding byteOf
-field-bytes M = sym (listed-getD (set first 4 1) 0) ∙ listed-ext 82 (λ k. getD (set first 4 1) k 0) (byteOf M (frobenius K16 4 16)) (λ i h. go i h (ℕ-discrete i 4) (ℕ-discrete i 64) (decLt i 65))
+field-bytes M = sym (listed-getD (set first 4 1) 0) ∙ listed-ext readingLength (λ k. getD (set first 4 1) k 0) (byteOf M (frobenius K16 4 16)) (λ i h. go i h (ℕ-discrete i 4) (ℕ-discrete i 64) (decLt i 65))
   where
     one-is : value 𝟙 ≡ 1
     one-is = ap value (sym toF-one) ∙ value-toF 1
@@ -92,7 +92,7 @@ field-bytes M = sym (listed-getD (set first 4 1) 0) ∙ listed-ext 82 (λ k. get
     nothing : (k : ℕ) → k ≢ 128 → k ≢ 8 → 0 ≡ value (unit K16 128 k ⊕ unit K16 8 k)
     nothing k a b = sym (ap₂ (λ x y. value (x ⊕ y)) (unit-off K16 128 k a) (unit-off K16 8 k b) ∙ ap value (add-zero K16 𝟘) ∙ value-zero)
 
-    go : (i : ℕ) → i < 82 → Dec (i ≡ 4) → Dec (i ≡ 64) → Dec (i < 65) → getD (set first 4 1) i 0 ≡ byteOf M (frobenius K16 4 16) i
+    go : (i : ℕ) → i < readingLength → Dec (i ≡ 4) → Dec (i ≡ 64) → Dec (i < 65) → getD (set first 4 1) i 0 ≡ byteOf M (frobenius K16 4 16) i
     go i h (yes e) f l =
         ap (λ k. getD (set first 4 1) k 0) e ∙ getD-set-same first 4 1 0 (omega arith) ∙ sym one-is
         ∙ ap value (sym (zero-add K16 𝟙)) ∙ ap₂ (λ x y. value (x ⊕ y)) (sym (unit-off K16 128 8 (λ (q : 8 ≡ 128). absurd (omega arith)))) (sym (unit-at K16 8))
@@ -102,11 +102,11 @@ field-bytes M = sym (listed-getD (set first 4 1) 0) ∙ listed-ext 82 (λ k. get
         ∙ ap value (sym (add-zero K16 𝟙)) ∙ ap₂ (λ x y. value (x ⊕ y)) (sym (unit-at K16 128)) (sym (unit-off K16 8 128 (λ (q : 128 ≡ 8). absurd (omega arith))))
         ∙ at-key i 128 (key-plain M i (omega arith) ∙ omega arith)
     go i h (no e) (no f) (yes l) =
-        getD-set-other first 4 i 1 0 e ∙ getD-set-other plainZeros 64 i 1 0 f ∙ getD-replicate 82 i 0 0 h
+        getD-set-other first 4 i 1 0 e ∙ getD-set-other plainZeros 64 i 1 0 f ∙ getD-replicate readingLength i 0 0 h
         ∙ nothing (2 * i) (λ (q : 2 * i ≡ 128). absurd (omega arith)) (λ (q : 2 * i ≡ 8). absurd (omega arith)) ∙ at-key i (2 * i) (key-plain M i (omega arith))
     go i h (no e) (no f) (no l) =
         let k : ℕ = 2 * (i - 65 + M) + 1 in
-        getD-set-other first 4 i 1 0 e ∙ getD-set-other plainZeros 64 i 1 0 f ∙ getD-replicate 82 i 0 0 h
+        getD-set-other first 4 i 1 0 e ∙ getD-set-other plainZeros 64 i 1 0 f ∙ getD-replicate readingLength i 0 0 h
         ∙ nothing k (λ (q : k ≡ 128). absurd (omega arith)) (λ (q : k ≡ 8). absurd (omega arith)) ∙ at-key i k (key-z M i (omega arith))
 
 -- ---- every class counts

@@ -8,8 +8,8 @@ pub mod start;
 
 pub const PLACES: usize = 64;
 
-// The bytes of a reading: Q0 by orders 0 to 64, Q1 by orders 0 to 16.
-pub const READING: usize = 82;
+// The bytes of a reading: Q0 by orders 0 to 64, Q1 by orders 0 to 32.
+pub const READING: usize = 98;
 
 // The largest key of a polynomial whose parts are read off their values at the places: no order above 63.
 pub const LIMIT: usize = 127;

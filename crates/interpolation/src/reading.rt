@@ -1,4 +1,4 @@
-// The least polynomial through the settled places, in the 82 bytes of the interpolant reading.
+// The least polynomial through the settled places, in the 98 bytes of the interpolant reading.
 ghost use mathlib.Core.Path.{_≡_};
 ghost use Prim.Native.Nat.{ℕ, _<_, _≤_};
 ghost use Rattle.lists.specs.Listed.{listed};
@@ -7,7 +7,7 @@ ghost use Rattle.galois.specs.Field16.{K16, toF};
 ghost use Rattle.hermitian.specs.Frobenius.{frobenius};
 ghost use Rattle.values.specs.Settled.{settled};
 ghost use Rattle.interpolation.specs.Parts.{polynomialOf};
-ghost use Rattle.interpolant.specs.LeastQ.{byteKey, readingOf};
+ghost use Rattle.interpolant.specs.LeastQ.{byteKey, readingLength, readingOf};
 ghost use Rattle.interpolant.specs.Reading.{byteOf};
 ghost use Rattle.interpolation.specs.Reading.{Lowest, Interpolated};
 use crate::LIMIT;
@@ -38,7 +38,7 @@ fn coefficient(q0: [u8; PLACES], q1: [u8; PLACES], key: usize, m: usize) -> u8
 
 // The coefficient that byte i of a reading shows.
 fn shown(q0: [u8; PLACES], q1: [u8; PLACES], i: usize) -> u8
-    requires { ⌜ i < 82 ⌝ }
+    requires { ⌜ i < readingLength ⌝ }
     ensures { λ r. ⌜ ((M : ℕ) → toF r ≡ polynomialOf M q0 q1 (byteKey M i)) ⌝ }
 {
     if i < PLACES {
@@ -52,7 +52,7 @@ fn shown(q0: [u8; PLACES], q1: [u8; PLACES], i: usize) -> u8
 
 // The bytes of a multiple.
 fn scaled(q0: [u8; PLACES], q1: [u8; PLACES], by: u8) -> [u8; READING]
-    ensures { λ r. ⌜ ((M : ℕ) → r ≡ listed 82 (byteOf M (scale K16 (toF by) (polynomialOf M q0 q1)))) ⌝ }
+    ensures { λ r. ⌜ ((M : ℕ) → r ≡ listed readingLength (byteOf M (scale K16 (toF by) (polynomialOf M q0 q1)))) ⌝ }
 {
     let mut out = [0u8; READING];
     let mut i = 0;
@@ -65,7 +65,7 @@ fn scaled(q0: [u8; PLACES], q1: [u8; PLACES], by: u8) -> [u8; READING]
 
 // x^16 + x, which vanishes at every place.
 fn field_equation() -> [u8; READING]
-    ensures { λ r. ⌜ ((M : ℕ) → r ≡ listed 82 (byteOf M (frobenius K16 4 16))) ⌝ }
+    ensures { λ r. ⌜ ((M : ℕ) → r ≡ listed readingLength (byteOf M (frobenius K16 4 16))) ⌝ }
 {
     let mut out = [0u8; READING];
     out[PLACES] = 1;

@@ -1,19 +1,19 @@
 -- Nearness in document 01's modem: GF(16) with w = 4, T by the rate and the blank places, and of the places those count that are not blank.
 --
 --   mOf k                     M = k + 5 (m-is)
---   blankLimit k              57 − M, the most blank places (blank-limit-is): 13 at rate 39 and 3 at rate 49 (blank-limits)
---   reachOf k b               T with b blank places, the largest with 2T + b < 64 − M − 6 (IsReach, t-is); reach-table: T for every b at both rates
+--   blankLimit k              57 − M, the most blank places (blank-limit-is); with so many T = 0 (limit-reach)
+--   reachOf k b               T with b blank places, the largest with 2T + b < 64 − M − 6 (IsReach, t-is); reach-table: T for every b at rates 39 and 49
 --   reachIn k columns         T where the blank places are those of the columns
 --   nearTo, near, testsNear k columns …   as the family has them, of the places that are not blank in these columns
 --   messageCost, answerOf, marginOf, limitOf, nodesOf   the same
 --   Workable k                k from 6 to 52 (workable)
 --   reaches                   without blank places T = 6 at rate 39 and T = 1 at rate 49, with M = 44 and M = 54
---   blank-limits                    with as many as the limit T = 0 at both
+--   blank-limits              at most 13 blank places at rate 39 and 3 at rate 49, with T = 0 then
 --   repairable                T wrong places of those that are not blank can be repaired
 --   Places ps, Decided columns word ps ns   different places below 64, and the nodes of a word at all other places that are not blank
 --   no-third-here             with at most ten doubtful places no three codewords are near
 use mathlib.Core.Bool.{Bool}
-use mathlib.Core.Path.{_≡_, refl}
+use mathlib.Core.Path.{_≡_, refl, subst}
 use mathlib.Core.List.{List}
 use mathlib.Core.Option.{Option}
 use Prim.Native.Nat.{ℕ, _+_, _-_, _*_, _/_, _<_, _≤_}
@@ -102,7 +102,7 @@ t-is k b T = (
   λ h. record { fits = omega (arith, h .0, genus-4); largest = λ n l. h .1 n (omega (arith, genus-4)) },
 )
 
--- at both rates, for every number of blank places
+-- at document 01's two rates, for every number of blank places
 pub reach-table : (b : ℕ) → (b ≤ 13 → IsReach 39 b (6 - b / 2)) × (b ≤ 3 → IsReach 49 b (1 - b / 2))
 unfolding Near.mOf genus
 reach-table b = (
@@ -117,6 +117,12 @@ reaches = (refl, refl, refl, refl)
 pub blank-limits : (blankLimit 39 ≡ 13) × (reachOf 39 13 ≡ 0) × (blankLimit 49 ≡ 3) × (reachOf 49 3 ≡ 0)
 unfolding Near.reachOf Near.blankLimit Near.mOf genus
 blank-limits = (refl, refl, refl, refl)
+
+pub limit-reach : {k : ℕ} → Workable k → IsReach k (blankLimit k) 0
+unfolding Near.reachOf
+limit-reach {k} h =
+    let z : reachOf k (blankLimit k) ≡ 0 = omega arith in
+    subst (IsReach k (blankLimit k)) z (Reach.reach-is m16 h (omega arith))
 
 pub repairable : {k : ℕ} → Workable k → (columns : ℕ → List ℕ) → blanksIn columns ≤ blankLimit k
     → Reach.Repairable m16 (openAt columns) (reachIn k columns) k

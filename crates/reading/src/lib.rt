@@ -1,4 +1,4 @@
-// Interpolant reading of a session: the least Q through its settled places, into the caller's 82 bytes.
+// Interpolant reading of a session: the least Q through its settled places, into the caller's 98 bytes.
 // It keeps nothing between calls and writes nothing but the buffer; how Q is found is `interpolation`'s.
 ghost use mathlib.Core.Path.{_≡_};
 ghost use Rattle.lists.specs.Listed.{listed};

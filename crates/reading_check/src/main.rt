@@ -14,9 +14,9 @@ fn show_byte(byte: u8) {
 }
 
 fn show_reading(from: Session) {
-    let mut out = [255u8; 82];
+    let mut out = [255u8; 98];
     show_byte(reading::read_interpolant(from, &mut out));
-    for i in 0..82 {
+    for i in 0..98 {
         show_byte(out[i]);
     }
     io::write_all(STDOUT_FILENO, b"\n");

@@ -1,7 +1,7 @@
 -- The refusals' numbers (document 01, 'Refusals, by who can cause them'), each under the name that the code's constant has.
 --
 --   accepted         0: no refusal
---   unknownRate      1: the rate is not 39 or 49
+--   unknownRate      1: the rate is not one of 6 to 52
 --   wrongSize        2: a lent buffer of the wrong size, or no 64 bytes from the start
 --   noSymbol         3: a symbol above 15
 --   wrongDoubt       4: doubt above 12, a maximum of 0 or above 12, or a doubtful list longer than 12, with a place above 63, not strictly rising, or in
@@ -13,7 +13,7 @@
 --   noneNear         9: no codeword is near
 --   wrongVersion     10: the version is not 1 or 2
 --   wrongLength      11: size or length wrong
---   tooBlank         12: more than 13 blank places at rate 39, more than 3 at rate 49
+--   tooBlank         12: more blank places than the rate allows
 --   notTaken         13: a place that is not taken
 use Prim.Native.Nat.{ℕ}
 

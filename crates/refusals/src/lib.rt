@@ -2,7 +2,7 @@
 pub const ACCEPTED: u8 = 0;
 
 // The caller.
-// 1: the rate is not 39 or 49.
+// 1: the rate is not one of 6 to 52.
 pub const UNKNOWN_RATE: u8 = 1;
 // 2: a lent buffer of the wrong size, or no 64 bytes from the start.
 pub const WRONG_SIZE: u8 = 2;
@@ -25,7 +25,7 @@ pub const PLACE_TAKEN: u8 = 6;
 pub const NO_CODEWORD: u8 = 8;
 // 9: none near.
 pub const NONE_NEAR: u8 = 9;
-// 12: more than 13 blank places at rate 39, more than 3 at rate 49.
+// 12: more blank places than the rate allows.
 pub const TOO_BLANK: u8 = 12;
 
 // The recorder.

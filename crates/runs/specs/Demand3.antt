@@ -7,28 +7,28 @@
 --
 -- It speaks of runs, whose steps are what the contract of `step` says of every call that it makes (Step, Stepping), and of openings (Start), which are what
 -- the contracts of `open` and `open_capture` say. T is that of the closing (ReachAfter): by the rate and the places that are blank in the columns held then.
--- With none blank it is 6 at rate 39 and 1 at rate 49, and there is one up to 13 blank places at rate 39 and 3 at rate 49 (limits).
+-- The rates are those from 6 to 52 (rates). There is a T up to 57 − M blank places (blank-rule): with none blank it is 6 at rate 39 and 1 at rate 49, and there
+-- is one up to 13 blank places at rate 39 and 3 at rate 49 (limits).
 use mathlib.Core.Bool.{true}
-use mathlib.Core.Path.{_≡_}
+use mathlib.Core.Path.{_≡_, subst}
 use mathlib.Core.List.{List, [], _∷_, _++_}
 use mathlib.Core.Logic.{_↔_, _≢_, _⊎_}
-use Prim.Native.Nat.{ℕ, suc, _<_, _≤_}
+use Prim.Native.Nat.{ℕ, suc, _+_, _-_, _*_, _<_, _≤_}
 use native.Mathlib.Decide.{decLe}
 use native.Mathlib.Omega.{arith}
 use lib.ListN.{length, getD}
 use Rattle.refusals.specs.Refusal.{accepted, placeMissing, noneNear, tooBlank}
 use Rattle.lists.specs.Distinct.{below}
 use Rattle.family.specs.Member.{m16}
-use Rattle.near.specs.Here.{blankLimit, reachOf, IsReach}
+use Rattle.near.specs.Here.{m-is, blankLimit, reachOf, IsReach, t-is}
 use Rattle.near.specs.Reach.{reach-is}
-use Rattle.book.specs.Model.{known-workable}
 use Rattle.book.specs.Book.{Book, columnIn}
 use Rattle.book.specs.Columns.{Agree}
 use Rattle.book.specs.PlaceOrder.{InPlaceOrder}
 use Rattle.book.specs.Delivery.{withEntry}
 use Rattle.book.specs.Withdrawal.{withoutPlace}
 use Rattle.book.specs.CaptureOpening.{recordsIn, openCaptureOf}
-use Rattle.book.specs.OpeningLaws.{Rate, rate-39, rate-49, rate-known, reachAt, mostBlank, rate-reach, rate-blanks}
+use Rattle.book.specs.OpeningLaws.{Rate, rate-39, rate-49, rate-workable, rate-blanks, rate-reaches}
 use Rattle.book.specs.AnyCalls.{Answer}
 use Rattle.book.specs.Calls.{Call, deliver, writing, closing, withdraw, firstLent, secondLent, answer, after, answers, afterAll}
 use Rattle.book.specs.Here.{openOf, reportLength, Missing, DoubtfulList, IsNear, IsAnswer, Closes}
@@ -56,6 +56,8 @@ pub record Demand3 : Type 0 where
   -- lists of up to 12 places'
   pub opening-accepts : {rate : ℕ} {list : List ℕ} {r : Opened} → Rate rate → DoubtfulList list → Opening (openOf rate list) r
       → r .refusal ≡ accepted
+  -- document 02: 'The rate becomes any k from 6 to 52'
+  pub rates : (rate : ℕ) → Rate rate ↔ ((6 ≤ rate) × (rate ≤ 52))
   -- a doubtful list in these words
   pub lists : (list : List ℕ)
       → DoubtfulList list
@@ -78,6 +80,9 @@ pub record Demand3 : Type 0 where
   -- document 02: 'there a closing with no place missing but too many blank gives 12', and no other does
   pub too-blank : {book : Book} {calls : List Call} {a : Answer} → ClosedAfter book calls a
       → (a .number ≡ tooBlank) ↔ (((p : ℕ) → Missing (afterAll book calls .row) p → ⊥) × (blankLimit (book .rate) < blanksAfter book calls))
+  -- document 02: 'M = k + 5 and T and the blank limit (57 − M) by the general rule'; no T but 0 with so many
+  pub blank-rule : {rate : ℕ} → Rate rate → (blankLimit rate ≡ 57 - (rate + 5)) × IsReach rate (57 - (rate + 5)) 0
+  pub reach-rule : (rate b T : ℕ) → IsReach rate b T ↔ ((2 * T + b < 64 - (rate + 5) - 6) × ((n : ℕ) → 2 * n + b < 64 - (rate + 5) - 6 → n ≤ T))
   -- 'more than 13 blanks at rate 39, more than 3 at rate 49'; T with none blank and with so many
   pub limits : (blankLimit 39 ≡ 13) × (blankLimit 49 ≡ 3) × IsReach 39 0 6 × IsReach 49 0 1 × IsReach 39 13 0 × IsReach 49 3 0
   -- no call but closing gives 12
@@ -152,14 +157,18 @@ module _ {book : Book} {calls : List Call} {a : Answer} (c : ClosedAfter book ca
   reach-there full n = go (decLe (blanksAfter book calls) (blankLimit (book .rate)))
     where
       go : Dec (blanksAfter book calls ≤ blankLimit (book .rate)) → (T : ℕ) × ReachAfter book calls T
-      go (yes few) = (reachOf (book .rate) (blanksAfter book calls), reach-is m16 (known-workable (book .rate) (rate-known (closed-rate c))) few)
+      go (yes few) = (reachOf (book .rate) (blanksAfter book calls), reach-is m16 (rate-workable (closed-rate c)) few)
       go (no many) = absurd (n (blank-after .1 (full, omega arith)))
 
+reach-rule-is : (rate b T : ℕ) → IsReach rate b T ↔ ((2 * T + b < 64 - (rate + 5) - 6) × ((n : ℕ) → 2 * n + b < 64 - (rate + 5) - 6 → n ≤ T))
+reach-rule-is rate b T =
+    subst (λ M. IsReach rate b T ↔ ((2 * T + b < 64 - M - 6) × ((n : ℕ) → 2 * n + b < 64 - M - 6 → n ≤ T))) (m-is rate) (t-is rate b T)
+
 pub whole : Demand3
-unfolding mostBlank reachAt
 whole =
     record {
       opening-accepts = λ known fit opened. opening-accepted known fit opened;
+      rates = λ rate. (λ r. (r .least, r .most), λ h. record { least = h .0; most = h .1 });
       lists = λ list. (
         λ d. (d .short, λ i l. omega (arith, d .in-range i l), d .rises),
         λ d. record { short = d .0; in-range = λ i l. omega (arith, d .1 i l); rises = d .2 },
@@ -170,7 +179,16 @@ whole =
       some-run = λ start fit. start-follows start .not-empty fit;
       early = λ c. closes-after c .early;
       too-blank = λ c. blank-after c;
-      limits = (rate-blanks rate-39 .0, rate-blanks rate-49 .0, rate-reach rate-39, rate-reach rate-49, rate-blanks rate-39 .1, rate-blanks rate-49 .1);
+      blank-rule = λ known. rate-blanks known;
+      reach-rule = λ rate b T. reach-rule-is rate b T;
+      limits = (
+        rate-blanks rate-39 .0,
+        rate-blanks rate-49 .0,
+        rate-reaches .0,
+        rate-reaches .1,
+        rate-blanks rate-39 .1,
+        rate-blanks rate-49 .1,
+      );
       blank-closing = laws.only-closing-blank;
       some-reach = λ c full n. reach-there c full n;
       none-near = λ {book} {calls} c full reach. closes-after c .none-near full (reach-after book calls reach);

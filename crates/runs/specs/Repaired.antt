@@ -1,11 +1,12 @@
 -- The message sent, after every list of calls: what `book` Repairs says of closing, said of the session that the calls left.
 --
---   follows-repaired, follows-found   of a session that follows a book: an opened one, or one opened by an accepted capture (Follows)
+--   follows-repaired, follows-refused, follows-found   of a session that follows a book: an opened one, or one opened by an accepted capture (Follows)
 --   Full rate list calls   no place is missing in the book that the calls leave, from one opened with that rate and list
 --   columnsAfter rate list calls   that book's columns by place
 --   run-repaired           opened with no doubtful places: if none is missing and at most T places have a best symbol that is not the sent one, closing
 --                          accepts and gives the message sent, with its report
---   run-faded              so it does if places are blank, no more than 13 at rate 39 or 3 at rate 49, and at most T of the others are wrong
+--   run-faded              so it does if places are blank, no more than the rate's limit, and at most T of the others are wrong
+--   run-refused            opened with no doubtful places: if none is missing and the message sent is too far (`book` Repairs TooFar), closing says 'none near'
 --   run-found              opened with any doubtful list: if none is missing and few places are wrong, closing accepts, and what it gives is the message
 --                          sent or no dearer
 --
@@ -15,17 +16,17 @@ use mathlib.Core.List.{List, []}
 use Prim.Native.Nat.{ℕ, _≤_}
 use native.Mathlib.Omega.{arith}
 use lib.ListN.{length}
+use Rattle.refusals.specs.Refusal.{noneNear}
 use Rattle.lists.specs.Words.{Word}
 use Rattle.family.specs.Member.{m16}
-use Rattle.near.specs.Here.{reachOf}
-use Rattle.near.specs.Reach.{reach-is}
-use Rattle.book.specs.Model.{modem64, known-workable}
+use Rattle.near.specs.Here.{blankLimit, reachOf}
+use Rattle.book.specs.Model.{modem64}
 use Rattle.book.specs.Book.{Book, newBook}
-use Rattle.book.specs.OpeningLaws.{Rate, rate-known, mostBlank, rate-blanks}
+use Rattle.book.specs.OpeningLaws.{Rate, rate-known, rate-reach}
 use Rattle.book.specs.AnyCalls.{Answer}
 use Rattle.book.specs.Calls.{Call, closing, afterAll}
-use Rattle.book.specs.Repairs.{closes-repaired, closes-found}
-use Rattle.book.specs.Here.{openOf, columnsOf, Missing, reportLength, DoubtfulList, FewWrong, notBest, Repaired, NoDearer}
+use Rattle.book.specs.Repairs.{closes-repaired, closes-refused, closes-found}
+use Rattle.book.specs.Here.{openOf, columnsOf, Missing, reportLength, DoubtfulList, FewWrong, notBest, TooFar, Repaired, NoDearer}
 use Rattle.book.specs.CallLaws.{rate-held, list-held}
 use Rattle.session.specs.declared.Session.{Session}
 use Rattle.session.specs.declared.Opened.{Opened}
@@ -49,6 +50,12 @@ module _ {s : Session} {book : Book} (follows : Follows s book) {calls : List Ca
       (list-held book calls ∙ none-doubtful) m
       (subst (λ r. Word 16 r m) k word)
       (subst (λ r. notBest r (columnsOf (afterAll book calls .row)) m ≤ T) k few))
+
+  pub follows-refused : Rate (book .rate) → book .doubtful ≡ [] → TooFar (book .rate) (columnsOf (afterAll book calls .row)) T m → a .number ≡ noneNear
+  follows-refused rate none-doubtful far =
+      let k = sym (rate-held book calls) in
+      closes-refused modem64 (follows .closed run step long whole-report) full (reach-after book calls reach) (rate-known (subst Rate k rate))
+      (list-held book calls ∙ none-doubtful) m (subst (λ r. TooFar r (columnsOf (afterAll book calls .row)) T m) k far)
 
   pub follows-found : FewWrong (book .rate) (columnsOf (afterAll book calls .row)) (book .doubtful) T m
       → NoDearer (book .rate) (columnsOf (afterAll book calls .row)) (book .doubtful) m (closedBy a)
@@ -80,12 +87,18 @@ module _ {rate : ℕ} (known : Rate rate) {r : Opened} {calls : List Call} {give
       follows-repaired (start-follows (by-opening known no-places opened)) run step long whole-report full reach m known refl word few
 
   pub run-faded : Opening (openOf rate []) r → Run (r .session) calls given t → Full rate [] calls
-      → blanksAfter (newBook rate []) calls ≤ mostBlank known → Word 16 rate m
+      → blanksAfter (newBook rate []) calls ≤ blankLimit rate → Word 16 rate m
       → notBest rate (columnsAfter rate [] calls) m ≤ reachOf rate (blanksAfter (newBook rate []) calls)
       → Repaired rate (columnsAfter rate [] calls) [] m (closedBy a)
   unfolding newBook
   run-faded opened run full few-blank word few =
-      run-repaired opened run full (reach-is m16 (known-workable rate (rate-known known)) (omega (arith, rate-blanks known .0))) word few
+      run-repaired opened run full (rate-reach known few-blank) word few
+
+  pub run-refused : Opening (openOf rate []) r → Run (r .session) calls given t → Full rate [] calls
+      → {T : ℕ} → ReachAfter (newBook rate []) calls T → TooFar rate (columnsAfter rate [] calls) T m → a .number ≡ noneNear
+  unfolding newBook
+  run-refused opened run full reach far =
+      follows-refused (start-follows (by-opening known no-places opened)) run step long whole-report full reach m known refl far
 
   pub run-found : {list : List ℕ} → DoubtfulList list → Opening (openOf rate list) r → Run (r .session) calls given t → Full rate list calls
       → {T : ℕ} → ReachAfter (newBook rate list) calls T

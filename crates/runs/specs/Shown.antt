@@ -2,7 +2,7 @@
 --
 --   step-reads, step-shows   of a good session: an accepted reading shows the least Q (Reads), and an accepted closing the numbers of its answer
 --                        (ReportedIn), both of every book that agrees with the session's
---   run-reads            after every run from an opened session, reading into 82 bytes shows the least Q of the book that the calls leave
+--   run-reads            after every run from an opened session, reading into 98 bytes shows the least Q of the book that the calls leave
 --   run-shows            after every run of fitting calls, from one whose row has columns of costs of 0 to 65535, an accepted closing shows its numbers
 --   opened-shows, capture-shows   so of one opened with a rate and a list, and of one opened by an accepted capture
 --   step-writes, run-writes   an accepted writing gives a capture whose records are in place order: of a good session, and after every run
@@ -17,13 +17,13 @@ use Prim.Native.Nat.{ℕ}
 use lib.ListN.{length}
 use Rattle.lists.specs.Distinct.{below}
 use Rattle.refusals.specs.Refusal.{accepted}
+use Rattle.interpolant.specs.LeastQ.{readingLength}
 use Rattle.book.specs.Model.{modem64}
 use Rattle.book.specs.Book.{Book, newBook, columnIn}
 use Rattle.book.specs.Columns.{Agree}
 use Rattle.book.specs.PlaceOrder.{InPlaceOrder}
 use Rattle.book.specs.Writing.{Filled}
 use Rattle.book.specs.CaptureOpening.{rateIn, recordsIn, openCaptureOf}
-use Rattle.book.specs.Reading.{readingLength}
 use Rattle.book.specs.OpeningLaws.{list-short, Rate, known-rate}
 use Rattle.book.specs.AnyCalls.{Answer}
 use Rattle.book.specs.Calls.{Call, reading, writing, closing, answer, afterAll}

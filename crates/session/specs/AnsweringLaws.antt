@@ -12,10 +12,10 @@ use lib.ListN.{length, take}
 use Rattle.refusals.specs.Refusal.{accepted, wrongSize, placeMissing}
 use Rattle.soft.specs.Column.{symbols, columnOf}
 use Rattle.near.specs.Here.{mOf}
-use Rattle.interpolant.specs.LeastQ.{readingOf}
+use Rattle.interpolant.specs.LeastQ.{readingOf, readingLength}
 use Rattle.book.specs.Model.{modem64}
 use Rattle.book.specs.Writing.{Filled}
-use Rattle.book.specs.Reading.{readingLength, settledOf}
+use Rattle.book.specs.Reading.{settledOf}
 use Rattle.book.specs.ReadingLaws.{read-size, read-accepted}
 use Rattle.book.specs.Closing.{Closed, refusedClosing}
 use Rattle.book.specs.ClosingLaws.{decode-kept, decode-sized}

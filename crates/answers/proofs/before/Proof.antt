@@ -3,6 +3,7 @@ use mathlib.Core.Path.{_≡_, refl, sym, _∙_}
 use Prim.Native.Nat.{_≤_, _<_, _-_}
 use native.Mathlib.Omega.{arith}
 use lib.ListN.{length, take, drop}
+use Rattle.code.specs.Encoding.{mostRate}
 use Rattle.lists.specs.Words.{isBefore}
 use Rattle.answers.proofs.Joining.{before-yes, before-no, before-next, before-end}
 use borrow.Author.Needs.{needs}
@@ -10,7 +11,7 @@ use Rattle.answers.proofs.before.Statement.{statement}
 use Rattle.answers.proofs.before.Tie as tie
 
 abbrev Inv-loop : tie.InvT-loop
-Inv-loop k a b t₀ t = (t ≤ k) × (length a ≡ 49) × (length b ≡ 49) × (isBefore (take k a) (take k b) ≡ isBefore (drop t (take k a)) (drop t (take k b)))
+Inv-loop k a b t₀ t = (t ≤ k) × (length a ≡ mostRate) × (length b ≡ mostRate) × (isBefore (take k a) (take k b) ≡ isBefore (drop t (take k a)) (drop t (take k b)))
 
 abbrev μ-loop : tie.MeasureT-loop
 μ-loop k a b t₀ t = k - t
@@ -27,7 +28,7 @@ array-read-if1-2 c = search needs
 returns : tie.Need-returns Inv-loop μ-loop
 returns c =
     let i = c .before .before .loop .inv in
-    let h : c .before .before .before .args .k ≤ 49 = search needs in
+    let h : c .before .before .before .args .k ≤ mostRate = search needs in
     let l : c .before .before .loop .t < c .before .before .before .args .k = search needs in
     sym (i .3 ∙ before-yes _ _ _ _ h (i .1) (i .2) l (search needs))
 
@@ -40,7 +41,7 @@ array-read-if2-2 c = search needs
 returns-2 : tie.Need-returns-2 Inv-loop μ-loop
 returns-2 c =
     let i = c .before .before .before .loop .inv in
-    let h : c .before .before .before .before .args .k ≤ 49 = search needs in
+    let h : c .before .before .before .before .args .k ≤ mostRate = search needs in
     let l : c .before .before .before .loop .t < c .before .before .before .before .args .k = search needs in
     sym (i .3 ∙ before-no _ _ _ _ h (i .1) (i .2) l (search needs))
 
@@ -53,7 +54,7 @@ loop-less c = search needs
 loop-again : tie.Need-loop-again Inv-loop μ-loop
 loop-again c =
     let i = c .before .before .before .loop .inv in
-    let h : c .before .before .before .before .args .k ≤ 49 = search needs in
+    let h : c .before .before .before .before .args .k ≤ mostRate = search needs in
     let l : c .before .before .before .loop .t < c .before .before .before .before .args .k = search needs in
     (search needs, i .1, i .2, i .3 ∙ before-next _ _ _ _ h (i .1) (i .2) l (search needs))
 

@@ -3,6 +3,7 @@ use mathlib.Core.Path.{_≡_}
 use Prim.Native.Nat.{_≤_, _-_}
 use native.Mathlib.Omega.{arith}
 use lib.ListN.{replicate}
+use Rattle.code.specs.Encoding.{mostRate}
 use Rattle.lists.specs.Filled.{Filled, filled-start, filled-turn}
 use Rattle.candidate.specs.Candidate.{symbolIn}
 use Rattle.candidate.proofs.Message.{symbol-at, message-end}
@@ -12,7 +13,7 @@ use Rattle.candidate.proofs.message_of.Statement.{statement}
 use Rattle.candidate.proofs.message_of.Tie as tie
 
 abbrev Inv-loop : tie.InvT-loop
-Inv-loop k function out₀ t₀ out t = (t ≤ k) × Filled (replicate 49 0) (symbolIn function) t out
+Inv-loop k function out₀ t₀ out t = (t ≤ k) × Filled (replicate mostRate 0) (symbolIn function) t out
 
 abbrev μ-loop : tie.MeasureT-loop
 μ-loop k function out₀ t₀ out t = k - t

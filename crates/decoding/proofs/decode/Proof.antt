@@ -2,6 +2,7 @@
 use mathlib.Core.Path.{_≡_, sym, _∙_}
 use native.Mathlib.Omega.{arith}
 use lib.ListN.{length}
+use Rattle.code.specs.Encoding.{mostRate}
 use Rattle.code.specs.Rates.{known-bounds}
 use Rattle.book.specs.Here.{reportLength}
 use Rattle.answers.specs.Result.{total-near}
@@ -12,7 +13,7 @@ use Rattle.decoding.proofs.decode.Statement.{statement}
 use Rattle.decoding.proofs.decode.Tie as tie
 
 -- the message that was found has room for every rate
-found-room : (c : tie.After-nearest) → length (c .nearest .result .message) ≡ 49
+found-room : (c : tie.After-nearest) → length (c .nearest .result .message) ≡ mostRate
 found-room c = search needs
 
 -- and the report has its length

@@ -1,16 +1,17 @@
 -- `known_rate` meets its contract, by its two tests.
-use borrow.Author.Tests.{eq-eqb, ne-eqb}
-use Rattle.code.specs.Encoding.{knownRate}
+use native.Mathlib.Omega.{arith}
+use borrow.Author.Tests.{lt-leb, le-leb}
+use Rattle.code.specs.Encoding.{leastRate, knownRate}
 use Rattle.encoding.proofs.known_rate.Statement.{statement}
 use Rattle.encoding.proofs.known_rate.Tie as tie
 
 returns : tie.Need-returns
 unfolding knownRate
-returns c = rw (eq-eqb (c .before .args .rate) 39 (c .if1 .taken))
+returns c = rw (lt-leb leastRate (c .before .args .rate) (c .if1 .taken))
 
 returns-2 : tie.Need-returns-2
 unfolding knownRate
-returns-2 c = rw (ne-eqb (c .before .args .rate) 39 (c .if1 .left))
+returns-2 c = rw (le-leb leastRate (c .before .args .rate) (omega arith))
 
 pub known-rate-spec : {M : Type 1} → statement M
 known-rate-spec = tie.close (tie.spec returns returns-2)

@@ -1,14 +1,14 @@
--- `show_reading` ends and stays within its buffer: the bytes passed are at most 82.
+-- `show_reading` ends and stays within its buffer: the bytes passed are at most 98.
 use Prim.Native.Nat.{_≤_, _-_}
 use borrow.Author.Needs.{needs}
 use Rattle.reading_check.proofs.show_reading.Statement.{statement}
 use Rattle.reading_check.proofs.show_reading.Tie as tie
 
 abbrev Inv-loop : tie.InvT-loop
-Inv-loop out i₀ t4 i = i ≤ 82
+Inv-loop out i₀ t4 i = i ≤ 98
 
 abbrev μ-loop : tie.MeasureT-loop
-μ-loop out i₀ t4 i = 82 - i
+μ-loop out i₀ t4 i = 98 - i
 
 slice-aggregate-read-interpolant : tie.Need-slice-aggregate-read-interpolant Inv-loop μ-loop
 slice-aggregate-read-interpolant c = search needs

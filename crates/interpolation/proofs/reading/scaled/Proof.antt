@@ -8,6 +8,7 @@ use lib.ListN.{drop, replicate}
 use Rattle.lists.specs.Listed.{listed, listed-start, listed-store, listed-end}
 use Rattle.algebra.specs.Coefficients.{scale}
 use Rattle.galois.specs.Field16.{K16, toF}
+use Rattle.interpolant.specs.LeastQ.{readingLength}
 use Rattle.interpolant.specs.Reading.{byteOf}
 use Rattle.interpolation.specs.Parts.{polynomialOf}
 use Rattle.interpolation.proofs.Shown.{scaled-byte}
@@ -16,10 +17,10 @@ use Rattle.interpolation.proofs.reading.scaled.Tie as tie
 
 abbrev Inv-loop : tie.InvT-loop
 Inv-loop q0 q1 by out₀ i₀ out i =
-    (i ≤ 82) × ((M : ℕ) → out ≡ listed i (byteOf M (scale K16 (toF by) (polynomialOf M q0 q1))) ++ drop i (replicate 82 0))
+    (i ≤ readingLength) × ((M : ℕ) → out ≡ listed i (byteOf M (scale K16 (toF by) (polynomialOf M q0 q1))) ++ drop i (replicate readingLength 0))
 
 abbrev μ-loop : tie.MeasureT-loop
-μ-loop q0 q1 by out₀ i₀ out i = 82 - i
+μ-loop q0 q1 by out₀ i₀ out i = readingLength - i
 
 loop-holds : tie.Need-loop-holds Inv-loop μ-loop
 loop-holds c = (search needs, λ M. listed-start _ _)
@@ -41,12 +42,12 @@ loop-less c = search needs
 
 loop-again : tie.Need-loop-again Inv-loop μ-loop
 loop-again c =
-    (search needs, λ M. listed-store 0 _ (replicate 82 0) _ _ _ (search needs) (scaled-byte _ _ _ _ _ _ M (c .product .ensures) (c .before .shown .ensures M)) (c .before .before .before .loop .inv .1 M))
+    (search needs, λ M. listed-store 0 _ (replicate readingLength 0) _ _ _ (search needs) (scaled-byte _ _ _ _ _ _ M (c .product .ensures) (c .before .shown .ensures M)) (c .before .before .before .loop .inv .1 M))
 
 returns : tie.Need-returns Inv-loop μ-loop
 returns c = λ M.
-    let e : c .before .loop .i ≡ 82 = omega arith in
-    rw e at (listed-end _ (replicate 82 0) _ _ (search needs) (c .before .loop .inv .1 M))
+    let e : c .before .loop .i ≡ readingLength = omega arith in
+    rw e at (listed-end _ (replicate readingLength 0) _ _ (search needs) (c .before .loop .inv .1 M))
 
 pub scaled-spec : {M : Type 1} → statement M
 scaled-spec =
