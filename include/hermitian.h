@@ -7,7 +7,7 @@
  * calls on different buffers may run at once.
  *
  * Lengths. Every buffer is a pointer and the true number of bytes behind it. A buffer that
- * is not of the size that a call asks for is refused. k is the rate, 39 or 49.
+ * is not of the size that a call asks for is refused. k is the rate, 6 to 52.
  *
  *   message   exactly k bytes, one symbol each, 0 to 15
  *   word      exactly 64 bytes, one symbol each, place 0 first
@@ -50,13 +50,13 @@ extern "C" {
 
 enum hermitian_refusal {
     HERMITIAN_ACCEPTED = 0,
-    HERMITIAN_UNKNOWN_RATE = 1, /* the rate is not 39 or 49 */
+    HERMITIAN_UNKNOWN_RATE = 1, /* the rate is not one of 6 to 52 */
     HERMITIAN_WRONG_SIZE = 2,   /* a buffer of the wrong size, or no 64 bytes from the start */
     HERMITIAN_NO_SYMBOL = 3,    /* a symbol above 15 */
     HERMITIAN_WRONG_DOUBT = 4,  /* a doubt above 12, or a maximum of 0 or above 12 */
     HERMITIAN_NO_CODEWORD = 8,  /* the word is not a codeword */
     HERMITIAN_NONE_NEAR = 9,    /* no codeword is near */
-    HERMITIAN_TOO_BLANK = 12    /* more than 13 blank places at rate 39, more than 3 at rate 49 */
+    HERMITIAN_TOO_BLANK = 12    /* more than 52 - k blank places at rate k */
 };
 
 /* Writes the codeword of the message into frame[start] to frame[start + 63]; the other
