@@ -14,8 +14,8 @@ use crate::curve::PLACES;
 use crate::decode::{table_of_columns, REPORT_BYTES, TABLE_BYTES};
 use crate::faults::{has, Fault, Faults, FAULT_SETS};
 use crate::frames::{
-    blank_column, blank_limit, codeword_with_zeros, faded, random_codeword, some_places, Frame,
-    Kind, DOUBTFUL_GAP, RATES, SETTLED_GAP,
+    blank_column, blank_limit, codeword_with_zeros, faded, random_codeword, some_places,
+    unknown_rate, Frame, Kind, DOUBTFUL_GAP, RATES, SETTLED_GAP,
 };
 use crate::random::Random;
 use crate::row::Row;
@@ -496,7 +496,7 @@ fn refused_call(round: usize, random: &mut Random) -> BelowCall {
     let mut call = right(BelowKind::Refused, rate, &columns, threshold, most);
     call.faults = faults;
     if call.has(Fault::Rate) {
-        call.rate = random.one_of(&[0, 38, 40, 48, 50, 255, rate + 256, u64::MAX]);
+        call.rate = unknown_rate(u64::MAX, random);
     }
     if call.has(Fault::Given) {
         // So a size comes with each of the sets of later faults.

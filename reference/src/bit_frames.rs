@@ -11,7 +11,7 @@ use crate::code::Code;
 use crate::curve::PLACES;
 use crate::decode::{REPORT_BYTES, TABLE_BYTES};
 use crate::faults::{has, Fault, Faults, FAULT_SETS};
-use crate::frames::{blank_limit, random_codeword, some_places, DOUBTFUL_GAP, RATES};
+use crate::frames::{blank_limit, random_codeword, some_places, unknown_rate, DOUBTFUL_GAP, RATES};
 use crate::light::lightest;
 use crate::pairs::NEAR_DOUBT;
 use crate::random::Random;
@@ -330,7 +330,7 @@ fn refused(round: usize, random: &mut Random) -> BitCall {
     }
     call.values = values.as_flattened().to_vec();
     if call.has(Fault::Rate) {
-        call.rate = random.one_of(&[0, 38, 40, 48, 50, 255, rate + 256, u64::MAX]);
+        call.rate = unknown_rate(u64::MAX, random);
     }
     if call.has(Fault::Given) {
         let size = SIZES[(set + turn_of_sets) % SIZES.len()];

@@ -82,6 +82,7 @@ pub fn decode_bits(
 mod tests {
     use super::*;
     use crate::decode::REPORT_BYTES;
+    use crate::frames::UNKNOWN_RATES;
     use crate::random::Random;
     use crate::soft::{best, gap, is_blank, second};
 
@@ -229,7 +230,7 @@ mod tests {
         };
         let right = [39, REPORT_BYTES];
         let mut values = vec![0; FRAME_VALUES];
-        for rate in [0, 38, 40, 295, u64::MAX] {
+        for rate in UNKNOWN_RATES {
             assert_eq!(decoded(rate, &values[1..], 13, [40; 2]), Err(Refusal::Rate));
         }
         for size in [0, 255, 257, 1024, 2048] {

@@ -188,19 +188,19 @@ pub struct Blanks {
 }
 
 impl Blanks {
-    /// Counts a frame with this refusal, or 0, and this margin; one without blank places is none.
+    /// Counts a frame with this refusal, or 0, and this margin; one without blank places is none, and so
+    /// is one at another rate than those that are counted.
     pub fn count(&mut self, faded: &Faded, number: u8, margin: Option<u32>) {
-        if faded.blanks == 0 {
+        let rate = RATES.iter().position(|rate| *rate == faded.rate);
+        let Some(rate) = rate.filter(|_| faded.blanks > 0) else {
             return;
-        }
+        };
         for event in faded.events(number, margin) {
             self.events[event as usize] += 1;
         }
         if [0, 9, 12].contains(&number) {
             self.kinds[faded.kind as usize] += 1;
-            let rate = RATES.iter().position(|rate| *rate == faded.rate);
-            let numbers = &mut self.numbers[rate.expect("a known rate")];
-            numbers[faded.blanks.min(NUMBERS) - 1] += 1;
+            self.numbers[rate][faded.blanks.min(NUMBERS) - 1] += 1;
         }
     }
 
@@ -308,6 +308,7 @@ impl fmt::Display for Blanks {
 #[cfg(test)]
 mod tests {
     use super::*;
+    use crate::call_lists::READING;
     use crate::frames::{faded, frame_s};
     use crate::random::Random;
 
@@ -392,16 +393,15 @@ mod tests {
             place,
             column: [cost; 16],
         };
-        let reading = Call::ReadInterpolant { size: 82 };
         let closing = Call::Close {
             message: 49,
             report: 13,
         };
-        let calls = [open(&[1]), deliver(1, 5), reading.clone(), deliver(2, 5)];
+        let calls = [open(&[1]), deliver(1, 5), READING, deliver(2, 5)];
         for call in calls {
             assert_eq!(events(&mut session, call), None);
         }
-        assert_eq!(events(&mut session, reading), Some(Event::Read));
+        assert_eq!(events(&mut session, READING), Some(Event::Read));
         for place in 3..5 {
             assert_eq!(events(&mut session, deliver(place, 5)), None);
         }

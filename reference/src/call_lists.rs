@@ -8,15 +8,21 @@ use crate::capture::SMALLEST;
 use crate::curve::PLACES;
 use crate::damage::{any_bytes, capture_of, damaged};
 use crate::decode::REPORT_BYTES;
-use crate::frames::Frame;
+use crate::frames::{any_rate, unknown_rate, Frame};
+use crate::least::INTERPOLANT_BYTES;
 use crate::random::Random;
 use crate::soft::Column;
 use crate::versions::spoilt;
 
 /// The sizes of an interpolant reading and of a report, and sizes beside them.
-const READING_SIZES: [u16; 4] = [82, 0, 81, 83];
+pub(crate) const READING_SIZES: [u16; 5] =
+    [READING_SIZE, 0, 82, READING_SIZE - 1, READING_SIZE + 1];
+const READING_SIZE: u16 = INTERPOLANT_BYTES as u16;
 const REPORT_SIZES: [u16; 5] = [REPORT_SIZE, 0, 8, REPORT_SIZE - 1, REPORT_SIZE + 1];
 const REPORT_SIZE: u16 = REPORT_BYTES as u16;
+
+/// An interpolant reading into a buffer of its size.
+pub(crate) const READING: Call = Call::ReadInterpolant { size: READING_SIZE };
 
 /// Places above 63; some have a place below 64 in their low byte.
 pub(crate) const UNKNOWN_PLACES: [u16; 9] = [64, 65, 127, 128, 255, 256, 256 + 7, 32768, 65535];
@@ -77,7 +83,7 @@ pub(crate) fn delivery(frame: &Frame, place: u8) -> Call {
 /// Reading, closing and writing into buffers of the right sizes.
 pub(crate) fn whole(frame: &Frame) -> [Call; 3] {
     [
-        Call::ReadInterpolant { size: 82 },
+        READING,
         Call::Close {
             message: frame.rate as u16,
             report: REPORT_SIZE,
@@ -98,7 +104,6 @@ fn capture_size(frame: &Frame) -> u16 {
 
 /// An opening that is refused, and calls on the session that it hands back.
 fn refused_opening(random: &mut Random) -> Vec<Call> {
-    let rates = [0, 38, 40, 48, 50, 39 + 256, 49 + 256, 65535];
     let lists: [&[u8]; 10] = [
         &[64],
         &[7, 7],
@@ -113,24 +118,26 @@ fn refused_opening(random: &mut Random) -> Vec<Call> {
     ];
     let doubtful = random.one_of(&lists).to_vec();
     let by_list = !doubtful.is_empty() && random.once_in(2);
-    let rate = if by_list {
-        39 + 10 * random.below(2) as u16
-    } else {
-        random.one_of(&rates)
+    let rate = match by_list {
+        true => any_rate(random),
+        false => unknown_rate(u64::from(u16::MAX), random),
     };
     vec![
-        Call::Open { rate, doubtful },
-        Call::Deliver {
-            place: random.below(64) as u16,
-            column: any_column(random),
+        Call::Open {
+            rate: rate as u16,
+            doubtful,
         },
         Call::Deliver {
             place: random.below(64) as u16,
             column: any_column(random),
         },
-        Call::ReadInterpolant { size: 82 },
+        Call::Deliver {
+            place: random.below(64) as u16,
+            column: any_column(random),
+        },
+        READING,
         Call::Close {
-            message: random.one_of(&[39, 49]),
+            message: random.one_of(&[39, 49, rate as u16 & 255]),
             report: REPORT_SIZE,
         },
         Call::WriteCapture {
@@ -142,7 +149,7 @@ fn refused_opening(random: &mut Random) -> Vec<Call> {
 /// One of the calls that change nothing, with the places of `taken` delivered.
 pub(crate) fn between(frame: &Frame, taken: &[u8], random: &mut Random) -> Call {
     match random.below(6) {
-        0 | 1 => Call::ReadInterpolant { size: 82 },
+        0 | 1 => READING,
         2 => Call::ReadInterpolant {
             size: random.one_of(&READING_SIZES),
         },
@@ -232,7 +239,7 @@ fn looked_up_and_opened(capture: Vec<u8>, random: &mut Random) -> [Call; 4] {
             capture: capture.clone(),
         },
         Call::OpenCapture { capture },
-        Call::ReadInterpolant { size: 82 },
+        READING,
         Call::WriteCapture { size },
     ]
 }

@@ -1,8 +1,8 @@
 //! Captures: writing, opening, look-up.
 //!
-//! "One version byte. Two bytes of length: the bytes that follow, 2,114 + d. Then the rate (39 or 49),
-//! d, d doubtful places, and 64 records of a place and its 32 cost bytes." "Captures with 9 to 12
-//! doubtful places carry version 2 in the same layout; those up to 8 stay version 1."
+//! "One version byte. Two bytes of length: the bytes that follow, 2,114 + d. Then the rate, d, d
+//! doubtful places, and 64 records of a place and its 32 cost bytes." "Captures with 9 to 12 doubtful
+//! places carry version 2 in the same layout; those up to 8 stay version 1."
 //!
 //! - [`write_capture`]: the capture of a session, its records in rising place order.
 //! - [`bytes_of`]: a capture with its records in the order given.

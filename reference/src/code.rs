@@ -1,16 +1,37 @@
 //! The code: encoding by summing monomials, reading back by linear solving.
 //!
-//! - [`Code`]: one code, with what elimination computes once for it; [`Code::of_rate`].
+//! - [`Code`]: one code, with what elimination computes once for it; [`Code::of_rate`], [`rates`].
 //! - [`Code::codeword`], [`Code::message`]: from message to word and back.
 //! - [`Code::reach_with`], [`Code::blank_limit`]: T with blank places, and how many there may be.
 //! - [`encode`], [`read_back`]: document 01's calls, with its checks.
 
+use std::ops::RangeInclusive;
 use std::sync::OnceLock;
 
 use crate::curve::{monomials, GENUS, PLACES};
 use crate::linear::Span;
 use crate::refusal::Refusal;
 use crate::row::Row;
+
+/// "The rate becomes any k from 6 to 52."
+pub const LEAST_RATE: u64 = 6;
+pub const MOST_RATE: u64 = 52;
+
+/// How many rates there are.
+pub const RATE_COUNT: usize = (MOST_RATE - LEAST_RATE + 1) as usize;
+
+/// All rates, which are also their numbers of message symbols.
+pub fn rates() -> RangeInclusive<u64> {
+    LEAST_RATE..=MOST_RATE
+}
+
+/// Which of the rates it is, from 0. "Other rates are unknown rates."
+pub(crate) fn number_of_rate(rate: u64) -> Result<usize, Refusal> {
+    match rates().contains(&rate) {
+        true => Ok((rate - LEAST_RATE) as usize),
+        false => Err(Refusal::Rate),
+    }
+}
 
 /// All functions of order at most M, by their values at the 64 places.
 pub struct Code {
@@ -45,15 +66,11 @@ impl Code {
         }
     }
 
-    /// "Rate 39 uses orders up to M = 44, rate 49 up to M = 54."
+    /// The code of a rate, "with M = k + 5"; each is made when it is first asked for.
     pub fn of_rate(rate: u64) -> Result<&'static Code, Refusal> {
-        static RATE_39: OnceLock<Code> = OnceLock::new();
-        static RATE_49: OnceLock<Code> = OnceLock::new();
-        match rate {
-            39 => Ok(RATE_39.get_or_init(|| Code::new(44))),
-            49 => Ok(RATE_49.get_or_init(|| Code::new(54))),
-            _ => Err(Refusal::Rate),
-        }
+        static CODES: [OnceLock<Code>; RATE_COUNT] = [const { OnceLock::new() }; RATE_COUNT];
+        let code = &CODES[number_of_rate(rate)?];
+        Ok(code.get_or_init(|| Code::new(rate as usize + 5)))
     }
 
     /// T with so many blank places; none where they are too many.
@@ -137,6 +154,7 @@ fn check_symbols(symbols: &[u8]) -> Result<(), Refusal> {
 #[cfg(test)]
 mod tests {
     use super::*;
+    use crate::frames::UNKNOWN_RATES;
     use crate::random::Random;
 
     const RATES: [u64; 2] = [39, 49];
@@ -148,7 +166,20 @@ mod tests {
             (code.symbols, code.top, code.reach)
         });
         assert_eq!(numbers, [(39, 44, 6), (49, 54, 1)]);
-        for rate in [0, 38, 40, 48, 50, 39 + 256, u64::MAX] {
+    }
+
+    /// "Rate 52 repairs nothing beyond its test words."
+    #[test]
+    fn every_rate_has_as_many_symbols_and_the_general_t() {
+        for rate in rates() {
+            let code = Code::of_rate(rate).unwrap();
+            assert_eq!(code.symbols as u64, rate);
+            assert_eq!(code.reach, (52 - rate as usize) / 2);
+            assert_eq!(code.blank_limit(), 52 - rate as usize);
+        }
+        let ends = [LEAST_RATE, MOST_RATE].map(|rate| Code::of_rate(rate).unwrap().top);
+        assert_eq!(ends, [11, 57]);
+        for rate in UNKNOWN_RATES {
             assert_eq!(Code::of_rate(rate).err(), Some(Refusal::Rate));
         }
     }
@@ -179,8 +210,8 @@ mod tests {
     #[test]
     fn reading_back_inverts_encoding_and_refuses_damage() {
         let mut random = Random::new(4, 0);
-        for _ in 0..500 {
-            for rate in RATES {
+        for round in 0..500 {
+            for rate in rates().filter(|rate| round < 25 || RATES.contains(rate)) {
                 let symbols = rate as usize;
                 let sent: Vec<u8> = (0..symbols).map(|_| random.symbol()).collect();
                 let mut word = [0; PLACES];
@@ -205,7 +236,7 @@ mod tests {
         let message = [16; 39];
         let mut frame = [99; 70];
         assert_eq!(
-            encode(40, &message[1..], &mut frame, 70),
+            encode(53, &message[1..], &mut frame, 70),
             Err(Refusal::Rate)
         );
         assert_eq!(encode(39, &message[1..], &mut frame, 0), Err(Refusal::Size));
@@ -224,7 +255,7 @@ mod tests {
         let mut message = [5; 39];
         let mut word = [0; 64];
         word[63] = 16;
-        assert_eq!(read_back(50, &word[1..], &mut message), Err(Refusal::Rate));
+        assert_eq!(read_back(5, &word[1..], &mut message), Err(Refusal::Rate));
         assert_eq!(read_back(39, &word[1..], &mut message), Err(Refusal::Size));
         assert_eq!(read_back(49, &word, &mut message), Err(Refusal::Size));
         assert_eq!(read_back(39, &word, &mut message), Err(Refusal::Symbol));

@@ -9,7 +9,7 @@
 use crate::capture::{
     bytes_of, version_of, DOUBTFUL_START, LARGEST, RECORD_BYTES, SMALLEST, VERSIONS,
 };
-use crate::frames::Frame;
+use crate::frames::{any_rate, Frame};
 use crate::random::Random;
 use crate::soft::{Column, DOUBT_LIMIT};
 
@@ -55,7 +55,7 @@ fn damage(bytes: &mut Vec<u8>, random: &mut Random) {
         3 => bytes[0] = random.one_of(&[0, 1, 2, 3, 129, 255]),
         4 => bytes[2] = bytes[2].wrapping_add(random.one_of(&[1, 255, 8])),
         5 => bytes.swap(1, 2),
-        6 => bytes[3] = random.one_of(&[0, 38, 39, 40, 48, 49, 50, 255]),
+        6 => bytes[3] = random.one_of(&[0, 5, 6, 39, 49, 52, 53, 255]),
         7 => bytes[4] = random.one_of(&[0, 1, 7, 8, 9, 12, 13, 255]),
         8 => consistent_doubt(bytes, random),
         9 => doubtful_place(bytes, random),
@@ -118,7 +118,7 @@ pub fn any_bytes(random: &mut Random) -> Vec<u8> {
     let mut bytes: Vec<u8> = (0..size).map(|_| random.number() as u8).collect();
     if size >= SMALLEST && random.once_in(2) {
         let length = ((size - 3) as u16).to_be_bytes();
-        let rate = random.one_of(&[39, 49]);
+        let rate = any_rate(random) as u8;
         let doubt = (size - SMALLEST) as u8;
         let version = random.one_of(&VERSIONS);
         bytes[..5].copy_from_slice(&[version, length[0], length[1], rate, doubt]);

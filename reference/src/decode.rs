@@ -310,7 +310,7 @@ mod tests {
             result
         };
         let mut columns = [[7; 16]; PLACES];
-        assert_eq!(decoded(40, &columns, 13, 40), Err(Refusal::Rate));
+        assert_eq!(decoded(53, &columns, 13, 40), Err(Refusal::Rate));
         assert_eq!(decoded(39, &columns, 13, 40), Err(Refusal::Size));
         assert_eq!(decoded(39, &columns, 13, 39), Err(Refusal::Doubt));
         for doubt in [8, 9, 12] {
@@ -336,7 +336,7 @@ mod tests {
         };
         let mut columns = [[7; 16]; PLACES];
         for most in [0, 13, 255, 256, 256 + 3, u64::MAX] {
-            assert_eq!(decoded(40, &columns, most, 40), Err(Refusal::Rate));
+            assert_eq!(decoded(5, &columns, most, 40), Err(Refusal::Rate));
             assert_eq!(decoded(39, &columns, most, 40), Err(Refusal::Size));
             assert_eq!(decoded(39, &columns, most, 39), Err(Refusal::Doubt));
         }

@@ -52,10 +52,12 @@ pub struct Doubts {
 }
 
 impl Doubts {
-    /// Counts a frame with so many doubtful places.
+    /// Counts a frame with so many doubtful places, if it has one of the rates that are counted.
     pub fn count(&mut self, rate: u64, doubt: usize, came: Came) {
         let rate = RATES.iter().position(|other| *other == rate);
-        let rate = rate.expect("a known rate");
+        let Some(rate) = rate else {
+            return;
+        };
         match came {
             Came::Answered { tests, margin } => {
                 self.answered[rate][doubt] += 1;

@@ -4,10 +4,10 @@
 //!   rates, the doubts and the numbers of blank places.
 //! - [`Kind`], [`KINDS`], [`frame`]: what a frame is made to try; [`faded`]: the same with blank
 //!   places.
-//! - [`some_places`], [`random_codeword`]: what they are made from.
+//! - [`some_places`], [`random_codeword`]: what they are made from; [`UNKNOWN_RATES`].
 //! - [`frame_s`]: the columns of the bench sheet's frames.
 
-use crate::code::Code;
+use crate::code::{Code, LEAST_RATE, MOST_RATE};
 use crate::curve::PLACES;
 use crate::field::{inverse, times};
 use crate::pairs::{clipped_pair, pair, pair_with, trio, Gaps, Planted, NEAR_DOUBT};
@@ -85,8 +85,38 @@ pub const KINDS: [Kind; 13] = [
 /// Margins on both sides of a byte's end, and zero beside one.
 pub const APART: [u32; 8] = [0, 1, 2, 255, 256, 257, 4095, 64_000];
 
-/// The rates, which are also their numbers of message symbols.
+/// The rates of the numbered frames.
 pub const RATES: [u64; 2] = [39, 49];
+
+/// Rates that there are not. Of those that a byte does not hold some have a known one in their low byte.
+pub const UNKNOWN_RATES: [u64; 15] = [
+    0,
+    1,
+    5,
+    53,
+    54,
+    58,
+    64,
+    255,
+    256 + 6,
+    256 + 39,
+    256 + 52,
+    65535,
+    (1 << 32) + 39,
+    (1 << 63) + 20,
+    u64::MAX,
+];
+
+/// One of them that is at most so large.
+pub(crate) fn unknown_rate(most: u64, random: &mut Random) -> u64 {
+    let held = UNKNOWN_RATES.into_iter().filter(|rate| *rate <= most);
+    random.one_of(&held.collect::<Vec<u64>>())
+}
+
+/// One of all rates.
+pub(crate) fn any_rate(random: &mut Random) -> u64 {
+    random.between(LEAST_RATE as usize, MOST_RATE as usize) as u64
+}
 
 impl Kind {
     /// The kind of a numbered frame.

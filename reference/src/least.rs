@@ -1,16 +1,17 @@
 //! The least Q = Q0 + Q1 z, by elimination over terms in rising order of key.
 //!
 //! - [`Term`], [`terms`]: the monomials without and with z, smallest first.
-//! - [`least`]: the 82 bytes of the least Q for settled places and their best symbols.
+//! - [`least`]: the 98 bytes of the least Q for settled places and their best symbols.
 
 use crate::code::Code;
 use crate::curve::{monomials, Monomial, PLACES};
 use crate::linear::Span;
 use crate::row::Row;
 
-/// "Bytes 0 to 64 are Q0 by order, 65 to 81 are Q1 by orders 0 to 16."
-pub const INTERPOLANT_BYTES: usize = Q1_START + 17;
-const Q1_START: usize = 65;
+/// "The interpolant reading becomes 98 bytes: Q0 for orders 0 to 64, Q1 for 0 to 32."
+pub const INTERPOLANT_BYTES: usize = Q1_START + Q1_TOP + 1;
+pub const Q1_START: usize = 65;
+pub const Q1_TOP: usize = 32;
 
 /// A monomial, times z or not.
 #[derive(Clone, Copy, Debug, PartialEq, Eq)]
@@ -31,7 +32,7 @@ impl Term {
         }
     }
 
-    /// Where the term's coefficient stands among the 82 bytes.
+    /// Where the term's coefficient stands among the 98 bytes.
     fn byte(self) -> usize {
         let start = if self.with_z { Q1_START } else { 0 };
         start + self.monomial.order()
@@ -86,13 +87,14 @@ fn bytes_of(terms: &[Term], combination: &Row) -> [u8; INTERPOLANT_BYTES] {
 #[cfg(test)]
 mod tests {
     use super::*;
+    use crate::code::{rates, LEAST_RATE, RATE_COUNT};
     use crate::curve::points;
     use crate::field::times;
     use crate::random::Random;
 
-    /// The coefficients of the 82 bytes, smallest term first.
+    /// The coefficients of the 98 bytes, smallest term first.
     fn coefficients(code: &Code, bytes: &[u8; INTERPOLANT_BYTES]) -> Vec<(Term, u8)> {
-        let held = |term: &Term| !term.with_z || term.monomial.order() <= 16;
+        let held = |term: &Term| !term.with_z || term.monomial.order() <= Q1_TOP;
         let terms = terms(code.top).into_iter().filter(held);
         terms.map(|term| (term, bytes[term.byte()])).collect()
     }
@@ -100,8 +102,8 @@ mod tests {
     #[test]
     fn least_vanishes_has_coefficient_one_and_one_condition_fewer_than_terms() {
         let mut random = Random::new(20, 0);
-        for round in 0..120 {
-            let code = Code::of_rate([39, 49][round % 2]).unwrap();
+        for round in 0..10 * RATE_COUNT as u64 {
+            let code = Code::of_rate(LEAST_RATE + round % RATE_COUNT as u64).unwrap();
             let places = random.shuffled(0..PLACES as u8);
             let count = random.between(0, PLACES);
             let settled: Vec<(u8, u8)> = places[..count]
@@ -128,6 +130,28 @@ mod tests {
             assert!([1, 2, 3, 6, 7, 11]
                 .iter()
                 .all(|n| bytes[*n] == 0 && bytes[Q1_START + n] == 0));
+        }
+    }
+
+    /// The largest order of Q1, where all places are settled and follow no codeword: at rate 6 it takes
+    /// the last byte, and from M = 42 on none above 16. Where M is large x^16 + x is less than any Q with
+    /// z.
+    #[test]
+    fn the_bytes_hold_q1_at_every_rate() {
+        let mut random = Random::new(23, 0);
+        for rate in rates() {
+            let code = Code::of_rate(rate).unwrap();
+            let orders = [(); 8].map(|_| {
+                let settled: Vec<(u8, u8)> = (0..64).map(|p| (p, random.symbol())).collect();
+                let bytes = least(code, &settled);
+                bytes[Q1_START..].iter().rposition(|byte| *byte != 0)
+            });
+            let most = orders.into_iter().flatten().max().unwrap_or(0);
+            match rate {
+                LEAST_RATE => assert_eq!(most, Q1_TOP),
+                ..37 => assert!((17..Q1_TOP).contains(&most), "{most} at rate {rate}"),
+                _ => assert!(most <= 16, "{most} at rate {rate}"),
+            }
         }
     }
 

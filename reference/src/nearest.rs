@@ -31,7 +31,7 @@
 use std::borrow::Cow;
 use std::sync::OnceLock;
 
-use crate::code::Code;
+use crate::code::{number_of_rate, Code, RATE_COUNT};
 use crate::curve::{monomials, GENUS, PLACES};
 use crate::field;
 use crate::linear::Span;
@@ -99,12 +99,11 @@ impl<'a> Finder<'a> {
         }
     }
 
-    /// The finder of a rate's code.
+    /// The finder of a rate's code, made when it is first asked for.
     pub fn of_rate(rate: u64) -> Result<&'static Finder<'static>, Refusal> {
-        static RATE_39: OnceLock<Finder> = OnceLock::new();
-        static RATE_49: OnceLock<Finder> = OnceLock::new();
+        static FINDERS: [OnceLock<Finder>; RATE_COUNT] = [const { OnceLock::new() }; RATE_COUNT];
         let code = Code::of_rate(rate)?;
-        let finder = if rate == 39 { &RATE_39 } else { &RATE_49 };
+        let finder = &FINDERS[number_of_rate(rate)?];
         Ok(finder.get_or_init(|| Finder::new(code)))
     }
 
@@ -333,6 +332,7 @@ fn punctured(checks: &[Row], blank: &[usize]) -> Vec<Row> {
 #[cfg(test)]
 mod tests {
     use super::*;
+    use crate::code::rates;
     use crate::frames::some_places;
     use crate::random::Random;
 
@@ -367,7 +367,7 @@ mod tests {
 
     #[test]
     fn checks_are_as_many_as_the_code_lacks_and_pass_its_words() {
-        for rate in RATES {
+        for rate in rates() {
             let code = Code::of_rate(rate).unwrap();
             let checks = checks(&code.monomials);
             assert_eq!(checks.len(), PLACES - code.symbols);
@@ -407,12 +407,16 @@ mod tests {
     #[test]
     fn up_to_t_errors_are_always_repaired() {
         let mut random = Random::new(10, 0);
-        for rate in RATES {
+        for rate in rates() {
             let code = Code::of_rate(rate).unwrap();
             let finder = Finder::of_rate(rate).unwrap();
             for blanks in 0..=code.blank_limit() {
                 let reach = code.reach_with(blanks).unwrap();
-                let rounds = if blanks == 0 { 4000 } else { 500 };
+                let rounds = match (RATES.contains(&rate), blanks) {
+                    (true, 0) => 4000,
+                    (true, _) => 500,
+                    _ => 2 * (reach + 1),
+                };
                 for round in 0..rounds {
                     let message = random_message(code, &mut random);
                     let codeword = code.codeword(&message);
@@ -446,7 +450,8 @@ mod tests {
 
     #[test]
     fn too_many_blank_places_leave_no_t() {
-        for (rate, limit) in [(39, 13), (49, 3)] {
+        let of_two = [(39, 13), (49, 3)];
+        for (rate, limit) in rates().zip((0..=46).rev()).chain(of_two) {
             let finder = Finder::of_rate(rate).unwrap();
             let all: Vec<u8> = (0..PLACES as u8).collect();
             for blanks in 0..=PLACES {
@@ -460,10 +465,11 @@ mod tests {
     #[test]
     fn what_is_found_is_a_codeword_within_t() {
         let mut random = Random::new(11, 0);
-        for rate in RATES {
+        for rate in rates() {
             let code = Code::of_rate(rate).unwrap();
             let finder = Finder::of_rate(rate).unwrap();
-            for round in 0..4000 {
+            let rounds = if RATES.contains(&rate) { 4000 } else { 400 };
+            for round in 0..rounds {
                 let codeword = code.codeword(&random_message(code, &mut random));
                 let blanks = round / 8 % (code.blank_limit() + 1);
                 let blank = some_places(blanks, &mut random);
@@ -473,6 +479,26 @@ mod tests {
                     assert_ne!(near.codeword, codeword);
                     assert_eq!(near.codeword, code.codeword(&near.message));
                     assert!(distance(&near.codeword, &word, &blank) <= reach);
+                }
+            }
+        }
+    }
+
+    /// Two codewords differ in 64 − M places at least: where between T + 1 and 63 − M − T symbols of one
+    /// are wrong, no other is within T. At rate 52 these are 1 to 6.
+    #[test]
+    fn too_many_errors_for_t_and_too_few_for_another_codeword_leave_none_near() {
+        let mut random = Random::new(16, 0);
+        for rate in rates() {
+            let code = Code::of_rate(rate).unwrap();
+            let unblanked = Finder::of_rate(rate).unwrap().unblanked(&[]).unwrap();
+            let most = PLACES - 1 - code.top - code.reach;
+            assert_eq!(most - code.reach, 6 + rate as usize % 2);
+            for wrong in code.reach + 1..=most {
+                for _ in 0..20 {
+                    let codeword = code.codeword(&random_message(code, &mut random));
+                    let word = damaged(&codeword, &[], wrong, &mut random);
+                    assert_eq!(unblanked.nearest(&word), None, "{wrong} at rate {rate}");
                 }
             }
         }

@@ -7,7 +7,7 @@
 /// Why a call is refused.
 #[derive(Clone, Copy, Debug, PartialEq, Eq)]
 pub enum Refusal {
-    /// "1 rate not 39 or 49"
+    /// The rate is not one "from 6 to 52".
     Rate = 1,
     /// "2 a lent buffer of the wrong size, or no 64 bytes from the start"
     Size = 2,
@@ -30,7 +30,7 @@ pub enum Refusal {
     Version = 10,
     /// "11 size or length wrong"
     Length = 11,
-    /// "12: more than 13 blanks at rate 39, more than 3 at rate 49"
+    /// More blank places than 57 − M: "more than 13 blanks at rate 39, more than 3 at rate 49".
     TooBlank = 12,
     /// "13: the place is not taken", which a withdrawal asks for.
     NotTaken = 13,

@@ -118,8 +118,8 @@ impl Session {
         Ok(())
     }
 
-    /// "Interpolant reading: 2 for a wrong size; else the 82 bytes of the least Q for the row's
-    /// settled places." A blank place "is not interpolated".
+    /// "Interpolant reading: 2 for a wrong size; else the bytes of the least Q for the row's
+    /// settled places", of which there are 98. A blank place "is not interpolated".
     pub fn read_interpolant(&self, out: &mut [u8]) -> Result<(), Refusal> {
         check_size(out, INTERPOLANT_BYTES)?;
         let settled = self
@@ -166,7 +166,7 @@ mod tests {
 
     #[test]
     fn opening_checks_rate_then_list() {
-        assert_eq!(Session::open(38, &[64]), Err(Refusal::Rate));
+        assert_eq!(Session::open(53, &[64]), Err(Refusal::Rate));
         for list in [
             &[64][..],
             &[3, 3],

@@ -24,7 +24,7 @@ use crate::decode::{decode_table, decode_table_below, margin_of, table_of_column
 use crate::doubts::{Came, Doubts};
 use crate::fade_counts::FadeCounts;
 use crate::fades::Fade;
-use crate::frames::{random_codeword, Frame, Kind, RATES};
+use crate::frames::{random_codeword, unknown_rate, Frame, Kind, RATES};
 use crate::margins::Margins;
 use crate::random::Random;
 use crate::refusal::number;
@@ -325,17 +325,7 @@ fn bytes(length: usize, random: &mut Random) -> Vec<u8> {
 /// The rate, or once in twenty another number.
 fn perhaps_unknown(rate: u64, random: &mut Random) -> u64 {
     if random.once_in(20) {
-        random.one_of(&[
-            0,
-            38,
-            40,
-            48,
-            50,
-            255,
-            rate + 256,
-            rate + (1 << 32),
-            u64::MAX,
-        ])
+        unknown_rate(u64::MAX, random)
     } else {
         rate
     }
@@ -344,7 +334,7 @@ fn perhaps_unknown(rate: u64, random: &mut Random) -> u64 {
 /// The size, or once in twenty another one.
 fn perhaps_other(size: usize, random: &mut Random) -> usize {
     if random.once_in(20) {
-        random.one_of(&[0, 8, size - 1, size + 1, 39, 49])
+        random.one_of(&[0, 6, 8, size - 1, size + 1, 39, 49, 52])
     } else {
         size
     }
@@ -614,7 +604,8 @@ mod tests {
     /// How many more places of a table are blank than may be.
     fn beyond_limit(rate: u64, table: &[u8]) -> i64 {
         let columns = table.chunks_exact(COLUMN_BYTES).map(column_of_bytes);
-        columns.filter(is_blank).count() as i64 - if rate == 39 { 13 } else { 3 }
+        let limit = Code::of_rate(rate).map_or(0, Code::blank_limit);
+        columns.filter(is_blank).count() as i64 - limit as i64
     }
 
     /// Table decoding with one fault each in what it takes for blank or makes of it.
@@ -964,8 +955,8 @@ mod tests {
             ),
             (
                 "the doubt before the size",
-                |rate, values, doubt, message, report| match (rate, doubt) {
-                    (39 | 49, 13..) => 4,
+                |rate, values, doubt, message, report| match (Code::of_rate(rate), doubt) {
+                    (Ok(_), 13..) => 4,
                     _ => REFERENCE_BITS(rate, values, doubt, message, report),
                 },
             ),
@@ -1045,8 +1036,8 @@ mod tests {
             ),
             (
                 "the maximum before the size",
-                |rate, table, threshold, most, message, report| match (rate, most) {
-                    (39 | 49, 0 | 13..) => 4,
+                |rate, table, threshold, most, message, report| match (Code::of_rate(rate), most) {
+                    (Ok(_), 0 | 13..) => 4,
                     _ => REFERENCE_BELOW(rate, table, threshold, most, message, report),
                 },
             ),

@@ -10,8 +10,9 @@ use crate::capture::{
     bytes_of, version_of, DOUBTFUL_START, DOUBT_BYTE, FIRST_VERSION_DOUBT, LARGEST, RATE_BYTE,
     RECORD_BYTES, SMALLEST, UNCOUNTED_BYTES, VERSIONS,
 };
+use crate::code::rates;
 use crate::curve::PLACES;
-use crate::frames::{some_places, Frame, RATES};
+use crate::frames::{some_places, unknown_rate, Frame};
 use crate::random::Random;
 use crate::soft::{Column, DOUBT_LIMIT};
 
@@ -82,7 +83,7 @@ pub fn faults_of(bytes: &[u8]) -> Vec<Fault> {
     if usize::from(bytes[DOUBT_BYTE]) != doubt {
         faults.push(Fault::Count);
     }
-    if !RATES.contains(&u64::from(bytes[RATE_BYTE])) {
+    if !rates().contains(&u64::from(bytes[RATE_BYTE])) {
         faults.push(Fault::Rate);
     }
     if VERSIONS.contains(&bytes[0]) && bytes[0] != version_of(doubt) {
@@ -248,7 +249,7 @@ fn spoil(bytes: &mut [u8], fault: Fault, random: &mut Random) {
             ];
             bytes[DOUBT_BYTE] = random.one_of(&counts) as u8;
         }
-        Fault::Rate => bytes[RATE_BYTE] = random.one_of(&[0, 38, 40, 48, 50, 255]),
+        Fault::Rate => bytes[RATE_BYTE] = unknown_rate(u64::from(u8::MAX), random) as u8,
         Fault::Misfit => bytes[0] = VERSIONS[0] + VERSIONS[1] - version_of(doubt),
         Fault::ListAbove => {
             // The last one, so that the list rises.

@@ -3,7 +3,7 @@
 //! - [`withdrawal_list`]: the list of a numbered frame.
 
 use crate::arrivals::Arrival;
-use crate::call_lists::{any_column, between, opening, whole, UNKNOWN_PLACES};
+use crate::call_lists::{any_column, between, opening, whole, READING, UNKNOWN_PLACES};
 use crate::calls::Call;
 use crate::curve::PLACES;
 use crate::damage::{capture_of, damaged};
@@ -151,7 +151,7 @@ impl Making<'_> {
         let Some(place) = place else { return };
         self.withdraw(place);
         if self.random.once_in(4) {
-            self.make(Call::ReadInterpolant { size: 82 });
+            self.make(READING);
         }
     }
 
@@ -203,7 +203,7 @@ impl Making<'_> {
         let spoiled = damaged(&capture, &mut self.random);
         self.make(Call::OpenCapture { capture: spoiled });
         self.withdraw(missing[0]);
-        self.make(Call::ReadInterpolant { size: 82 });
+        self.make(READING);
 
         self.make(Call::OpenCapture { capture });
         let column = any_column(&mut self.random);

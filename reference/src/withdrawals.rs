@@ -232,6 +232,7 @@ fn delivered_again(withdrawn: &Column, column: &Column) -> Vec<Event> {
 #[cfg(test)]
 mod tests {
     use super::*;
+    use crate::call_lists::READING;
 
     /// The events of calls, in order.
     fn events(calls: &[Call]) -> Vec<Event> {
@@ -245,7 +246,6 @@ mod tests {
         events
     }
 
-    const READING: Call = Call::ReadInterpolant { size: 82 };
     const WRITING: Call = Call::WriteCapture { size: 2118 };
 
     /// A delivery of sixteen costs that rise.

@@ -375,7 +375,7 @@ mod tests {
         let drawn = Drawn::made(39, &[5, 6]);
         assert_eq!(drawn.to_string(), "39 5,6");
         assert_eq!(Drawn::named("39 5,6: 1,000, none near"), Some(drawn));
-        for wrong in ["", "39", "40 5", "39 5,", "39 x", "five 5"] {
+        for wrong in ["", "39", "53 5", "39 5,", "39 x", "five 5"] {
             assert_eq!(Drawn::named(wrong), None, "{wrong}");
         }
     }

@@ -6,6 +6,7 @@ use reference::curve::{monomials, points, Monomial, Point, PLACES};
 use reference::decode::{decode_table, margin_of, table_of_columns, Answer, REPORT_BYTES};
 use reference::field::times;
 use reference::frames::frame_s;
+use reference::least::INTERPOLANT_BYTES;
 use reference::refusal::Refusal;
 use reference::session::Session;
 use reference::show::show;
@@ -174,9 +175,9 @@ fn r6_a_table_of_zero_bytes() {
 fn r7_interpolant_readings() {
     for rate in [39, 49] {
         let mut session = Session::open(rate, &[]).unwrap();
-        let mut reading = [99; 82];
+        let mut reading = [99; INTERPOLANT_BYTES];
         assert_eq!(session.read_interpolant(&mut reading), Ok(()));
-        let mut expected = [0; 82];
+        let mut expected = [0; INTERPOLANT_BYTES];
         expected[0] = 1;
         assert_eq!(reading, expected);
 

@@ -9,6 +9,7 @@ use reference::decode::{
     REPORT_BYTES,
 };
 use reference::frames::{blank_limit, faded, Frame, Kind, KINDS, RATES};
+use reference::least::INTERPOLANT_BYTES;
 use reference::nearest::Finder;
 use reference::random::Random;
 use reference::refusal::Refusal;
@@ -41,8 +42,8 @@ fn closed(session: &Session) -> (Result<(), Refusal>, Vec<u8>, Vec<u8>) {
     (result, message, report)
 }
 
-fn read(session: &Session) -> [u8; 82] {
-    let mut reading = [99; 82];
+fn read(session: &Session) -> [u8; INTERPOLANT_BYTES] {
+    let mut reading = [99; INTERPOLANT_BYTES];
     assert_eq!(session.read_interpolant(&mut reading), Ok(()));
     reading
 }
@@ -117,11 +118,12 @@ fn lost_and_wrong_places_are_repaired() {
     }
 }
 
-/// "12: more than 13 blanks at rate 39, more than 3 at rate 49", and never else.
+/// 12 where more are blank than 57 − M, "more than 13 blanks at rate 39, more than 3 at rate 49", and
+/// never else.
 #[test]
 fn too_many_blank_places_are_refused() {
     for (frame, mut random) in frames(121, 0, 2) {
-        let limit = if frame.rate == 39 { 13 } else { 3 };
+        let limit = 57 - (frame.rate as usize + 5);
         let too_many = blank_places(&frame.columns).len() > limit;
         let session = delivered(&frame, &random.shuffled(0..64));
         let answers = [closed(&session), tabled(frame.rate, &frame.columns, 8)];

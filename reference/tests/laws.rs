@@ -9,6 +9,7 @@ use reference::curve::PLACES;
 use reference::damage::{capture_of, damaged};
 use reference::decode::{decode, decode_table, table_of_columns, test_words, REPORT_BYTES};
 use reference::frames::{frame, Frame, Kind, RATES};
+use reference::least::INTERPOLANT_BYTES;
 use reference::margins::Margins;
 use reference::nearest::Finder;
 use reference::pairs::{between, Gaps, NEAR_DOUBT};
@@ -63,7 +64,7 @@ fn readings_and_closings_do_not_depend_on_the_order_of_arrival() {
         let orders = [random.shuffled(0..64), random.shuffled(0..64)];
         let sessions = orders.map(|order| delivered(&frame, &frame.doubtful, &order));
         let readings = [0, 1].map(|n| {
-            let mut reading = [0; 82];
+            let mut reading = [0; INTERPOLANT_BYTES];
             sessions[n].read_interpolant(&mut reading).unwrap();
             reading
         });
@@ -167,7 +168,10 @@ fn sessions_that_hold_the_same_write_alike() {
             assert_eq!(session.deliver(place, column), Ok(()));
             assert_eq!(session.deliver(place, [7; 16]), Err(Refusal::Taken));
             if place.is_multiple_of(8) {
-                assert_eq!(session.read_interpolant(&mut [0; 82]), Ok(()));
+                assert_eq!(
+                    session.read_interpolant(&mut [0; INTERPOLANT_BYTES]),
+                    Ok(())
+                );
             }
         }
         assert_eq!(written(&session), expected);
@@ -256,7 +260,7 @@ const FAULTS: [(Refusal, Damage); 9] = [
     (Refusal::Length, |bytes| bytes.truncate(2116)),
     (Refusal::Version, |bytes| bytes[0] = 3),
     (Refusal::Length, |bytes| bytes[2] += 1),
-    (Refusal::Rate, |bytes| bytes[3] = 40),
+    (Refusal::Rate, |bytes| bytes[3] = 53),
     (Refusal::Doubt, |bytes| bytes[0] ^= 3),
     (Refusal::Doubt, |bytes| bytes[6] = bytes[5]),
     (Refusal::Place, |bytes| record(bytes, 5, 64)),
