@@ -161,13 +161,13 @@ impl Fade {
 }
 
 /// Two symbols that differ.
-fn any_two(random: &mut Random) -> (u8, u8) {
+pub(crate) fn any_two(random: &mut Random) -> (u8, u8) {
     let best = random.symbol();
     (best, random.other_symbol(best))
 }
 
 /// Two symbols that differ from each other and from this one.
-fn other_two(symbol: u8, random: &mut Random) -> (u8, u8) {
+pub(crate) fn other_two(symbol: u8, random: &mut Random) -> (u8, u8) {
     let best = random.other_symbol(symbol);
     let mut second = random.other_symbol(best);
     while second == symbol {

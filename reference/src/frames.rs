@@ -85,7 +85,7 @@ pub const KINDS: [Kind; 13] = [
 /// Margins on both sides of a byte's end, and zero beside one.
 pub const APART: [u32; 8] = [0, 1, 2, 255, 256, 257, 4095, 64_000];
 
-/// The rates of the numbered frames.
+/// The rates of the numbered frames; those of [`crate::rates`] go round all.
 pub const RATES: [u64; 2] = [39, 49];
 
 /// Rates that there are not. Of those that a byte does not hold some have a known one in their low byte.

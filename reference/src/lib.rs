@@ -3,7 +3,8 @@
 //!
 //! - products are polynomial arithmetic on bits ([`field`], and [`row`] for 64 at once);
 //! - the points of the curve are searched for, the monomials enumerated ([`curve`]);
-//! - encoding sums monomials, reading back solves linear equations ([`code`], [`linear`]);
+//! - encoding sums monomials, reading back solves linear equations ([`code`], [`linear`]), with one code
+//!   for each rate from 6 to 52;
 //! - the least Q is found by elimination over its terms ([`least`]);
 //! - each test word is decoded by itself, with an error locator and checks from which blank places
 //!   are eliminated, and of a tree of 4,096 the first one's syndromes serve all ([`nearest`]); answer and
@@ -39,28 +40,30 @@
 //! [`pairs`] those between codewords at least distance, [`fades`] those with consecutive places of
 //! noise, [`damage`] captures with faults, [`versions`] those of both versions with each fault,
 //! [`arrivals`] five sorts of order in which places arrive, [`below_frames`] thresholds and maxima,
-//! [`bit_frames`] bit values. The binary `compare` runs them in two ways. It counts the frames with each
+//! [`bit_frames`] bit values, all at rates 39 and 49; [`rates`] makes frames at every rate around what
+//! the rule decides there. The binary `compare` runs them in two ways. It counts the frames with each
 //! number of doubtful places, with blank ones and with a margin, the tables in which a pinned second is
 //! not chosen as doubtful, the captures of both versions, with what wrong rules would make of them,
 //! those written after each sort of order, the withdrawals of each sort, the sorts of fades, those of
-//! thresholds, with what wrong rules would lead to ([`slips`]), and those of bit values, and fails where
-//! they are too few to try it ([`doubts`], [`blanks`], [`margins`], [`choices`], [`version_counts`],
-//! [`written`], [`withdrawals`], [`fade_counts`], [`below_counts`], [`bit_counts`]).
+//! thresholds, with what wrong rules would lead to ([`slips`]), those of bit values and those of rates,
+//! with what wrong rules would lead to, and fails where they are too few to try it ([`doubts`],
+//! [`blanks`], [`margins`], [`choices`], [`version_counts`], [`written`], [`withdrawals`],
+//! [`fade_counts`], [`below_counts`], [`bit_counts`], [`rate_counts`]).
 //!
 //! Calls that cross as numbers and byte slices are linked: with the feature `proved`, and with
 //! `MODEM_LIB_DIR` naming the folder of `libmodem.a`, `compare code`, `compare tables`, `compare below`,
-//! `compare bits` and `compare fades` run the trials of [`trials`] on both libraries.
+//! `compare bits`, `compare fades` and `compare rates` run the trials of [`trials`] on both libraries.
 //!
 //! Sessions and captures are compared by stream: a program reads calls on its standard input and
 //! writes answers on its standard output, laid out as in [`calls`]; `compare run` starts it on the
 //! lists of [`call_lists`] and [`withdrawal_lists`] and names the first answer that differs, and
-//! `compare fades` on a session for each fade. `compare shows` does the same with a program that prints
-//! as `show` does.
+//! `compare fades` and `compare rates` on a session for each of their frames. `compare shows` does the
+//! same with a program that prints as `show` does, and so does `compare rates`.
 //!
 //! ```text
 //! cargo test --offline
 //! cargo run --offline --release --bin compare -- run OCDRWXLU 1 3000 PROGRAM
-//! MODEM_LIB_DIR=.. cargo run --offline --release --features proved --bin compare -- code 1 20000
+//! MODEM_LIB_DIR=.. cargo run --offline --release --features proved --bin compare -- code 1 40000
 //! ```
 //!
 //! # Measuring
@@ -105,6 +108,8 @@ pub mod plot;
 #[cfg(feature = "proved")]
 pub mod proved;
 pub mod random;
+pub mod rate_counts;
+pub mod rates;
 pub mod refusal;
 pub mod row;
 pub mod sent;

@@ -1,7 +1,7 @@
 //! Codewords of least weight, built as products of functions with known zeros.
 //!
-//! - [`lightest`]: one of them.
-//! - [`light_pair`]: two whose difference is one too.
+//! - [`lightest`]: one of them, or nearly, of [`light_weight`].
+//! - [`light_pair`]: two of rate 39 or 49 whose difference is one too.
 
 use crate::code::Code;
 use crate::curve::{points, Point, PLACES};
@@ -9,31 +9,49 @@ use crate::field::times;
 use crate::random::Random;
 use crate::row::Row;
 
-/// A codeword of weight 64 − M: the values of a function of order M with M zeros among the places.
+/// The weight of [`lightest`]: 64 − M, except that at rate 6, 48 and 52 no function of order M is such a
+/// product, and the next lower order is taken.
+pub fn light_weight(code: &Code) -> usize {
+    let built = |order: &usize| factors(*order).is_some();
+    let order = (0..=code.top).rev().find(built);
+    PLACES - order.expect("order 0")
+}
+
+/// How many lines and how many factors x − a a product of this order has.
+fn factors(order: usize) -> Option<(usize, usize)> {
+    let lines = order % 4;
+    let others = order.checked_sub(5 * lines)? / 4;
+    let room = if lines == 0 { 16 } else { 11 };
+    (others <= room).then_some((lines, others))
+}
+
+/// A codeword of [`light_weight`]: the values of a function of order m with m zeros among the places.
 ///
-/// At rate 39 it is the product of eleven factors x − a, each of order 4 with four zeros. At rate
-/// 49 two parallel lines that meet the same five x in five places each, of order 5, come on top,
-/// and the factors are those of the eleven other x.
+/// A factor x − a has order 4 and four zeros. Up to three parallel lines that meet the same five x in
+/// five places each, of order 5, come on top where m is no multiple of 4, and the factors are those of
+/// the eleven other x: eleven factors at rate 39, and two lines with them at rate 49.
 pub fn lightest(code: &Code, random: &mut Random) -> Row {
+    let weight = light_weight(code);
+    let (lines, others) = factors(PLACES - weight).expect("an order of such a product");
     let mut word = Row::from_elements([random.other_symbol(0); PLACES]);
     let mut free = random.shuffled(0..16);
-    if code.top == 54 {
-        let lines = parallel_lines(random);
-        for line in &lines {
+    if lines > 0 {
+        let lines = &parallel_lines(random)[..lines];
+        for line in lines {
             word = word.product(line);
         }
         let met = |x: &u8| (0..PLACES).any(|p| p / 4 == usize::from(*x) && lines[0].get(p) == 0);
         free.retain(|x| !met(x));
     }
-    for x in free.into_iter().take(11) {
+    for x in free.into_iter().take(others) {
         word = word.product(&values(|point| point.x ^ x));
     }
-    assert_eq!(word.weight(), PLACES - code.top);
+    assert_eq!(word.weight(), weight);
     word
 }
 
-/// Two lines y − mx − b and y − mx − c that are zero in five places each, above the same five x.
-fn parallel_lines(random: &mut Random) -> [Row; 2] {
+/// Four lines y − mx − b that are zero in five places each, above the same five x.
+fn parallel_lines(random: &mut Random) -> Vec<Row> {
     let zeros = |line: &Row| -> Vec<usize> {
         (0..PLACES)
             .filter(|place| line.get(*place) == 0)
@@ -44,9 +62,12 @@ fn parallel_lines(random: &mut Random) -> [Row; 2] {
         let slope = random.symbol();
         let start = random.symbol();
         let other = random.other_symbol(start);
-        let lines = [start, other].map(|b| values(|p| p.y ^ times(slope, p.x) ^ b));
-        if zeros(&lines[0]).len() == 5 && zeros(&lines[0]) == zeros(&lines[1]) {
-            return lines;
+        let line = |b: u8| values(|p| p.y ^ times(slope, p.x) ^ b);
+        let met = zeros(&line(start));
+        if met.len() == 5 && met == zeros(&line(other)) {
+            let more = (0..16).filter(|b| ![start, other].contains(b));
+            let all = [start, other].into_iter().chain(more).map(line);
+            return all.filter(|line| zeros(line) == met).collect();
         }
     }
 }
@@ -108,7 +129,23 @@ fn values(function: impl Fn(Point) -> u8) -> Row {
 #[cfg(test)]
 mod tests {
     use super::*;
+    use crate::code::rates;
     use crate::frames::RATES;
+
+    #[test]
+    fn every_rate_has_light_codewords() {
+        let mut random = Random::new(32, 0);
+        for rate in rates() {
+            let code = Code::of_rate(rate).unwrap();
+            let more = u64::from([6, 48, 52].contains(&rate));
+            assert_eq!(light_weight(code) as u64, 59 - rate + more);
+            for _ in 0..20 {
+                let word = lightest(code, &mut random);
+                assert_eq!(word.weight(), light_weight(code));
+                assert!(code.message(&word).is_some());
+            }
+        }
+    }
 
     #[test]
     fn lightest_words_are_codewords_of_least_weight() {

@@ -2,9 +2,10 @@
 //!
 //! - [`compare_calls`]: one process for each share of the frames; it reads calls and writes
 //!   answers, as [`crate::calls`] lays them out. The [`Tally`] says what was compared.
-//! - [`compare_fades`]: the same with a session for each fade.
+//! - [`compare_fades`]: the same with a session for each fade; [`compare_rates`]: with one for each of the
+//!   frames at every rate.
 //! - [`compare_shows`]: a process for each capture, valid or damaged, that prints as `show` does;
-//!   [`Shown`] says what was compared.
+//!   [`Shown`] says what was compared; [`compare_rate_shows`]: the captures of frames at every rate.
 
 use std::collections::BTreeMap;
 use std::fmt;
@@ -24,6 +25,8 @@ use crate::fades::Fade;
 use crate::frames::{Frame, Kind};
 use crate::margins::Margins;
 use crate::random::Random;
+use crate::rate_counts::{Part, RateCounts};
+use crate::rates::RateFrame;
 use crate::refusal;
 use crate::session::Session;
 use crate::show::show;
@@ -210,6 +213,59 @@ pub fn check_fades(
     Ok(counts)
 }
 
+/// Runs a program on a session for each of `count` frames at every rate. What was compared, or a line
+/// that names the first difference.
+pub fn compare_rates(program: &[String], seed: u64, count: u64) -> Result<RateCounts, String> {
+    let shares = in_shares(count, |numbers| {
+        let frames: Vec<(u64, Vec<Call>)> = rate_sessions(seed, numbers).collect();
+        let calls = frames.iter().flat_map(|(_, calls)| calls);
+        let answers = output_of(program, calls.flat_map(Call::bytes).collect())?;
+        check_rates(seed, &frames, &answers)
+    })?;
+    let mut sum = RateCounts::default();
+    for counts in shares {
+        sum.add(counts);
+    }
+    Ok(sum)
+}
+
+/// The calls of these frames.
+pub fn rate_sessions(
+    seed: u64,
+    numbers: impl Iterator<Item = u64>,
+) -> impl Iterator<Item = (u64, Vec<Call>)> {
+    numbers.map(move |number| {
+        let calls = RateFrame::numbered(seed, number).calls(&mut Random::new(!seed, number));
+        (number, calls)
+    })
+}
+
+/// Checks a program's answers to these calls; a frame is counted by what each of its closings answers.
+pub fn check_rates(
+    seed: u64,
+    frames: &[(u64, Vec<Call>)],
+    answers: &[u8],
+) -> Result<RateCounts, String> {
+    let mut rest = answers;
+    let mut counts = RateCounts::default();
+    let mut session = Session::default();
+    for (number, calls) in frames {
+        let frame = RateFrame::numbered(seed, *number);
+        for (at, call) in calls.iter().enumerate() {
+            let expected = call.answer(&mut session);
+            rest = after(rest, &expected, call, *number, at)?;
+            counts.count_call(call, &expected, &session);
+            if Closed::at(call, &expected, &session).is_some() {
+                let report = &expected[expected.len() - REPORT_BYTES..];
+                let margin = margin_of(report).filter(|_| expected[0] == 0);
+                counts.count_frame(Part::Sessions, &frame, expected[0], margin);
+            }
+        }
+    }
+    nothing_after(rest)?;
+    Ok(counts)
+}
+
 /// Checks a program's answers to the frames' calls, which one session after the other takes.
 pub fn check_answers(frames: &[(u64, Vec<Call>)], answers: &[u8]) -> Result<Tally, String> {
     let mut rest = answers;
@@ -369,13 +425,7 @@ pub fn compare_shows(program: &[String], seed: u64, count: u64) -> Result<Shown,
         for number in numbers {
             let capture = numbered_capture(seed, number);
             let expected = show(&capture);
-            let got = output_of(program, capture.clone())?;
-            if got != expected.as_bytes() {
-                let got = String::from_utf8_lossy(&got).into_owned();
-                return Err(format!(
-                    "capture {number}: expected {expected:?}, got {got:?}"
-                ));
-            }
+            shown_alike(program, number, capture.clone(), &expected)?;
             shown.count(Kind::numbered(number / 2), &capture, &expected);
         }
         Ok(shown)
@@ -385,6 +435,46 @@ pub fn compare_shows(program: &[String], seed: u64, count: u64) -> Result<Shown,
         sum.add(shown);
     }
     Ok(sum)
+}
+
+/// Runs a program on the captures of `count` frames at every rate. What was compared, or a line that names
+/// the first difference.
+pub fn compare_rate_shows(program: &[String], seed: u64, count: u64) -> Result<RateCounts, String> {
+    let shares = in_shares(count, |numbers| {
+        let mut counts = RateCounts::default();
+        for number in numbers {
+            let frame = RateFrame::numbered(seed, number);
+            let places = Random::new(!seed, number).shuffled(0..64);
+            let capture = capture_of(&frame.frame, &places);
+            let expected = show(&capture);
+            shown_alike(program, number, capture, &expected)?;
+            let margin = margin_shown(&expected).flatten();
+            counts.count_frame(Part::Shows, &frame, number_shown(&expected), margin);
+        }
+        Ok(counts)
+    })?;
+    let mut sum = RateCounts::default();
+    for counts in shares {
+        sum.add(counts);
+    }
+    Ok(sum)
+}
+
+/// A line that names the difference where a program prints other lines for a capture.
+fn shown_alike(
+    program: &[String],
+    number: u64,
+    capture: Vec<u8>,
+    expected: &str,
+) -> Result<(), String> {
+    let got = output_of(program, capture)?;
+    if got == expected.as_bytes() {
+        return Ok(());
+    }
+    let got = String::from_utf8_lossy(&got);
+    Err(format!(
+        "capture {number}: expected {expected:?}, got {got:?}"
+    ))
 }
 
 /// The number in a line `refused N`, or 0.

@@ -5,9 +5,11 @@
 //!   [`REFERENCE`], [`REFERENCE_TABLE`], [`REFERENCE_BELOW`] and [`REFERENCE_BITS`] are this package's.
 //! - [`encode_trial`], [`read_back_trial`], [`table_trial`], [`fade_trial`], [`below_trial`],
 //!   [`bits_trial`]: one numbered call, right or damaged, on a library; the [`Outcome`] is its number and
-//!   every byte of its buffers.
+//!   every byte of its buffers. [`rate_table_trial`], [`rate_below_trial`], [`rate_bits_trial`]: those of
+//!   frames at every rate.
 //! - [`compare`]: many trials on two libraries; the [`Tally`] of numbers, margins, blank places,
-//!   doubtful ones, doubts and sorts of fades, of thresholds and of bit values, or a [`Difference`].
+//!   doubtful ones, doubts and sorts of fades, of thresholds, of bit values and of rates, or a
+//!   [`Difference`].
 
 use std::sync::atomic::{AtomicBool, Ordering};
 use std::thread;
@@ -24,9 +26,11 @@ use crate::decode::{decode_table, decode_table_below, margin_of, table_of_column
 use crate::doubts::{Came, Doubts};
 use crate::fade_counts::FadeCounts;
 use crate::fades::Fade;
-use crate::frames::{random_codeword, unknown_rate, Frame, Kind, RATES};
+use crate::frames::{any_rate, random_codeword, unknown_rate, Frame, Kind, DOUBTFUL_GAP, RATES};
 use crate::margins::Margins;
 use crate::random::Random;
+use crate::rate_counts::{Part, RateCounts};
+use crate::rates::RateFrame;
 use crate::refusal::number;
 use crate::soft::DOUBT_LIMIT;
 
@@ -75,6 +79,8 @@ pub const REFERENCE_BITS: DecodeBits = |rate, values, doubt, message, report| {
 #[derive(Clone, Debug, Default, PartialEq, Eq)]
 pub struct Outcome {
     pub number: u8,
+    /// The rate that the call was given.
+    pub rate: u64,
     pub buffer: Vec<u8>,
     /// None where the call has no report.
     pub report: Option<Vec<u8>>,
@@ -90,6 +96,10 @@ pub struct Outcome {
     pub below: Option<BelowCall>,
     /// The call, where it decodes from bit values.
     pub bits: Option<BitCall>,
+    /// The wrong symbols of the word, where the call encodes (none) or reads back.
+    pub coded: Option<Option<usize>>,
+    /// The frame, where it is one of those at every rate, and the comparison that it is in.
+    pub rated: Option<(Part, RateFrame)>,
 }
 
 /// The numbers that these calls return are below this.
@@ -106,7 +116,7 @@ pub struct Difference {
 pub type Trial<L> = fn(&L, u64, u64) -> Outcome;
 
 /// How often each number was returned, the margins of the reports, the blank and the doubtful places
-/// of the tables and the sorts of fades, of thresholds and of bit values.
+/// of the tables and the sorts of fades, of thresholds, of bit values and of rates.
 #[derive(Clone, Debug, Default)]
 pub struct Tally {
     pub numbers: [u64; NUMBERS],
@@ -117,12 +127,21 @@ pub struct Tally {
     pub fades: FadeCounts,
     pub below: BelowCounts,
     pub bits: BitCounts,
+    pub rates: RateCounts,
 }
 
 impl Tally {
     fn count(&mut self, outcome: &Outcome) {
         self.numbers[usize::from(outcome.number)] += 1;
+        self.rates.count_rate(outcome.rate, outcome.number);
+        if let Some(wrong) = outcome.coded {
+            self.rates.count_coded(outcome.rate, wrong, outcome.number);
+        }
         let report = outcome.report.as_ref().filter(|_| outcome.number == 0);
+        if let Some((part, frame)) = &outcome.rated {
+            let margin = report.and_then(|report| margin_of(report));
+            self.rates.count_frame(*part, frame, outcome.number, margin);
+        }
         if let Some(report) = report {
             self.margins.count(margin_of(report));
         }
@@ -167,13 +186,14 @@ impl Tally {
         self.fades.add(other.fades);
         self.below.add(other.below);
         self.bits.add(other.bits);
+        self.rates.add(other.rates);
     }
 }
 
 /// Encoding into the middle of a frame.
 pub fn encode_trial(library: &Coding, seed: u64, number: u64) -> Outcome {
     let mut random = Random::new(seed, number);
-    let symbols = random.one_of(&RATES) as usize;
+    let symbols = coded_rate(number, &mut random) as usize;
     let rate = perhaps_unknown(symbols as u64, &mut random);
     let length = perhaps_other(symbols, &mut random);
     let mut message: Vec<u8> = (0..length).map(|_| random.symbol()).collect();
@@ -192,7 +212,9 @@ pub fn encode_trial(library: &Coding, seed: u64, number: u64) -> Outcome {
     let number = (library.encode)(rate, &message, &mut frame, start);
     Outcome {
         number,
+        rate,
         buffer: frame,
+        coded: Some(None),
         ..Outcome::default()
     }
 }
@@ -200,7 +222,7 @@ pub fn encode_trial(library: &Coding, seed: u64, number: u64) -> Outcome {
 /// Reading back a codeword, one with a few wrong symbols, or any word.
 pub fn read_back_trial(library: &Coding, seed: u64, number: u64) -> Outcome {
     let mut random = Random::new(seed, number);
-    let symbols = random.one_of(&RATES) as usize;
+    let symbols = coded_rate(number, &mut random) as usize;
     let code = Code::of_rate(symbols as u64).expect("a known rate");
     let mut word = random_codeword(code, &mut random).elements().to_vec();
     let wrong = random.one_of(&[0, 0, 0, 1, 2, 7, 64]);
@@ -214,8 +236,18 @@ pub fn read_back_trial(library: &Coding, seed: u64, number: u64) -> Outcome {
     let number = (library.read_back)(rate, &word, &mut message);
     Outcome {
         number,
+        rate,
         buffer: message,
+        coded: Some(Some(wrong)),
         ..Outcome::default()
+    }
+}
+
+/// The rates of the numbered frames and all by turns.
+fn coded_rate(number: u64, random: &mut Random) -> u64 {
+    match number % 2 {
+        0 => random.one_of(&RATES),
+        _ => any_rate(random),
     }
 }
 
@@ -239,6 +271,7 @@ pub fn table_trial(decode_table: &DecodeTable, seed: u64, number: u64) -> Outcom
     let decoded = [0, 9].contains(&number);
     Outcome {
         number,
+        rate,
         buffer: message,
         report: Some(report),
         faded: Some(faded),
@@ -260,6 +293,7 @@ pub fn fade_trial(decode_table: &DecodeTable, seed: u64, number: u64) -> Outcome
     let number = decode_table(rate, &table, doubt, &mut message, &mut report);
     Outcome {
         number,
+        rate,
         buffer: message,
         report: Some(report),
         fade: Some(fade),
@@ -286,6 +320,7 @@ where
     );
     Outcome {
         number,
+        rate: call.rate,
         buffer: message,
         report: Some(report),
         below: Some(call),
@@ -311,9 +346,66 @@ where
     );
     Outcome {
         number,
+        rate: call.rate,
         buffer: message,
         report: Some(report),
         bits: Some(call),
+        ..Outcome::default()
+    }
+}
+
+/// Table decoding of one of the numbered frames at every rate.
+pub fn rate_table_trial(decode_table: &DecodeTable, seed: u64, number: u64) -> Outcome {
+    let frame = RateFrame::numbered(seed, number);
+    let table = table_of_columns(&frame.frame.columns);
+    let doubt = frame.doubt() as u64;
+    rated(Part::Tables, frame, !seed ^ number, |rate, lent| {
+        let [message, report] = lent;
+        decode_table(rate, &table, doubt, message, report)
+    })
+}
+
+/// The same with a threshold that its doubtful places are below, and any maximum that they are not above.
+pub fn rate_below_trial(decode_below: &DecodeBelow, seed: u64, number: u64) -> Outcome {
+    let frame = RateFrame::numbered(seed, number);
+    let table = table_of_columns(&frame.frame.columns);
+    let threshold = DOUBTFUL_GAP as u16 + 1;
+    let mut random = Random::new(seed, !number);
+    let most = random.between(frame.doubt().max(1), DOUBT_LIMIT) as u64;
+    rated(Part::Thresholds, frame, !seed ^ number, |rate, lent| {
+        let [message, report] = lent;
+        decode_below(rate, &table, threshold, most, message, report)
+    })
+}
+
+/// The same from bit values.
+pub fn rate_bits_trial(decode_bits: &DecodeBits, seed: u64, number: u64) -> Outcome {
+    let frame = RateFrame::of_bits(seed, number);
+    let (values, doubt) = (frame.values.clone(), frame.doubt() as u64);
+    rated(Part::Bits, frame, !seed ^ number, |rate, lent| {
+        let [message, report] = lent;
+        decode_bits(rate, &values, doubt, message, report)
+    })
+}
+
+/// A frame decoded into buffers of the right sizes, whose first bytes follow a seed.
+fn rated(
+    part: Part,
+    frame: RateFrame,
+    seed: u64,
+    decode: impl FnOnce(u64, [&mut [u8]; 2]) -> u8,
+) -> Outcome {
+    let mut random = Random::new(seed, 0);
+    let rate = frame.frame.rate;
+    let mut message = bytes(rate as usize, &mut random);
+    let mut report = bytes(REPORT_BYTES, &mut random);
+    let number = decode(rate, [&mut message, &mut report]);
+    Outcome {
+        number,
+        rate,
+        buffer: message,
+        report: Some(report),
+        rated: Some((part, frame)),
         ..Outcome::default()
     }
 }

@@ -22,8 +22,9 @@ const USAGE: &str = "\
 compare calls LETTERS SEED COUNT            write the calls of COUNT frames
 compare answers                             read calls, write their answers
 compare run LETTERS SEED COUNT PROGRAM ..   run a program on these calls and compare its answers
-compare example [nine]                      write the capture of the bench sheet's R3, or the same with
-                                            places 0 to 8 doubtful, which has version 2
+compare example [nine|six]                  write the capture of the bench sheet's R3, or the same with
+                                            places 0 to 8 doubtful, which has version 2, or at rate 6
+                                            with none doubtful
 compare show                                read a capture, print what `show` prints
 compare shows SEED COUNT PROGRAM ..         run a program on COUNT captures and compare
 compare time COUNT                          decode COUNT frames of each sort and time them
@@ -33,6 +34,9 @@ compare fades SEED COUNT PROGRAM ..         the proved table decoding of COUNT f
                                             a program on a session for each
 compare below SEED COUNT                    the proved table decoding with a threshold (feature proved)
 compare bits SEED COUNT                     the proved decoding from bit values (feature proved)
+compare rates SEED REPLAY SHOW              the proved decoding at every rate (feature proved), by doubt, by
+                                            threshold and from bit values, a program on a session for
+                                            each frame and one on its capture
 LETTERS are those of the calls wanted, of OCDRWXLU.
 The count of frames with a margin is printed; fewer than one in six are a failure.
 The counts of frames with blank places are printed, by kind, by rate and number of these places, and
@@ -57,7 +61,11 @@ The counts of each sort of thresholds are printed: of each maximum the ranks of 
 the answer, with a gap one below the threshold, at it and one above, and the wrong rules that would
 lead elsewhere; one that is missing is a failure.
 The counts of each sort of bit values are printed; one that is missing is a failure. 8,192 frames go
-round every value at every position.";
+round every value at every position.
+The counts of what is tried at each rate are printed, encoded and read back, near and not, with blank
+places, and in sessions read with each number of settled places, written, opened and looked up, with the
+wrong rules that would lead elsewhere; one that is missing is a failure, and so is a frame that is near
+against the rule, or a reading at rate 39 or 49 with a byte above 81 that is not zero.";
 
 fn main() -> ExitCode {
     let arguments: Vec<String> = std::env::args().skip(1).collect();
@@ -99,8 +107,9 @@ fn run(arguments: &[String]) -> Result<(), String> {
             }
             Ok(())
         }
-        ["example"] => output(&example(1)),
-        ["example", "nine"] => output(&example(9)),
+        ["example"] => output(&example(39, 1)),
+        ["example", "nine"] => output(&example(39, 9)),
+        ["example", "six"] => output(&example(6, 0)),
         ["show"] => output(show(&input()?).as_bytes()),
         ["shows", seed, count, _, ..] => {
             let shown = compare_shows(&arguments[3..], number(seed)?, number(count)?)?;
@@ -131,14 +140,16 @@ fn run(arguments: &[String]) -> Result<(), String> {
         ["below", seed, count] => proved::below(number(seed)?, number(count)?),
         #[cfg(feature = "proved")]
         ["bits", seed, count] => proved::bits(number(seed)?, number(count)?),
+        #[cfg(feature = "proved")]
+        ["rates", seed, replay, show] => proved::rates(number(seed)?, replay, show),
         _ => Err(USAGE.to_string()),
     }
 }
 
-/// The capture of R3, its places in their order, with so many doubtful from place 0 on.
-fn example(doubt: u8) -> Vec<u8> {
+/// The capture of S(7) at a rate, its places in their order, with so many doubtful from place 0 on.
+fn example(rate: u64, doubt: u8) -> Vec<u8> {
     let frame = Frame {
-        rate: 39,
+        rate,
         doubtful: (0..doubt).collect(),
         columns: frame_s(7),
     };
@@ -209,18 +220,50 @@ fn time_with(doubt: usize, count: u64) -> Result<(), String> {
 #[cfg(feature = "proved")]
 mod proved {
     use reference::blanks::OF_TABLES;
+    use reference::code::RATE_COUNT;
     use reference::proved::{PROVED, PROVED_BELOW, PROVED_BITS, PROVED_TABLE};
-    use reference::streams::compare_fades;
+    use reference::rate_counts::{Part, RateCounts};
+    use reference::rates::{FEW_TURNS, TURNS};
+    use reference::streams::{compare_fades, compare_rate_shows, compare_rates};
     use reference::trials::{
-        below_trial, bits_trial, compare, encode_trial, fade_trial, read_back_trial, table_trial,
-        Difference, Tally, Trial, REFERENCE, REFERENCE_BELOW, REFERENCE_BITS, REFERENCE_TABLE,
+        below_trial, bits_trial, compare, encode_trial, fade_trial, rate_below_trial,
+        rate_bits_trial, rate_table_trial, read_back_trial, table_trial, Difference, Tally, Trial,
+        REFERENCE, REFERENCE_BELOW, REFERENCE_BITS, REFERENCE_TABLE,
     };
 
     pub fn code(seed: u64, count: u64) -> Result<(), String> {
         let both = [&REFERENCE, &PROVED];
-        report("encode", encode_trial, both, seed, count)?;
-        report("read back", read_back_trial, both, seed, count)?;
-        Ok(())
+        let mut rates = report("encode", encode_trial, both, seed, count)?.rates;
+        rates.add(report("read back", read_back_trial, both, seed, count)?.rates);
+        told("code", &rates, Part::Code)
+    }
+
+    /// Prints what was tried at each rate, and fails where something is missing.
+    fn told(name: &str, rates: &RateCounts, part: Part) -> Result<(), String> {
+        super::output(format!("{name}: {}\n", rates.line(part)).as_bytes())?;
+        rates.check(part)
+    }
+
+    /// Frames at every rate: all turns as tables, a few of them with a threshold, from bit values, as
+    /// sessions of a program and as captures of another.
+    pub fn rates(seed: u64, replay: &str, show: &str) -> Result<(), String> {
+        let [count, few] = [TURNS, FEW_TURNS].map(|turns| (RATE_COUNT * turns) as u64);
+        let both = [&REFERENCE_TABLE, &PROVED_TABLE];
+        let name = "decode table at every rate";
+        let tally = report(name, rate_table_trial, both, seed, count)?;
+        told(name, &tally.rates, Part::Tables)?;
+        let both = [&REFERENCE_BELOW, &PROVED_BELOW];
+        let name = "decode table below at every rate";
+        let tally = report(name, rate_below_trial, both, seed, few)?;
+        told(name, &tally.rates, Part::Thresholds)?;
+        let both = [&REFERENCE_BITS, &PROVED_BITS];
+        let name = "decode bits at every rate";
+        let tally = report(name, rate_bits_trial, both, seed, few)?;
+        told(name, &tally.rates, Part::Bits)?;
+        let counts = compare_rates(&[replay.to_string()], seed, few)?;
+        told(&format!("{few} sessions alike"), &counts, Part::Sessions)?;
+        let counts = compare_rate_shows(&[show.to_string()], seed, few)?;
+        told(&format!("{few} captures alike"), &counts, Part::Shows)
     }
 
     pub fn tables(seed: u64, count: u64) -> Result<(), String> {
@@ -231,10 +274,13 @@ mod proved {
             blanks,
             choices,
             doubts,
+            rates,
             ..
         } = tally;
-        let line = format!("{blanks}; {choices}; {doubts}; {margins}");
+        let rates_line = rates.line(Part::Unknown);
+        let line = format!("{blanks}; {choices}; {doubts}; {rates_line}; {margins}");
         super::output(format!("decode table: {line}\n").as_bytes())?;
+        rates.check(Part::Unknown)?;
         blanks.check(count, &OF_TABLES)?;
         choices.check(count)?;
         doubts.check(count, true)?;
@@ -254,15 +300,20 @@ mod proved {
 
     pub fn below(seed: u64, count: u64) -> Result<(), String> {
         let both = [&REFERENCE_BELOW, &PROVED_BELOW];
-        let Tally { below, .. } = report("decode table below", below_trial, both, seed, count)?;
-        super::output(format!("decode table below: {below}\n").as_bytes())?;
+        let tally = report("decode table below", below_trial, both, seed, count)?;
+        let Tally { below, rates, .. } = tally;
+        let rates_line = rates.line(Part::Unknown);
+        super::output(format!("decode table below: {below}; {rates_line}\n").as_bytes())?;
+        rates.check(Part::Unknown)?;
         below.check()
     }
 
     pub fn bits(seed: u64, count: u64) -> Result<(), String> {
         let both = [&REFERENCE_BITS, &PROVED_BITS];
-        let Tally { bits, .. } = report("decode bits", bits_trial, both, seed, count)?;
-        super::output(format!("decode bits: {bits}\n").as_bytes())?;
+        let Tally { bits, rates, .. } = report("decode bits", bits_trial, both, seed, count)?;
+        let rates_line = rates.line(Part::Unknown);
+        super::output(format!("decode bits: {bits}; {rates_line}\n").as_bytes())?;
+        rates.check(Part::Unknown)?;
         bits.check()
     }
 
