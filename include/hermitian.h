@@ -22,6 +22,12 @@
  *             another codeword is near too, else 0 (1), and the margin: the least total of
  *             such another one minus the answer's, 0 where there is none (4)
  *
+ * The rate. A codeword holds the values of a function of order at most M = k + 5. With b blank
+ * places T is the largest number with 2T + b < 58 - M; a codeword that differs from some test
+ * word in at most T places that are not blank is near. There is a T with up to 57 - M blank
+ * places. Rate 6 repairs 23 wrong places, rate 39 six, rate 49 one; rate 52 repairs none beyond
+ * its test words, and takes no blank place.
+ *
  * Stack: table decoding touches some 14 kB of it without doubt, some 50 kB with eight
  * doubtful places and some 67 kB with twelve (bench/stack).
  *
@@ -46,6 +52,8 @@ extern "C" {
 #define HERMITIAN_TABLE_BYTES 2048
 #define HERMITIAN_BIT_VALUES 256
 #define HERMITIAN_REPORT_BYTES 13
+#define HERMITIAN_LEAST_RATE 6
+#define HERMITIAN_MOST_RATE 52
 #define HERMITIAN_MOST_DOUBT 12
 
 enum hermitian_refusal {

@@ -50,7 +50,7 @@ static unsigned random_below(unsigned n)
 }
 
 static uint8_t table[HERMITIAN_TABLE_BYTES + 1];
-static uint8_t sent[49];
+static uint8_t sent[HERMITIAN_MOST_RATE];
 
 static void put_cost(size_t place, size_t symbol, unsigned cost)
 {
@@ -321,7 +321,7 @@ static void frames(size_t rate, unsigned reach, unsigned limit)
 /* Any of the faults at once: each is told before those that a later check would refuse. */
 static void refusals(size_t rate, size_t most_blank)
 {
-    static const size_t unknown[] = {0, 38, 40, 48, 50, 64, SIZE_MAX}, lengths[] = {0, 32, 256, HERMITIAN_TABLE_BYTES - 1, HERMITIAN_TABLE_BYTES + 1};
+    static const size_t unknown[] = {0, 5, 53, 58, 64, 256 + 39, SIZE_MAX}, lengths[] = {0, 32, 256, HERMITIAN_TABLE_BYTES - 1, HERMITIAN_TABLE_BYTES + 1};
     static const size_t maxima[] = {0, HERMITIAN_MOST_DOUBT + 1, 255, 256, 259, SIZE_MAX}, reports[] = {0, 8, HERMITIAN_REPORT_BYTES - 1, HERMITIAN_REPORT_BYTES + 1};
     static const unsigned thresholds[] = {0, 1, 31, 41, CEILING};
     static const uint8_t refusal_of[] = {HERMITIAN_UNKNOWN_RATE, HERMITIAN_WRONG_SIZE, HERMITIAN_WRONG_SIZE, HERMITIAN_WRONG_SIZE, HERMITIAN_WRONG_DOUBT, HERMITIAN_TOO_BLANK, HERMITIAN_NONE_NEAR};

@@ -51,7 +51,7 @@ static int random_below(int n)
 
 /* The values of all places, and room for a frame that is too long. */
 static int8_t values[LONGEST];
-static uint8_t sent[49];
+static uint8_t sent[HERMITIAN_MOST_RATE];
 
 /* A sent codeword: four values a symbol that favour its bits, all of one magnitude. */
 static void send(size_t rate, int magnitude)
@@ -165,7 +165,7 @@ static void one_value(size_t rate, size_t bit, int v)
 
 static void frames(size_t rate)
 {
-    size_t most_blank = rate == 39 ? 13 : 3;
+    size_t most_blank = 52 - rate;
     send(rate, 100);
     expect(decode(rate, 0) == HERMITIAN_ACCEPTED && message_came_back(rate) && total() == 0, "a frame without noise");
     for (size_t bit = 0; bit < 4; bit++)
@@ -222,7 +222,7 @@ static void extremes(size_t rate)
 /* Each wrong argument set beside those that a later check would refuse. */
 static void refusals(void)
 {
-    static const size_t unknown[] = {0, 38, 40, 48, 50, 64, SIZE_MAX};
+    static const size_t unknown[] = {0, 5, 53, 58, 64, 256 + 39, SIZE_MAX};
     static const size_t lengths[] = {0, 64, 255, 257, 512, 1024, HERMITIAN_TABLE_BYTES};
     memset(values, 0, sizeof values);
     for (size_t i = 0; i < sizeof unknown / sizeof unknown[0]; i++) {

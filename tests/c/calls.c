@@ -1,11 +1,11 @@
 /* Calls the proved library as the firmware does: bench sheet C3 to C8, round trips of random
- * messages at both rates, every refusal in its order, and guard bytes around each buffer. */
+ * messages, every refusal in its order, all at every rate, and guard bytes around each buffer. */
 #include <stdio.h>
 #include <string.h>
 
 #include "hermitian.h"
 
-enum { GUARD = 32, ROOM = 256, TRIPS = 2000 };
+enum { GUARD = 32, ROOM = 256, TRIPS = 200 };
 
 static unsigned checks, failures;
 
@@ -72,7 +72,7 @@ static unsigned power(unsigned a, unsigned n)
 /* The word of a 1 in one message symbol alone. */
 static void word_of(size_t rate, size_t symbol, uint8_t word[HERMITIAN_PLACES])
 {
-    uint8_t message[49] = {0};
+    uint8_t message[HERMITIAN_MOST_RATE] = {0};
     message[symbol] = 1;
     expect(hermitian_encode(rate, message, rate, word, HERMITIAN_PLACES, 0) == HERMITIAN_ACCEPTED, "a 1 alone is encoded");
 }
@@ -86,10 +86,12 @@ static void bench_sheet(size_t rate)
     for (unsigned r = 0; r < 4; r++)
         expect(x[8 + r] == 2 && y[8 + r] == 10 + r, "C3: places 8 to 11");
     expect(x[63] == 15 && y[63] == 5, "C4: place 63");
-    word_of(rate, 38, high);
-    for (unsigned p = 0; p < HERMITIAN_PLACES; p++)
-        expect(high[p] == power(x[p], 11), "C5: symbol 38 multiplies x^11");
-    if (rate == 49) {
+    if (rate > 38) {
+        word_of(rate, 38, high);
+        for (unsigned p = 0; p < HERMITIAN_PLACES; p++)
+            expect(high[p] == power(x[p], 11), "C5: symbol 38 multiplies x^11");
+    }
+    if (rate > 48) {
         word_of(rate, 48, high);
         for (unsigned p = 0; p < HERMITIAN_PLACES; p++)
             expect(high[p] == times(power(x[p], 11), power(y[p], 2)), "C6: symbol 48 multiplies x^11 y^2");
@@ -109,17 +111,17 @@ static unsigned random_below(unsigned n)
     return (state >> 16) % n;
 }
 
-static void round_trips(size_t rate)
+static void round_trips(size_t rate, unsigned trips)
 {
     static struct guarded message, frame, word, back;
-    for (unsigned trip = 0; trip < TRIPS; trip++) {
+    for (unsigned trip = 0; trip < trips; trip++) {
         fill(&message, 0);
         fill(&frame, 0xEE);
         fill(&word, 0xEE);
         fill(&back, 0xEE);
         for (size_t i = 0; i < rate; i++)
             message.bytes[i] = (uint8_t)random_below(16);
-        uint8_t sent[49];
+        uint8_t sent[HERMITIAN_MOST_RATE];
         memcpy(sent, message.bytes, rate);
         size_t start = random_below(ROOM - HERMITIAN_PLACES + 1);
         size_t length = start + HERMITIAN_PLACES + random_below((unsigned)(ROOM - HERMITIAN_PLACES - start) + 1);
@@ -151,7 +153,7 @@ static void refused_encoding(size_t rate, size_t message_length, size_t frame_le
     static struct guarded message, frame;
     fill(&message, 1);
     fill(&frame, 0xEE);
-    message.bytes[7] = symbol;
+    message.bytes[HERMITIAN_LEAST_RATE - 1] = symbol;
     expect(hermitian_encode(rate, message.bytes, message_length, frame.bytes, frame_length, start) == refusal, "encoding's refusal");
     expect(all_are(frame.bytes, 0, ROOM, 0xEE) && guards_stand(&frame) && guards_stand(&message), "a refused encoding writes nothing");
 }
@@ -168,14 +170,14 @@ static void refused_reading(size_t rate, size_t word_length, size_t message_leng
 
 static void refusals(void)
 {
-    static const size_t unknown[] = {0, 38, 40, 48, 50, 64, SIZE_MAX};
+    static const size_t unknown[] = {0, 1, 5, 53, 54, 58, 64, 255, 256 + 6, 256 + 39, 256 + 52, SIZE_MAX};
     for (size_t i = 0; i < sizeof unknown / sizeof unknown[0]; i++) {
         refused_encoding(unknown[i], 39, ROOM, 0, 1, HERMITIAN_UNKNOWN_RATE);
         refused_encoding(unknown[i], 3, 5, SIZE_MAX, 16, HERMITIAN_UNKNOWN_RATE);
         refused_reading(unknown[i], HERMITIAN_PLACES, 39, 0, HERMITIAN_UNKNOWN_RATE);
         refused_reading(unknown[i], 3, 5, 255, HERMITIAN_UNKNOWN_RATE);
     }
-    for (size_t rate = 39; rate <= 49; rate += 10) {
+    for (size_t rate = HERMITIAN_LEAST_RATE; rate <= HERMITIAN_MOST_RATE; rate++) {
         refused_encoding(rate, rate - 1, ROOM, 0, 16, HERMITIAN_WRONG_SIZE);
         refused_encoding(rate, rate + 1, ROOM, 0, 16, HERMITIAN_WRONG_SIZE);
         refused_encoding(rate, 0, ROOM, 0, 16, HERMITIAN_WRONG_SIZE);
@@ -200,9 +202,9 @@ static void refusals(void)
 
 int main(void)
 {
-    for (size_t rate = 39; rate <= 49; rate += 10) {
+    for (size_t rate = HERMITIAN_LEAST_RATE; rate <= HERMITIAN_MOST_RATE; rate++) {
         bench_sheet(rate);
-        round_trips(rate);
+        round_trips(rate, rate == 39 || rate == 49 ? 10 * TRIPS : TRIPS);
     }
     refusals();
     printf("calls from C: %u checks, %u failed\n", checks, failures);

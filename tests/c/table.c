@@ -282,7 +282,7 @@ static void every_doubt(void)
 /* Each wrong argument set beside those that a later check would refuse. */
 static void refusals(void)
 {
-    static const size_t unknown[] = {0, 38, 40, 48, 50, 64, SIZE_MAX};
+    static const size_t unknown[] = {0, 5, 53, 58, 64, 256 + 39, SIZE_MAX};
     frame_s(7);
     for (size_t i = 0; i < sizeof unknown / sizeof unknown[0]; i++) {
         refused(unknown[i], HERMITIAN_TABLE_BYTES, 0, 39, HERMITIAN_REPORT_BYTES, HERMITIAN_UNKNOWN_RATE, "unknown rate");
