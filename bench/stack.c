@@ -1,7 +1,8 @@
 /* How many bytes of stack a table decoding touches: a thread with a painted stack decodes frames without doubt, with eight doubtful places and
  * with as many as there may be, and by a threshold above all gaps with the maxima 1 and the largest, with no wrong place, one, six and so many
- * that none is near, and without and with a blank place, at both rates, and the paint that is left is counted. At rate 39 the tree is deepest
- * where six places are wrong and one is blank: there it takes every doubtful place before it decides. */
+ * that none is near, and without and with a blank place, at rates 39 and 49, and with none, T - 1, T and T + 1 wrong places at rates 6, 20 and
+ * 52, and the paint that is left is counted. At rate 39 the tree is deepest where six places are wrong and one is blank: there it takes every
+ * doubtful place before it decides. */
 #include <pthread.h>
 #include <stdio.h>
 #include <stdlib.h>
@@ -17,7 +18,7 @@ struct job {
     uint8_t answer;
 };
 
-static uint8_t table[HERMITIAN_TABLE_BYTES], message[49], report[HERMITIAN_REPORT_BYTES];
+static uint8_t table[HERMITIAN_TABLE_BYTES], message[HERMITIAN_MOST_RATE], report[HERMITIAN_REPORT_BYTES];
 
 static void cost(size_t place, size_t symbol, unsigned value)
 {
@@ -55,10 +56,12 @@ static size_t touched(struct job *job)
 
 int main(void)
 {
-    const size_t rates[] = {39, 49}, wrongs[] = {0, 1, 6, 12}, doubts[] = {0, 8, HERMITIAN_MOST_DOUBT, 1, HERMITIAN_MOST_DOUBT};
+    const size_t rates[] = {39, 49, 6, 20, 52}, doubts[] = {0, 8, HERMITIAN_MOST_DOUBT, 1, HERMITIAN_MOST_DOUBT};
     uint8_t word[HERMITIAN_PLACES] = {0};
     size_t most = 0;
-    for (size_t r = 0; r < 2; r++)
+    for (size_t r = 0; r < 5; r++) {
+        size_t t = (52 - rates[r]) / 2, around[] = {0, t > 0 ? t - 1 : 1, t, t + 1}, some[] = {0, 1, 6, 12};
+        const size_t *wrongs = r < 2 ? some : around;
         for (size_t w = 0; w < 8; w++)
             for (size_t d = 0; d < 5; d++) {
                 struct job job = {.rate = rates[r], .wrong = wrongs[w / 2], .blanks = w % 2, .doubt = doubts[d], .below = d >= 3};
@@ -83,6 +86,7 @@ int main(void)
                     most = used;
                 printf("rate %zu, %2zu wrong places, %zu blank, %s %zu: %zu bytes of stack, answer %u\n", job.rate, job.wrong, job.blanks, job.below ? "maximum" : "doubt", job.doubt, used, job.answer);
             }
+    }
     printf("the most of all: %zu bytes of stack\n", most);
     return 0;
 }

@@ -52,7 +52,7 @@ pub enum Damage {
     Worst,
 }
 
-/// At every doubt.
+/// At every doubt, at rates 39 and 49.
 const DAMAGES: [Damage; 5] = [
     Damage::None,
     Damage::One,
@@ -79,6 +79,20 @@ const LARGEST: [Damage; 5] = [
     Damage::Reach,
     Damage::Beyond,
     Damage::Fade { width: 12 },
+];
+
+/// At other rates than those, after them.
+const AT_OTHER_RATES: [(u64, usize, Damage); 10] = [
+    (20, 0, Damage::One),
+    (20, 0, Damage::Reach),
+    (20, DRAWN_DOUBT, Damage::One),
+    (20, DRAWN_DOUBT, Damage::Reach),
+    (52, 0, Damage::None),
+    (52, DRAWN_DOUBT, Damage::None),
+    (52, DOUBT_LIMIT, Damage::None),
+    (6, 0, Damage::One),
+    (6, 0, Damage::Reach),
+    (6, DRAWN_DOUBT, Damage::Reach),
 ];
 
 impl Damage {
@@ -171,6 +185,11 @@ pub fn cases() -> Vec<Case> {
             }
         }
     }
+    let others = AT_OTHER_RATES.map(|(rate, doubt, damage)| Case {
+        rate,
+        which: Which::Table { doubt, damage },
+    });
+    cases.extend(others);
     cases
 }
 

@@ -1,7 +1,8 @@
 //! Frame error rates of the proved library's decoding from bit values: random codewords through BPSK
 //! and white Gaussian noise. `error_rates FOLDER [FRAMES]` prints the numbers and draws them there:
 //!
-//! - error-rates-39.svg and error-rates-49.svg: every place is received; a curve for each doubt;
+//! - error-rates-39.svg and so on for the rates 49, 20 and 52: every place is received; a curve for each
+//!   doubt;
 //! - faded-39-doubt-0.svg, faded-39-doubt-8.svg and faded-49-doubt-8.svg: some places of each frame,
 //!   drawn at random, are lost to fades; a curve for each number of them, where they are blank and
 //!   where they are symbol 0, as in document 01.
@@ -21,7 +22,6 @@ use reference::channel::{Channel, LOST, LOST_AS_ZERO};
 use reference::code::Code;
 use reference::curve::PLACES;
 use reference::decode::{table_of_columns, REPORT_BYTES};
-use reference::frames::RATES;
 use reference::measured::DOUBTS;
 use reference::plot::{draw, Curve};
 use reference::proved::{PROVED_BITS, PROVED_TABLE};
@@ -36,8 +36,9 @@ const BATCH: u64 = 500;
 /// With so many errors a point is known well enough.
 const ENOUGH: u64 = 150;
 
-/// The points in quarters of a decibel of Eb/N0.
-const QUARTERS: [(u64, std::ops::RangeInclusive<u64>); 2] = [(39, 12..=26), (49, 16..=32)];
+/// The rates, and their points in quarters of a decibel of Eb/N0.
+const QUARTERS: [(u64, std::ops::RangeInclusive<u64>); 4] =
+    [(39, 12..=26), (49, 16..=32), (20, 14..=28), (52, 20..=36)];
 
 /// The drawings of frames with lost places: rate, doubt, and how many places are lost. 13 and 3 are
 /// the most that are not refused.
@@ -116,7 +117,7 @@ fn draw_all(folder: &Path, frames: u64) -> Result<(), String> {
         let name = folder.join(name);
         fs::write(&name, drawn).map_err(|error| format!("{}: {error}", name.display()))
     };
-    for rate in RATES {
+    for (rate, _) in QUARTERS {
         let drawn = by_doubt(rate, frames);
         write(format!("error-rates-{rate}.svg"), drawn)?;
     }
