@@ -599,7 +599,7 @@ mod tests {
         }
     }
 
-    /// Every sort of margin comes at both rates, and only with two test words that have a codeword
+    /// Every sort of margin comes at rates 39 and 49, and only with two test words that have a codeword
     /// within T, of eight doubtful places, or with more of both.
     #[test]
     fn frames_have_every_sort_of_margin() {

@@ -38,10 +38,11 @@ const WIDE_SETTLED_GAP: usize = 90_000;
 /// Of the places where one of a trio differs from the two others, so many are doubtful.
 const TRIO_DOUBT: usize = 4;
 
-/// Half of the least distance is T and so many more, at both rates.
+/// Half of the least distance is T and so many more, at rates 39 and 49.
 const PAIR_DOUBT: usize = 4;
 
-/// Two near codewords differ in so many doubtful places at least.
+/// Two near codewords differ in so many doubtful places at least, at rates 39 and 49; at no rate do those of
+/// least distance need more.
 pub const NEAR_DOUBT: usize = 2 * PAIR_DOUBT;
 
 /// How the gaps are drawn where codewords differ.
