@@ -97,7 +97,9 @@ const DECADES: i32 = 4;
 const GRID: f64 = 0.5;
 
 /// Colours that the colour-blind tell apart, by number.
-const COLOURS: [&str; 5] = ["#000000", "#0072b2", "#009e73", "#d55e00", "#999999"];
+const COLOURS: [&str; 6] = [
+    "#000000", "#0072b2", "#009e73", "#d55e00", "#cc79a7", "#999999",
+];
 
 /// Where decibels and rates stand.
 struct Axes {
