@@ -154,7 +154,7 @@ impl Part {
     }
 }
 
-/// The number that a frame with blank places comes to by its wrong ones; none where there are too many.
+/// The number that a frame comes to by its blank places and its wrong ones.
 fn number_of(lost: Lost, wrong: Wrong) -> u8 {
     match (lost, wrong) {
         (Lost::TooMany, _) => 12,
