@@ -7,6 +7,7 @@ pub mod Doubt
 pub mod Threshold
 pub mod TestWord
 pub mod Total
+pub mod Mark
 pub mod ColumnLaws
 pub mod BlankLaws
 pub mod BitsLaws
@@ -14,4 +15,5 @@ pub mod DoubtLaws
 pub mod ThresholdLaws
 pub mod TestWordLaws
 pub mod TotalLaws
+pub mod MarkLaws
 pub mod Bench
