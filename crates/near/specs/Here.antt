@@ -6,6 +6,7 @@
 --   reachIn k columns         T where the blank places are those of the columns
 --   nearTo, near, testsNear k columns …   as the family has them, of the places that are not blank in these columns
 --   messageCost, answerOf, marginOf, limitOf, nodesOf   the same
+--   markedOf k columns m      the codeword of m is marked; far-is: by 64 − M, which is 59 − k; marked-cheapest: no codeword at all costs less
 --   Workable k                k from 6 to 52 (workable)
 --   reaches                   without blank places T = 6 at rate 39 and T = 1 at rate 49, with M = 44 and M = 54
 --   blank-limits              at most 13 blank places at rate 39 and 3 at rate 49, with T = 0 then
@@ -24,6 +25,8 @@ use Rattle.soft.specs.TestWord.{testWords}
 use Rattle.soft.specs.Column.{places}
 use Rattle.soft.specs.Blank.{openAt, blanksOf}
 use Rattle.lists.specs.Answers.{Found}
+use Rattle.lists.specs.Words.{Word}
+use lib.Dec.{T}
 use lib.ListN.{length}
 use mathlib.Core.Logic.{_≢_, _↔_}
 use Rattle.family.specs.Member.{m16}
@@ -31,6 +34,7 @@ use Rattle.family.specs.Nodes.{Node}
 use Rattle.near.specs.Near as Near
 use Rattle.near.specs.Reach as Reach
 use Rattle.near.specs.Runner as Runner
+use Rattle.near.specs.Cheapest as Cheapest
 use Rattle.near.specs.Interpolated as Interpolated
 use Rattle.near.specs.Tree as Tree
 use Rattle.near.specs.Rivals as Rivals
@@ -68,6 +72,9 @@ answerOf k columns tests = Near.answerOf m16 (openAt columns) (reachIn k columns
 abbrev pub marginOf : ℕ → (ℕ → List ℕ) → List (List ℕ) → List ℕ → Option ℕ
 marginOf k columns tests m = Runner.marginOf m16 (openAt columns) (reachIn k columns) k columns tests m
 
+abbrev pub markedOf : ℕ → (ℕ → List ℕ) → List ℕ → Bool
+markedOf k columns m = Cheapest.markedOf m16 k columns m
+
 abbrev pub limitOf : ℕ → ℕ → ℕ
 limitOf k b = Interpolated.limitOf m16 (reachOf k b) k
 
@@ -88,12 +95,20 @@ pub m-is : (k : ℕ) → mOf k ≡ k + 5
 unfolding Near.mOf
 m-is k = omega (arith, genus-4)
 
+pub far-is : (k : ℕ) → 64 - mOf k ≡ 59 - k
+far-is k = omega (arith, m-is k)
+
 pub blank-limit-is : (k : ℕ) → blankLimit k ≡ 57 - mOf k
 unfolding Near.blankLimit
 blank-limit-is k = omega (arith, genus-4)
 
 pub workable : {k : ℕ} → 6 ≤ k → k ≤ 52 → Workable k
 workable l h = record { least = omega (arith, genus-4); most = omega (arith, genus-4) }
+
+-- of columns of sixteen costs, blank ones among them
+pub marked-cheapest : {k : ℕ} → Workable k → (columns : ℕ → List ℕ) → ((p : ℕ) → p < 64 → length (columns p) ≡ 16) → {m n : List ℕ} → Word 16 k m
+    → Word 16 k n → T (markedOf k columns m) → messageCost k columns m ≤ messageCost k columns n
+marked-cheapest = Cheapest.marked-cheapest m16
 
 -- T as document 02 says it
 pub t-is : (k b T : ℕ) → IsReach k b T ↔ ((2 * T + b < 64 - mOf k - 6) × ((n : ℕ) → 2 * n + b < 64 - mOf k - 6 → n ≤ T))

@@ -5,6 +5,7 @@ pub mod Laws
 pub mod Runner
 pub mod Interpolated
 pub mod Distance
+pub mod Cheapest
 pub mod Tree
 pub mod Result
 pub mod Held
