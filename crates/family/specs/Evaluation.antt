@@ -14,6 +14,7 @@
 --   function-codeword    so its values are their codeword
 --   encode-length        a codeword has n places,
 --   encode-at, encode-symbols   and an element at each
+--   term-zero            a symbol that is zero adds nothing
 --   encode-beyond        symbols that a message does not have add nothing: the codeword is the same for every k from its length on
 --   encode-over          and of a list of n bytes that it is written over nothing is left
 --   encode-zeros         a message of zeros encodes to zeros
@@ -151,7 +152,7 @@ module _ (𝓜 : Member) where
       T-true (allBelow (size gf) (encodeOf 𝓜 k m)) (allBelow-from (size gf) (encodeOf 𝓜 k m) (λ p h. encode-at k m p (omega (arith, encode-length k m))))
 
   -- ---- a symbol that is zero adds nothing
-  term-zero : (m : List ℕ) (p t : ℕ) → getD m t 0 ≡ 0 → term 𝓜 m p t ≡ 0
+  pub term-zero : (m : List ℕ) (p t : ℕ) → getD m t 0 ≡ 0 → term 𝓜 m p t ≡ 0
   unfolding term
   term-zero m p t e = ap (λ x. times gf x (monomial 𝓜 (orderOf w t) p)) e ∙ times-comm gf 0 _ ∙ times-zero gf _
 

@@ -4,6 +4,7 @@ pub mod Member
 pub mod Points
 pub mod Encoding
 pub mod Evaluation
+pub mod Sparse
 pub mod Extraction
 pub mod Laws
 pub mod Nodes

@@ -17,4 +17,5 @@ pub mod Choices
 pub mod Governing
 pub mod Rivals
 pub mod Here
+pub mod LeastDistance
 pub mod BenchSheet
