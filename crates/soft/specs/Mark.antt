@@ -1,6 +1,7 @@
 -- The mark of a word that no codeword undercuts, near or not: over the sum of all best costs it costs no more than changing it to another codeword
 -- must cost.
 --
+--   isBelow counts gap t p   place p counts and has a gap below t
 --   sumIn n counts f       the sum of f over those of the n places that count
 --   lowSum n j counts gap  the sum of the j smallest gaps of the places that count; of all of them, where fewer count
 --   bestCost columns p     the cost of the best symbol at place p; bestTotal n columns: the sum over all n places
@@ -9,14 +10,17 @@
 --   slack n far columns word   the sum of the smallest far − c plain gaps over unchanged places, where c places are changed; 0 where that number
 --                          is not positive. A blank place is unchanged, and its gap is 0 as it stands (MarkLaws blank-gap)
 --   isMarked n far columns word   the word's total, minus the sum of all best costs, is at most the slack
-use mathlib.Core.Bool.{Bool, not, cond}
+use mathlib.Core.Bool.{Bool, not, cond, _&&_}
 use mathlib.Core.List.{List}
 use Prim.Native.Nat.{ℕ, _-_}
-use lib.Dec.{leb}
+use lib.Dec.{leb, ltb}
 use Rattle.lists.specs.Count.{sumOf}
 use Rattle.soft.specs.Column.{costOf, bestOf, gapOf}
 use Rattle.soft.specs.Doubt.{fewAhead}
 use Rattle.soft.specs.Total.{totalOf, changedAt, changedOf}
+
+abbrev pub isBelow : (ℕ → Bool) → (ℕ → ℕ) → ℕ → ℕ → Bool
+isBelow counts gap t p = counts p && ltb (gap p) t
 
 unfoldable pub sumIn : ℕ → (ℕ → Bool) → (ℕ → ℕ) → ℕ
 sumIn n counts f = sumOf n (λ p. cond (counts p) (f p) 0)

@@ -4,11 +4,12 @@
 --   low-count              where at least j places count, exactly j of them are summed; low-most: never more
 --   lowSum-none            none where j is 0
 --   lowSum-le              the sum of any at least j places that count is no smaller
+--   lowSum-threshold       by any t that at most j gaps are below, and at least j are up to: the sum of those below, and t for each of the rest
 --   lowSum-ext, marked-ext   only the n places matter
 --   best-total             the best costs are what the word of best symbols costs; best-total-le: no word of symbols costs less
 --   blank-gap              the plain gap of a blank column is 0
 --   unchanged-blank        a blank place is unchanged; unchanged-cases: an unchanged place is blank, or the word has the best symbol there
---   slack-none             the slack is 0 where no fewer places are changed than the two words differ in
+--   slack-none             the slack is 0 where no fewer than far places are changed
 --   marked-total, total-marked   a word is marked exactly if it costs at most all best costs and the slack
 --   marked-least           no word of symbols costs less than a marked one, if it differs from that in at least far of the n places
 use mathlib.Core.Bool.{Bool, true, false, not, cond, _&&_}
@@ -16,24 +17,25 @@ use mathlib.Core.Path.{_≡_, refl, sym, ap, ap₂, _∙_}
 use mathlib.Core.List.{List}
 use mathlib.Core.Logic.{_≢_, _⊎_, inl, inr, ⊎-elim}
 use Prim.Native.Nat.{ℕ, zero, suc, _+_, _-_, _*_, _<_, _≤_}
-use native.Mathlib.Nat.{mul-le-mul-right, eq-or-lt-of-le, le-of-suc-le-suc}
+use native.Mathlib.Nat.{mul-le-mul-right, add-mul, eq-or-lt-of-le, le-of-suc-le-suc}
 use native.Mathlib.Decide.{decLe}
 use native.Mathlib.Omega.{arith}
-use lib.Dec.{T, T-not, ltb, eqb, leb, leb→le, le→leb}
+use lib.Dec.{T, T-not, ltb, eqb, leb, leb→le, le→leb, ltb→lt, lt→ltb}
 use lib.ListN.{length}
 use borrow.Author.Tests.{eqb-true}
-use Rattle.lists.specs.Count.{bit, sumOf-nil, sumOf-suc, sumOf-ext, sumOf-mono, sumOf-plus, sumOf-bound, count, count-nil, count-suc, count-mono, count-split, kept-length, kept-member, kept-passes}
-use Rattle.lists.specs.Every.{both-left, both-right, T-true, true-T}
+use Rattle.lists.specs.Count.{bit, sumOf-nil, sumOf-suc, sumOf-ext, sumOf-mono, sumOf-plus, sumOf-bound, count, count-nil, count-suc, count-mono, count-strict, count-split, kept-length, kept-member, kept-passes}
+use Rattle.lists.specs.Every.{both-left, both-right, both-intro, T-true, true-T}
 use Rattle.soft.specs.Column.{costOf, bestOf, secondOf, gapOf, isBlank}
 use Rattle.soft.specs.ColumnLaws.{best-below, best-least, second-below, second-best, gap-cost}
 use Rattle.soft.specs.BlankLaws.{blank-same}
-use Rattle.soft.specs.Doubt.{fewAhead, smallest}
-use Rattle.soft.specs.DoubtLaws.{ahead-cases, aheadOf-ext, smallest-length, smallest-most, smallest-ahead}
+use Rattle.soft.specs.Doubt.{ahead, aheadBy, aheadOf, fewAhead, smallest}
+use Rattle.soft.specs.DoubtLaws.{ahead-cases, smaller-ahead, aheadOf-ext, smallest-length, smallest-most, smallest-ahead}
 use Rattle.soft.specs.TestWord.{bestAt, bestWord}
 use Rattle.soft.specs.TestWordLaws.{bestWord-at}
 use Rattle.soft.specs.Total.{symbolAt, costIn, totalOf, changedAt, changedOf, agree, differAt, differingIn, differing}
 use Rattle.soft.specs.TotalLaws.{agree-true, changed-blank, totalOf-ext, changedOf-ext}
-use Rattle.soft.specs.Mark.{sumIn, lowSum, bestCost, bestTotal, plainGap, unchanged, slack, isMarked}
+use Rattle.soft.specs.Threshold.{belowOf}
+use Rattle.soft.specs.Mark.{isBelow, sumIn, lowSum, bestCost, bestTotal, plainGap, unchanged, slack, isMarked}
 
 -- ---- sums over the places that count
 
@@ -80,6 +82,12 @@ top (suc n) f = go (top n f)
 
 -- ---- the smallest gaps
 
+ahead-le : (g p h q : ℕ) → T (aheadBy g p h q) → g ≤ h
+ahead-le g p h q a = ⊎-elim (λ l. omega arith) (λ r. omega (arith, r .0)) (ahead-cases g p h q a)
+
+ahead-self : (g p : ℕ) → T (aheadBy g p g p) → ⊥
+ahead-self g p a = ⊎-elim (λ l. omega arith) (λ r. omega (arith, r .1)) (ahead-cases g p g p a)
+
 module _ (n j : ℕ) (counts : ℕ → Bool) (gap : ℕ → ℕ) where
   abbrev low : ℕ → Bool
   low p = fewAhead n j counts gap p
@@ -96,9 +104,8 @@ module _ (n j : ℕ) (counts : ℕ → Bool) (gap : ℕ → ℕ) where
   low-ahead : (p q : ℕ) → p < n → q < n → T (low p) → T (counts q) → (T (low q) → ⊥) → gap p ≤ gap q
   unfolding smallest
   low-ahead p q lp lq chosen c out =
-      ⊎-elim (λ l. omega arith) (λ r. omega (arith, r .0))
-      (ahead-cases (gap p) p (gap q) q
-      (smallest-ahead n gap counts j p q (kept-member n low p lp chosen) lq (T-true (counts q) c) (λ m. out (kept-passes n low q m .1))))
+      ahead-le (gap p) p (gap q) q
+      (smallest-ahead n gap counts j p q (kept-member n low p lp chosen) lq (T-true (counts q) c) (λ m. out (kept-passes n low q m .1)))
 
   -- one place: with t between the gaps of the low places and those of the others that count
   exchanged : (a b : Bool) (g t : ℕ) → (T a → g ≤ t) → (T b → (T a → ⊥) → t ≤ g) → cond a g 0 + cond b t 0 ≤ cond b g 0 + cond a t 0
@@ -142,6 +149,86 @@ pub lowSum-none : (n : ℕ) (counts : ℕ → Bool) (gap : ℕ → ℕ) → lowS
 unfolding sumIn
 lowSum-none n counts gap =
     omega (arith, lowSum-le n 0 counts gap (λ p. false) (λ p l t. absurd t) (omega arith), sumOf-bound n 0 (λ p. 0) (λ p l. omega arith))
+
+-- by a threshold: the gaps below t, and t itself for each of the others
+module _ (n j : ℕ) (counts : ℕ → Bool) (gap : ℕ → ℕ) (t : ℕ) where
+  abbrev below : ℕ → Bool
+  below p = isBelow counts gap t p
+
+  abbrev upTo : ℕ → Bool
+  upTo p = isBelow counts gap (suc t) p
+
+  module _ (few : belowOf n t counts gap ≤ j) (enough : j ≤ belowOf n (suc t) counts gap) where
+    -- what is ahead of a place below t is below t, and the place is not ahead of itself
+    below-low : (p : ℕ) → p < n → T (below p) → T (fewAhead n j counts gap p)
+    unfolding aheadOf belowOf
+    below-low p l b =
+        let c = both-left (counts p) (ltb (gap p) t) b in
+        let g = ltb→lt (gap p) t (both-right (counts p) (ltb (gap p) t) b) in
+        both-intro (counts p) (ltb (aheadOf n counts gap p) j) c
+        (lt→ltb (aheadOf n counts gap p) j
+        (omega (
+          arith,
+          count-strict n p (λ q. counts q && ahead gap q p) below
+              (λ q k a.
+              both-intro (counts q) (ltb (gap q) t) (both-left (counts q) (ahead gap q p) a)
+              (lt→ltb (gap q) t (omega (arith, ahead-le (gap q) q (gap p) p (both-right (counts q) (ahead gap q p) a)))))
+              l (λ a. ahead-self (gap p) p (both-right (counts p) (ahead gap p p) a)) b,
+        )))
+
+    -- all up to t are ahead of a place above it
+    low-upTo : (p : ℕ) → p < n → T (fewAhead n j counts gap p) → gap p ≤ t
+    unfolding aheadOf belowOf
+    low-upTo p l a = go (decLe (gap p) t)
+      where
+        go : Dec (gap p ≤ t) → gap p ≤ t
+        go (yes h) = h
+        go (no h) =
+            absurd
+            (omega (
+              arith,
+              ltb→lt (aheadOf n counts gap p) j (both-right (counts p) (ltb (aheadOf n counts gap p) j) a),
+              count-mono n upTo (λ q. counts q && ahead gap q p)
+                  (λ q k u.
+                  both-intro (counts q) (ahead gap q p) (both-left (counts q) (ltb (gap q) (suc t)) u)
+                  (smaller-ahead (gap q) q (gap p) p (omega (arith, ltb→lt (gap q) (suc t) (both-right (counts q) (ltb (gap q) (suc t)) u))))),
+            ))
+
+    -- one place: a low one that is not below t has the gap t
+    level : (a b : Bool) (g : ℕ) → (T b → T a) → (T a → g ≤ t) → (T a → (T b → ⊥) → t ≤ g) → cond a g 0 + cond b t 0 ≡ cond b g 0 + cond a t 0
+    level true true g h k l = omega arith
+    level true false g h k l = omega (arith, k tt, l tt (λ x. x))
+    level false true g h k l = absurd (h tt)
+    level false false g h k l = omega arith
+
+    not-below : (p : ℕ) → T (fewAhead n j counts gap p) → (T (below p) → ⊥) → t ≤ gap p
+    not-below p a out = go (decLe t (gap p))
+      where
+        go : Dec (t ≤ gap p) → t ≤ gap p
+        go (yes h) = h
+        go (no h) =
+            absurd
+            (out
+            (both-intro (counts p) (ltb (gap p) t) (both-left (counts p) (ltb (aheadOf n counts gap p) j) a) (lt→ltb (gap p) t (omega arith))))
+
+    pub lowSum-threshold : lowSum n j counts gap ≡ sumIn n (isBelow counts gap t) gap + (j - belowOf n t counts gap) * t
+    unfolding lowSum sumIn belowOf
+    lowSum-threshold =
+        let low : ℕ → Bool = fewAhead n j counts gap in
+        let all : count n low ≡ j =
+        low-count n j counts gap (omega (arith, count-mono n upTo counts (λ p l u. both-left (counts p) (ltb (gap p) (suc t)) u))) in
+        let rest : j ≡ count n below + (j - count n below) = omega arith in
+        omega (
+          arith,
+          sumOf-ext n (λ p. cond (low p) (gap p) 0 + cond (below p) t 0) (λ p. cond (below p) (gap p) 0 + cond (low p) t 0)
+              (λ p l. level (low p) (below p) (gap p) (below-low p l) (low-upTo p l) (not-below p)),
+          sumOf-plus n (λ p. cond (low p) (gap p) 0) (λ p. cond (below p) t 0),
+          sumOf-plus n (λ p. cond (below p) (gap p) 0) (λ p. cond (low p) t 0),
+          sumIn-same n below t,
+          sumIn-same n low t,
+          ap (λ c. c * t) all,
+          ap (λ c. c * t) rest ∙ add-mul (count n below) (j - count n below) t,
+        )
 
 module _ (n j : ℕ) (c e : ℕ → Bool) (g h : ℕ → ℕ) (counts : (p : ℕ) → p < n → c p ≡ e p) (gaps : (p : ℕ) → p < n → g p ≡ h p) where
   pub lowSum-ext : lowSum n j c g ≡ lowSum n j e h
