@@ -69,7 +69,7 @@ module _ (𝓓 : Model) where
 
   pub report-length : (k : ℕ) (columns : ℕ → List ℕ) (doubtful m : List ℕ) → length (reportFor 𝓓 k columns doubtful m) ≡ reportLength 𝓓
   unfolding reportFor
-  report-length k columns doubtful m = reportOf-length wide _ _ _ _ _
+  report-length k columns doubtful m = reportOf-length wide _ _ _ _ _ _
 
   module _ (k : ℕ) (columns : ℕ → List ℕ) (doubtful message report : List ℕ) where
     pub decode-too-blank : blankLimit member k < blanksOf (places 𝓓) columns

@@ -1,13 +1,14 @@
 -- The book of the modem of 64 places, under the names that the crates above use: every modem's, at modem64.
 --
 --   places, width        its 64 places and the sixteen costs in a column, of `soft` Column
---   reportLength, tableLength, frameLength   the report's 13 bytes, the table's 2,048, and the 256 of a frame of bit values
+--   reportLength, tableLength, frameLength   the report's 14 bytes, the table's 2,048, and the 256 of a frame of bit values
 --   power                sixteen symbols are those of four bits
 --   test-count-here      with at most 12 doubtful places there are at most 4,096 test words, and the number of those with a codeword within T fits two bytes
---   pinnedIn, changedIn, markIn, marginIn   the report's bytes 6, 7 and 8, and the number in its last four: pinned-byte, changed-byte, mark-byte, margin-bytes
+--   pinnedIn, changedIn, markIn, marginIn, cheapestIn   the report's bytes 6, 7 and 8, the number in the next four, and the last byte: pinned-byte, changed-byte,
+--                        mark-byte, margin-bytes, cheapest-byte
 --
 -- All others mean what they mean in Book, Opening, Delivery, Withdrawal, Columns, Entries, RowLaws, OpeningLaws, PlaceOrder, Closing, Table, Below, Bits,
--- Sentences, Costs, Report and Repairs.
+-- Sentences, Costs, Report, Marked and Repairs.
 use mathlib.Core.Bool.{Bool}
 use mathlib.Core.Path.{_≡_, refl}
 use mathlib.Core.List.{List}
@@ -39,6 +40,7 @@ use Rattle.book.specs.Bits as Bits
 use Rattle.book.specs.Sentences as Sentences
 use Rattle.book.specs.Costs as Costs
 use Rattle.book.specs.Report as Report
+use Rattle.book.specs.Marked as Marked
 use Rattle.book.specs.Repairs as Repairs
 
 abbrev pub places : ℕ
@@ -114,7 +116,7 @@ RowColumns row = Costs.RowColumns modem64 row
 -- ---- closing
 
 abbrev pub reportLength : ℕ
-reportLength = 13
+reportLength = 14
 
 abbrev pub testsFor : ℕ → (ℕ → List ℕ) → List ℕ → ℕ
 testsFor k columns doubtful = Closing.testsFor modem64 k columns doubtful
@@ -188,8 +190,14 @@ pub margin-bytes : (report : List ℕ) → Report.marginIn modem64 report ≡ ma
 unfolding Report.numberIn
 margin-bytes report = omega arith
 
-abbrev pub Shows : List ℕ → ℕ → ℕ → ℕ → ℕ → Option ℕ → Type 0
-Shows report total tests pinned changed margin = Report.Shows modem64 report total tests pinned changed margin
+abbrev pub cheapestIn : List ℕ → ℕ
+cheapestIn report = getD report 13 0
+
+pub cheapest-byte : (report : List ℕ) → Report.cheapestIn modem64 report ≡ cheapestIn report
+cheapest-byte report = Report.number-byte 13 report
+
+abbrev pub Shows : List ℕ → ℕ → ℕ → ℕ → ℕ → Option ℕ → ℕ → Type 0
+Shows report total tests pinned changed margin cheapest = Report.Shows modem64 report total tests pinned changed margin cheapest
 
 -- 'up to 4,096 test words, and the test count still fits its two bytes'
 pub test-count-here : (k : ℕ) (columns : ℕ → List ℕ) (doubtful : List ℕ) → length doubtful ≤ mostDoubt
@@ -200,6 +208,9 @@ test-count-here k columns doubtful few =
 
 abbrev pub ReportedIn : Book → Closed → Type 0
 ReportedIn book c = Report.ReportedIn modem64 book c
+
+abbrev pub CheapestIn : Book → Closed → Type 0
+CheapestIn book c = Marked.CheapestIn modem64 book c
 
 -- ---- table decoding
 

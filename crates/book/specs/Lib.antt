@@ -20,6 +20,7 @@ pub mod Costs
 pub mod Bits
 pub mod WithdrawalLaws
 pub mod Report
+pub mod Marked
 pub mod Repairs
 pub mod Here
 pub mod Capture

@@ -1,15 +1,16 @@
--- The report's thirteen bytes, high byte first: total (4), test words with a codeword within T (2), pinned places (1), changed places (1), 1 or 0 for a
--- margin that is present or absent (1), margin (4), zero where absent. In every modem, with as many bytes for each count of places as it has.
+-- The report's fourteen bytes, high byte first: total (4), test words with a codeword within T (2), pinned places (1), changed places (1), 1 or 0 for a
+-- margin that is present or absent (1), margin (4), zero where absent, 1 or 0 for a mark (1). In every modem, with as many bytes for each count of places as it
+-- has.
 --
 --   numberIn n i bytes     the number in n bytes from byte i on, high byte first
---   totalIn, testsIn, pinnedIn, changedIn, markIn, marginIn   the numbers that a report's bytes hold
+--   totalIn, testsIn, pinnedIn, changedIn, markIn, marginIn, cheapestIn   the numbers that a report's bytes hold
 --   markOf margin, amountOf margin   1 and the margin where there is one; 0 and 0 where there is none
---   Shows report total tests pinned changed margin   the report has its length in bytes, and they hold these numbers: none of them is cut
+--   Shows report total tests pinned changed margin cheapest   the report has its length in bytes, and they hold these numbers: none of them is cut
 --   reads-back             numbers that fit their bytes are read off the report that is made of them
 --   test-words-few, test-count-fits   with no more doubtful places than the largest doubt there are at most 2 to the power of it test words, and the number
 --                          of those with a codeword within T fits its two bytes
---   ShowsFor k columns doubtful m report   the report shows the message's total, the test words with a codeword within T, pinned and changed places, and
---                          the margin
+--   ShowsFor k columns doubtful m report   the report shows the message's total, the test words with a codeword within T, pinned and changed places,
+--                          the margin, and the mark
 --   report-shows           so does the report of every message, if the columns' costs are 0 to 65535 and no more places are doubtful than the largest doubt
 --   Reported k columns doubtful c, ReportedIn book c   the same of the message and the report that a call answers
 --   closing-shows          so an accepted closing shows the numbers of the message that it gives: of a book with such a row
@@ -24,6 +25,7 @@ use lib.ListN.{length, getD, length-append}
 use lib.Pow.{pow-mono}
 use lib.Seq.{getD-at}
 use Rattle.refusals.specs.Refusal.{accepted}
+use Rattle.lists.specs.Count.{bit, bit-le}
 use Rattle.lists.specs.Distinct.{below, below-nil, below-one, below-append, and-both}
 use Rattle.soft.specs.Total.{symbolAt, totalOf, pinnedOf, changedOf, bytesOf, marginBytes, reportOf}
 use Rattle.soft.specs.TotalLaws.{total-bound, pinned-le, changed-le, bytesOf-length, reportOf-length}
@@ -37,6 +39,7 @@ use Rattle.near.specs.Near.{messageCost}
 use Rattle.near.specs.Reach.{reachIn}
 use Rattle.near.specs.Laws.{tests-le}
 use Rattle.near.specs.Runner.{margin-le}
+use Rattle.near.specs.Cheapest.{markedOf}
 use Rattle.book.specs.Model.{Model, places}
 use Rattle.book.specs.Book.{Book}
 use Rattle.book.specs.Columns.{columnsOf}
@@ -122,7 +125,10 @@ module _ (𝓓 : Model) where
   abbrev pub marginIn : List ℕ → ℕ
   marginIn report = numberIn 4 (7 + wide + wide) report
 
-  pub record Shows (report : List ℕ) (total tests pinned changed : ℕ) (margin : Option ℕ) : Type 0 where
+  abbrev pub cheapestIn : List ℕ → ℕ
+  cheapestIn report = numberIn 1 (11 + wide + wide) report
+
+  pub record Shows (report : List ℕ) (total tests pinned changed : ℕ) (margin : Option ℕ) (cheapest : ℕ) : Type 0 where
     pub size : length report ≡ reportLength 𝓓
     pub bytes : below 256 report ≡ true
     pub total-there : totalIn report ≡ total
@@ -131,12 +137,17 @@ module _ (𝓓 : Model) where
     pub changed-there : changedIn report ≡ changed
     pub mark-there : markIn report ≡ markOf margin
     pub margin-there : marginIn report ≡ amountOf margin
+    pub cheapest-there : cheapestIn report ≡ cheapest
 
   -- ---- numbers that fit their bytes
 
-  module _ (total tests pinned changed : ℕ) (margin : Option ℕ) where
+  module _ (total tests pinned changed : ℕ) (margin : Option ℕ) (cheapest : ℕ) where
     whole : List ℕ
-    whole = reportOf wide total tests pinned changed margin
+    whole = reportOf wide total tests pinned changed margin cheapest
+
+    -- the last byte
+    last : List ℕ
+    last = bytesOf 1 cheapest
 
     -- the bytes before each count of places, and those before the margin
     front : List ℕ
@@ -160,23 +171,36 @@ module _ (𝓓 : Model) where
     mark-length : length (counts ++ bytesOf 1 (markOf margin)) ≡ 7 + wide + wide
     mark-length = omega (arith, length-append counts (bytesOf 1 (markOf margin)), counts-length, bytesOf-length 1 (markOf margin))
 
-    from-pinned : whole ≡ front ++ (bytesOf wide pinned ++ (bytesOf wide changed ++ marginBytes margin))
-    unfolding whole front reportOf
-    from-pinned = sym (append-assoc (bytesOf 4 total) (bytesOf 2 tests) (bytesOf wide pinned ++ (bytesOf wide changed ++ marginBytes margin)))
+    from-pinned : whole ≡ front ++ (bytesOf wide pinned ++ (bytesOf wide changed ++ (marginBytes margin ++ last)))
+    unfolding whole front last reportOf
+    from-pinned = sym (append-assoc (bytesOf 4 total) (bytesOf 2 tests) (bytesOf wide pinned ++ (bytesOf wide changed ++ (marginBytes margin ++ last))))
 
-    from-changed : whole ≡ (front ++ bytesOf wide pinned) ++ (bytesOf wide changed ++ marginBytes margin)
-    from-changed = from-pinned ∙ sym (append-assoc front (bytesOf wide pinned) (bytesOf wide changed ++ marginBytes margin))
+    from-changed : whole ≡ (front ++ bytesOf wide pinned) ++ (bytesOf wide changed ++ (marginBytes margin ++ last))
+    from-changed = from-pinned ∙ sym (append-assoc front (bytesOf wide pinned) (bytesOf wide changed ++ (marginBytes margin ++ last)))
 
-    from-mark : whole ≡ counts ++ (bytesOf 1 (markOf margin) ++ bytesOf 4 (amountOf margin))
+    from-mark : whole ≡ counts ++ (bytesOf 1 (markOf margin) ++ (bytesOf 4 (amountOf margin) ++ last))
     unfolding counts
     from-mark =
-        from-changed ∙ sym (append-assoc (front ++ bytesOf wide pinned) (bytesOf wide changed) (marginBytes margin))
-        ∙ ap (λ l. counts ++ l) (margin-parts margin)
+        from-changed ∙ sym (append-assoc (front ++ bytesOf wide pinned) (bytesOf wide changed) (marginBytes margin ++ last))
+        ∙ ap (λ l. counts ++ (l ++ last)) (margin-parts margin)
+        ∙ ap (λ l. counts ++ l) (append-assoc (bytesOf 1 (markOf margin)) (bytesOf 4 (amountOf margin)) last)
 
-    from-margin : whole ≡ (counts ++ bytesOf 1 (markOf margin)) ++ (bytesOf 4 (amountOf margin) ++ [])
-    from-margin =
-        from-mark ∙ sym (append-assoc counts (bytesOf 1 (markOf margin)) (bytesOf 4 (amountOf margin)))
-        ∙ ap (λ l. (counts ++ bytesOf 1 (markOf margin)) ++ l) (sym (append-nil (bytesOf 4 (amountOf margin))))
+    from-margin : whole ≡ (counts ++ bytesOf 1 (markOf margin)) ++ (bytesOf 4 (amountOf margin) ++ last)
+    from-margin = from-mark ∙ sym (append-assoc counts (bytesOf 1 (markOf margin)) (bytesOf 4 (amountOf margin) ++ last))
+
+    before : List ℕ
+    before = (counts ++ bytesOf 1 (markOf margin)) ++ bytesOf 4 (amountOf margin)
+
+    before-length : length before ≡ 11 + wide + wide
+    unfolding before
+    before-length =
+        omega (arith, length-append (counts ++ bytesOf 1 (markOf margin)) (bytesOf 4 (amountOf margin)), mark-length, bytesOf-length 4 (amountOf margin))
+
+    from-last : whole ≡ before ++ (bytesOf 1 cheapest ++ [])
+    unfolding before last
+    from-last =
+        from-margin ∙ sym (append-assoc (counts ++ bytesOf 1 (markOf margin)) (bytesOf 4 (amountOf margin)) (bytesOf 1 cheapest))
+        ∙ ap (λ l. before ++ l) (sym (append-nil (bytesOf 1 cheapest)))
 
     report-below : below 256 whole ≡ true
     unfolding whole reportOf
@@ -185,17 +209,19 @@ module _ (𝓓 : Model) where
         (both-below (bytesOf 2 tests) _ (bytes-below 2 tests)
         (both-below (bytesOf wide pinned) _ (bytes-below wide pinned)
         (both-below (bytesOf wide changed) _ (bytes-below wide changed)
+        (both-below (marginBytes margin) _
         (ap (below 256) (margin-parts margin)
-        ∙ both-below (bytesOf 1 (markOf margin)) _ (bytes-below 1 (markOf margin)) (bytes-below 4 (amountOf margin))))))
+        ∙ both-below (bytesOf 1 (markOf margin)) _ (bytes-below 1 (markOf margin)) (bytes-below 4 (amountOf margin)))
+        (bytes-below 1 cheapest)))))
 
     pub reads-back : total < 256 ^ 4 → tests < 256 ^ 2 → pinned < 256 ^ wide → changed < 256 ^ wide → amountOf margin < 256 ^ 4
-        → Shows (reportOf wide total tests pinned changed margin) total tests pinned changed margin
+        → cheapest < 256 ^ 1 → Shows (reportOf wide total tests pinned changed margin cheapest) total tests pinned changed margin cheapest
     unfolding whole reportOf bytesOf
-    reads-back a b c d e =
+    reads-back a b c d e f =
         let a′ : total < 4294967296 = a in
         let b′ : tests < 65536 = b in
         record {
-          size = reportOf-length wide total tests pinned changed margin;
+          size = reportOf-length wide total tests pinned changed margin cheapest;
           bytes = report-below;
           total-there = omega arith;
           tests-there = omega arith;
@@ -205,7 +231,8 @@ module _ (𝓓 : Model) where
               ap (numberIn 1 (6 + wide + wide)) from-mark ∙ number-there 1 (6 + wide + wide) (markOf margin) counts _ counts-length (mark-small margin);
           margin-there =
               ap (numberIn 4 (7 + wide + wide)) from-margin
-              ∙ number-there 4 (7 + wide + wide) (amountOf margin) (counts ++ bytesOf 1 (markOf margin)) [] mark-length e;
+              ∙ number-there 4 (7 + wide + wide) (amountOf margin) (counts ++ bytesOf 1 (markOf margin)) last mark-length e;
+          cheapest-there = ap (numberIn 1 (11 + wide + wide)) from-last ∙ number-there 1 (11 + wide + wide) cheapest before [] before-length f;
         }
 
   -- ---- the test words: document 02's 'up to 4,096 test words, and the test count still fits its two bytes'
@@ -227,6 +254,7 @@ module _ (𝓓 : Model) where
   ShowsFor k columns doubtful m report =
       Shows report (totalOf (places 𝓓) columns (encodeOf member k m)) (testsFor 𝓓 k columns doubtful)
       (pinnedOf (places 𝓓) columns (encodeOf member k m)) (changedOf (places 𝓓) columns (encodeOf member k m)) (marginFor 𝓓 k columns doubtful m)
+      (bit (markedOf member k columns m))
 
   pub report-shows : {columns : ℕ → List ℕ} → AreColumns 𝓓 columns → (k : ℕ) (doubtful m : List ℕ) → length doubtful ≤ mostDoubt
       → ShowsFor k columns doubtful m (reportFor 𝓓 k columns doubtful m)
@@ -239,10 +267,10 @@ module _ (𝓓 : Model) where
       amount-le (marginFor 𝓓 k columns doubtful m)
       (λ d q. margin-le member (openAt columns) (reachIn member k columns) k columns (testWords (places 𝓓) columns doubtful) a m q) in
       reads-back (totalOf (places 𝓓) columns word) (testsFor 𝓓 k columns doubtful) (pinnedOf (places 𝓓) columns word)
-      (changedOf (places 𝓓) columns word) (marginFor 𝓓 k columns doubtful m) (omega (arith, totals-fit, a m))
+      (changedOf (places 𝓓) columns word) (marginFor 𝓓 k columns doubtful m) (bit (markedOf member k columns m)) (omega (arith, totals-fit, a m))
       (test-count-fits columns doubtful few k .1)
       (omega (arith, counts-fit, pinned-le columns word (places 𝓓))) (omega (arith, counts-fit, changed-le columns word (places 𝓓)))
-      (omega (arith, totals-fit, e))
+      (omega (arith, totals-fit, e)) (omega (arith, bit-le (markedOf member k columns m)))
 
   -- ---- closing
 

@@ -4,32 +4,39 @@
 --   found-asked        the search may be asked where it found somebody
 --   tests-few          so at most 4,096 test words have a codeword within T, and their count fits two bytes
 --   answered-none      nobody found: refused with 12 where too many places are blank, and else with 9, the buffers as they were
---   answered-near      somebody near: the message, and the report with its total, the count, the pinned and changed places of its codeword, and the
---                      margin
+--   markable           a codeword may be asked for its mark
+--   answered-near      somebody near: the message, and the report with its total, the count, the pinned and changed places of its codeword, the
+--                      margin, and the mark
 --   decoded-near       the same from the steps of the code
 use mathlib.Core.Bool.{not, cond}
-use mathlib.Core.Path.{_≡_, sym, ap, ap₂, _∙_}
+use mathlib.Core.Path.{_≡_, sym, ap, ap₂, _∙_, subst}
 use mathlib.Core.List.{List}
 use mathlib.Core.Option.{Option·none-ne-some}
-use Prim.Native.Nat.{ℕ, _^_, _<_, _≤_}
+use Prim.Native.Nat.{ℕ, _-_, _^_, _<_, _≤_}
 use native.Mathlib.Decide.{decLe}
 use native.Mathlib.Omega.{arith}
 use lib.ListN.{length, take, length-take}
 use lib.Pow.{pow-mono}
 use borrow.Author.Tests.{le-leb, lt-leb}
 use Rattle.refusals.specs.Refusal.{accepted, noneNear, tooBlank}
-use Rattle.lists.specs.Count.{count}
+use Rattle.lists.specs.Count.{bit, count}
 use Rattle.lists.specs.Over.{over, over-same, over-short}
 use Rattle.soft.specs.Column.{places, symbols, columnOf}
 use Rattle.soft.specs.Blank.{openAt, flagsOf, flagAt}
+use Rattle.soft.specs.ColumnLaws.{column-length}
 use Rattle.soft.specs.BlankLaws.{flags-blanks}
 use Rattle.soft.specs.Doubt.{mostDoubt}
 use Rattle.soft.specs.TestWord.{testWords}
-use Rattle.soft.specs.Total.{pinnedOf, changedOf, reportOf}
+use Rattle.soft.specs.Total.{symbolAt, pinnedOf, changedOf, changedFlags, reportOf}
+use Rattle.soft.specs.TotalLaws.{changed-flags}
+use Rattle.soft.specs.Mark.{isMarked}
+use Rattle.near.specs.Cheapest as Cheapest
 use Rattle.totals.specs.declared.margin.Margin.{Margin}
 use Rattle.totals.specs.Margin.{marginIs}
+use Rattle.marks.specs.Low.{Markable}
 use Rattle.code.specs.Encoding.{encodeOf, mostRate}
-use Rattle.near.specs.Here.{blankLimit, blanksIn, reachIn, testsNear, messageCost}
+use Rattle.near.specs.Here.{mOf, blankLimit, blanksIn, reachIn, testsNear, messageCost, markedOf}
+use Rattle.near.specs.Codeword.{codeword-symbol}
 use Rattle.near.specs.Laws.{tests-tree}
 use Rattle.book.specs.Model.{modem64}
 use Rattle.book.specs.Closing.{refusedClosing}
@@ -59,6 +66,16 @@ module _ (rate : ℕ) (columns : ℕ → List ℕ) {limit blank : ℕ} {flags : 
   pub told-blank : limit < blank → tooBlank ≡ unansweredOf rate columns
   unfolding unansweredOf
   told-blank h = sym (ap (λ c. cond c noneNear tooBlank) (lt-leb (blanksIn columns) (blankLimit rate) (omega (arith, l, counted))))
+
+pub markable : (rate : ℕ) (costs m : List ℕ) {word flags : List ℕ} {far : ℕ} → word ≡ encodeOf rate m
+    → flags ≡ changedFlags places (columnOf symbols costs) word → far ≡ places - mOf rate → Markable (columnOf symbols costs) word flags far
+markable rate costs m w f d =
+    record {
+      wide = λ p l. column-length symbols costs p;
+      symbol = λ p l. subst (λ v. symbolAt v p < symbols) (sym w) (codeword-symbol m16 rate m p l);
+      changed = f;
+      few = omega (arith, d);
+    }
 
 module _ {rate : ℕ} {costs doubtful : List ℕ} {doubt : ℕ} (askable : Askable rate costs doubtful doubt) {f : Found}
     (call : NearestCall rate costs doubtful doubt f) where
@@ -104,7 +121,7 @@ module _ {rate : ℕ} {costs doubtful : List ℕ} {doubt : ℕ} (askable : Askab
     pub answered-near : (t : ℕ) (margin : Margin) → f .answer ≡ Near t margin
         → closed accepted (take rate (f .message))
         (reportOf 1 t (f .tests) (pinnedOf places columns (encodeOf rate (take rate (f .message))))
-        (changedOf places columns (encodeOf rate (take rate (f .message)))) (marginIs margin))
+        (changedOf places columns (encodeOf rate (take rate (f .message)))) (marginIs margin) (bit (markedOf rate columns (take rate (f .message)))))
         ≡ decodeOf rate columns list message report
     unfolding BookClosing.reportFor Near.messageCost
     answered-near t margin e =
@@ -114,20 +131,26 @@ module _ {rate : ℕ} {costs doubtful : List ℕ} {doubt : ℕ} (askable : Askab
         let found = nearest-somebody near t (total-near e) in
         let pinned = pinnedOf places columns (encodeOf rate m) in
         let changed = changedOf places columns (encodeOf rate m) in
-        ap₂ (λ total tests. closed accepted m (reportOf 1 total tests pinned changed (marginIs margin))) (found .1) (near .count)
-        ∙ ap (λ d. closed accepted m (reportOf 1 (messageCost rate columns m) (testsNear rate columns (testWords places columns list)) pinned changed d))
+        let mark = bit (markedOf rate columns m) in
+        ap₂ (λ total tests. closed accepted m (reportOf 1 total tests pinned changed (marginIs margin) mark)) (found .1) (near .count)
+        ∙ ap (λ d. closed accepted m (reportOf 1 (messageCost rate columns m) (testsNear rate columns (testWords places columns list)) pinned changed d mark))
         (nearest-margin near t margin e)
         ∙ sym (decode-some modem64 rate columns list message report (asked .few-blank) (found .0))
 
     -- the same, step by step as the code goes
-    pub decoded-near : {t pinned changed : ℕ} {margin : Margin} {message′ word bytes report′ : List ℕ} → f .answer ≡ Near t margin
+    pub decoded-near : {t pinned changed far mark : ℕ} {margin : Margin} {message′ word flags bytes report′ : List ℕ} → f .answer ≡ Near t margin
         → length message ≡ rate → length (f .message) ≡ mostRate → rate ≤ mostRate → message′ ≡ over (f .message) message
-        → word ≡ encodeOf rate (take rate (f .message)) → pinned ≡ pinnedOf places columns word → changed ≡ changedOf places columns word
-        → bytes ≡ reportOf 1 t (f .tests) pinned changed (marginIs margin) → length report ≡ length bytes → report′ ≡ over bytes report
+        → word ≡ encodeOf rate (take rate (f .message)) → pinned ≡ pinnedOf places columns word
+        → flags ≡ changedFlags places columns word → changed ≡ count places (flagAt flags) → far ≡ places - mOf rate
+        → mark ≡ bit (isMarked places far columns word)
+        → bytes ≡ reportOf 1 t (f .tests) pinned changed (marginIs margin) mark → length report ≡ length bytes → report′ ≡ over bytes report
         → closed accepted message′ report′ ≡ decodeOf rate columns list message report
-    decoded-near {t} {pinned} {changed} {margin} {message′} {word} {bytes} {report′} e long size small m w p q b whole r =
+    unfolding Cheapest.markedOf
+    decoded-near {t} {pinned} {changed} {far} {mark} {margin} {message′} {word} {flags} {bytes} {report′} e long size small m w p fl q d mk b whole r =
+        let c : changed ≡ changedOf places columns word = q ∙ ap (λ f. count places (flagAt f)) fl ∙ changed-flags places columns word in
         let a : message′ ≡ take rate (f .message) = m ∙ over-short (f .message) message (omega arith) ∙ ap (λ n. take n (f .message)) long in
         ap₂ (λ (x y : List ℕ). closed accepted x y) a
         (r ∙ over-same bytes report whole ∙ b
-        ∙ ap₂ (λ (x y : ℕ). reportOf 1 t (f .tests) x y (marginIs margin)) (p ∙ ap (pinnedOf places columns) w) (q ∙ ap (changedOf places columns) w))
+        ∙ ap₂ (λ (x y : ℕ). reportOf 1 t (f .tests) x y (marginIs margin) mark) (p ∙ ap (pinnedOf places columns) w) (c ∙ ap (changedOf places columns) w)
+        ∙ ap (reportOf 1 t (f .tests) _ _ (marginIs margin)) (mk ∙ ap₂ (λ n v. bit (isMarked places n columns v)) d w))
         ∙ answered-near t margin e

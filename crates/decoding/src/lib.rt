@@ -1,6 +1,7 @@
 // Decoding of a table of costs by a doubtful list: 'too many blank', 'none near', or the answer's message and its report.
 // It knows of no session and checks no argument; the search is `chase`'s, and nothing here knows how it goes.
 use candidate::rate::blank_limit;
+use candidate::rate::least_distance;
 use columns::blank::blanks;
 use columns::blank::open_places;
 use doubt::MOST_DOUBT;
@@ -52,8 +53,10 @@ pub fn decode(
     copy(&best, message);
     let word = found.codeword;
     let pinned = totals::total::pinned(costs, &word);
-    let changed = totals::total::changed(costs, &word);
-    let bytes = totals::report::report(total, found.tests as u16, pinned, changed, margin);
+    let flags = totals::total::changed_places(costs, &word);
+    let changed = totals::total::changed(flags);
+    let mark = marks::mark(costs, &word, flags, least_distance(rate));
+    let bytes = totals::report::report(total, found.tests as u16, pinned, changed, margin, mark);
     copy(&bytes, report);
     ACCEPTED
 }

@@ -8,3 +8,4 @@ pub mod Demand3
 pub mod Repaired
 pub mod Tabled
 pub mod Shown
+pub mod Marked

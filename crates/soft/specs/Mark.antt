@@ -9,6 +9,7 @@
 --   unchanged columns word p   place p is not changed: it is blank, or the word has the best symbol there
 --   slack n far columns word   the sum of the smallest far − c plain gaps over unchanged places, where c places are changed; 0 where that number
 --                          is not positive. A blank place is unchanged, and its gap is 0 as it stands (MarkLaws blank-gap)
+--   excessIn n counts columns word   what the word costs over the best costs at those of n places that count, place by place
 --   isMarked n far columns word   the word's total, minus the sum of all best costs, is at most the slack
 use mathlib.Core.Bool.{Bool, not, cond, _&&_}
 use mathlib.Core.List.{List}
@@ -17,7 +18,7 @@ use lib.Dec.{leb, ltb}
 use Rattle.lists.specs.Count.{sumOf}
 use Rattle.soft.specs.Column.{costOf, bestOf, gapOf}
 use Rattle.soft.specs.Doubt.{fewAhead}
-use Rattle.soft.specs.Total.{totalOf, changedAt, changedOf}
+use Rattle.soft.specs.Total.{costIn, totalOf, changedAt, changedOf}
 
 abbrev pub isBelow : (ℕ → Bool) → (ℕ → ℕ) → ℕ → ℕ → Bool
 isBelow counts gap t p = counts p && ltb (gap p) t
@@ -46,3 +47,6 @@ slack n far columns word = lowSum n (far - changedOf n columns word) (unchanged 
 
 unfoldable pub isMarked : ℕ → ℕ → (ℕ → List ℕ) → List ℕ → Bool
 isMarked n far columns word = leb (totalOf n columns word - bestTotal n columns) (slack n far columns word)
+
+unfoldable pub excessIn : ℕ → (ℕ → Bool) → (ℕ → List ℕ) → List ℕ → ℕ
+excessIn n counts columns word = sumIn n counts (λ p. costIn columns word p - bestCost columns p)

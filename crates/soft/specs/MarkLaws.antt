@@ -7,7 +7,9 @@
 --   lowSum-threshold       by any t that at most j gaps are below, and at least j are up to: the sum of those below, and t for each of the rest
 --   lowSum-ext, marked-ext   only the n places matter
 --   best-total             the best costs are what the word of best symbols costs; best-total-le: no word of symbols costs less
+--   excess-ext             of the excess only the n places matter; excess-total: a word of symbols costs over all best costs what its changed places do
 --   blank-gap              the plain gap of a blank column is 0
+--   unchanged-count        changed and unchanged places are all
 --   unchanged-blank        a blank place is unchanged; unchanged-cases: an unchanged place is blank, or the word has the best symbol there
 --   slack-none             the slack is 0 where no fewer than far places are changed
 --   marked-total, total-marked   a word is marked exactly if it costs at most all best costs and the slack
@@ -35,7 +37,7 @@ use Rattle.soft.specs.TestWordLaws.{bestWord-at}
 use Rattle.soft.specs.Total.{symbolAt, costIn, totalOf, changedAt, changedOf, agree, differAt, differingIn, differing}
 use Rattle.soft.specs.TotalLaws.{agree-true, changed-blank, totalOf-ext, changedOf-ext}
 use Rattle.soft.specs.Threshold.{belowOf}
-use Rattle.soft.specs.Mark.{isBelow, sumIn, lowSum, bestCost, bestTotal, plainGap, unchanged, slack, isMarked}
+use Rattle.soft.specs.Mark.{isBelow, sumIn, lowSum, bestCost, bestTotal, plainGap, unchanged, slack, isMarked, excessIn}
 
 -- ---- sums over the places that count
 
@@ -267,6 +269,58 @@ module _ (columns : ℕ → List ℕ) (word : List ℕ) (p : ℕ) where
       go true e s q u = inl e
       go false e true q u = inr (eqb-true (symbolAt word p) (bestAt columns p) q)
       go false e false q u = absurd u
+
+pub unchanged-count : (n : ℕ) (columns : ℕ → List ℕ) (word : List ℕ) → changedOf n columns word + count n (unchanged columns word) ≡ n
+unfolding changedOf
+unchanged-count zero columns word = omega (arith, count-nil (changedAt columns word), count-nil (unchanged columns word))
+unchanged-count (suc n) columns word =
+    omega (
+      arith,
+      unchanged-count n columns word,
+      count-suc n (changedAt columns word),
+      count-suc n (unchanged columns word),
+      either (changedAt columns word n),
+    )
+  where
+    either : (b : Bool) → bit b + bit (not b) ≡ 1
+    either true = refl
+    either false = refl
+
+-- ---- what a word costs over all best costs
+
+pub excess-ext : (n : ℕ) (c e : ℕ → Bool) (columns : ℕ → List ℕ) (word : List ℕ) → ((p : ℕ) → p < n → c p ≡ e p)
+    → excessIn n c columns word ≡ excessIn n e columns word
+unfolding excessIn sumIn
+excess-ext n c e columns word h = sumOf-ext n _ _ (λ p l. ap (λ b. cond b (costIn columns word p - bestCost columns p) 0) (h p l))
+
+module _ (n : ℕ) (columns : ℕ → List ℕ) (word : List ℕ) (two : (p : ℕ) → p < n → 1 < length (columns p))
+    (symbols : (p : ℕ) → p < n → symbolAt word p < length (columns p)) where
+  over-best : (p : ℕ) → p < n → (costIn columns word p - bestCost columns p) + bestCost columns p ≡ costIn columns word p
+  over-best p l = omega (arith, best-least (columns p) (two p l) (symbolAt word p) (symbols p l))
+
+  -- an unchanged place costs its best cost
+  nothing-over : (p : ℕ) → p < n → changedAt columns word p ≡ false → costIn columns word p - bestCost columns p ≡ 0
+  nothing-over p l e =
+      ⊎-elim
+      (λ b. omega (arith, blank-same (columns p) .0 b (symbolAt word p) (bestOf (columns p)) (symbols p l) (best-below (columns p) (two p l))))
+      (λ s. omega (arith, ap (costOf (columns p)) s))
+      (unchanged-cases columns word p (true-T (unchanged columns word p) (ap not e)))
+
+  pub excess-total : excessIn n (changedAt columns word) columns word ≡ totalOf n columns word - bestTotal n columns
+  unfolding excessIn sumIn totalOf bestTotal
+  excess-total =
+      omega (
+        arith,
+        sumOf-ext n (λ p. cond (changedAt columns word p) (costIn columns word p - bestCost columns p) 0) (λ p. costIn columns word p - bestCost columns p)
+            (λ p l. go p l (changedAt columns word p) refl),
+        sumOf-plus n (λ p. costIn columns word p - bestCost columns p) (bestCost columns),
+        sumOf-ext n (λ p. (costIn columns word p - bestCost columns p) + bestCost columns p) (costIn columns word) over-best,
+      )
+    where
+      go : (p : ℕ) → p < n → (b : Bool) → changedAt columns word p ≡ b
+          → cond b (costIn columns word p - bestCost columns p) 0 ≡ costIn columns word p - bestCost columns p
+      go p l true e = refl
+      go p l false e = sym (nothing-over p l e)
 
 -- ---- the mark
 

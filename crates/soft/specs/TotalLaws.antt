@@ -12,7 +12,8 @@
 --   blank-cost, blank-total   all symbols cost the same at a blank place; so the total is the sum over the other places, and what the blank ones add is
 --                          the same for every word of symbols
 --   changed-differing      the changed places are those, of those that are not blank, in which a word differs from the word of best symbols
---   bytesOf-length, marginBytes-length, reportOf-length   how many bytes a report has: 13 where each count of places is one byte
+--   bytesOf-length, marginBytes-length, reportOf-length   how many bytes a report has: 14 where each count of places is one byte
+--   changed-flag, changed-flags   the flags of changed places, and how many are 1
 use mathlib.Core.Bool.{Bool, true, false, not, cond, _&&_}
 use mathlib.Core.Path.{_≡_, refl, sym, ap, ap₂, _∙_, subst}
 use mathlib.Core.List.{List, [], _∷_, _++_}
@@ -27,11 +28,12 @@ use lib.ListN.{length, set, length-append, length-set}
 use lib.Seq.{ext-getD, getD-set-same, getD-set-other}
 use borrow.Author.Tests.{lt-ltb, eq-eqb, ne-eqb, not-false}
 use Rattle.lists.specs.Count.{bit, sumOf, sumOf-suc, sumOf-ext, sumOf-mono, sumOf-plus, sumOf-bound, count, count-nil, count-suc, count-ext, count-le, count-mono, count-none, count-zero, count-but}
+use Rattle.lists.specs.Listed.{listed-at}
 use Rattle.soft.specs.Column.{costOf, bestOf, ceiling, isBlank}
-use Rattle.soft.specs.Blank.{openAt}
+use Rattle.soft.specs.Blank.{openAt, flagAt}
 use Rattle.soft.specs.BlankLaws.{blank-same}
 use Rattle.soft.specs.TestWord.{bestAt, bestWord}
-use Rattle.soft.specs.Total.{symbolAt, costIn, totalOf, pinnedAt, pinnedOf, changedAt, changedOf, agree, differAt, everywhere, differingIn, differing, bytesOf, marginBytes, reportOf}
+use Rattle.soft.specs.Total.{symbolAt, costIn, totalOf, pinnedAt, pinnedOf, changedAt, changedOf, changedFlags, agree, differAt, everywhere, differingIn, differing, bytesOf, marginBytes, reportOf}
 use Rattle.soft.specs.TestWordLaws.{bestWord-length, bestWord-at}
 
 module _ (columns : ℕ → List ℕ) (word : List ℕ) where
@@ -308,19 +310,37 @@ unfolding marginBytes
 marginBytes-length none = omega (arith, length-append (bytesOf 1 0) (bytesOf 4 0), bytesOf-length 1 0, bytesOf-length 4 0)
 marginBytes-length (some d) = omega (arith, length-append (bytesOf 1 1) (bytesOf 4 d), bytesOf-length 1 1, bytesOf-length 4 d)
 
-pub reportOf-length : (wide total tests pinned changed : ℕ) (margin : Option ℕ)
-    → length (reportOf wide total tests pinned changed margin) ≡ 11 + wide + wide
+pub reportOf-length : (wide total tests pinned changed : ℕ) (margin : Option ℕ) (mark : ℕ)
+    → length (reportOf wide total tests pinned changed margin mark) ≡ 12 + wide + wide
 unfolding reportOf
-reportOf-length wide total tests pinned changed margin =
+reportOf-length wide total tests pinned changed margin mark =
     omega (
       arith,
-      length-append (bytesOf 4 total) (bytesOf 2 tests ++ (bytesOf wide pinned ++ (bytesOf wide changed ++ marginBytes margin))),
-      length-append (bytesOf 2 tests) (bytesOf wide pinned ++ (bytesOf wide changed ++ marginBytes margin)),
-      length-append (bytesOf wide pinned) (bytesOf wide changed ++ marginBytes margin),
-      length-append (bytesOf wide changed) (marginBytes margin),
+      length-append (bytesOf 4 total) (bytesOf 2 tests ++ (bytesOf wide pinned ++ (bytesOf wide changed ++ (marginBytes margin ++ bytesOf 1 mark)))),
+      length-append (bytesOf 2 tests) (bytesOf wide pinned ++ (bytesOf wide changed ++ (marginBytes margin ++ bytesOf 1 mark))),
+      length-append (bytesOf wide pinned) (bytesOf wide changed ++ (marginBytes margin ++ bytesOf 1 mark)),
+      length-append (bytesOf wide changed) (marginBytes margin ++ bytesOf 1 mark),
+      length-append (marginBytes margin) (bytesOf 1 mark),
       bytesOf-length 4 total,
       bytesOf-length 2 tests,
       bytesOf-length wide pinned,
       bytesOf-length wide changed,
       marginBytes-length margin,
+      bytesOf-length 1 mark,
     )
+
+-- ---- the flags of changed places
+
+module _ (n : ℕ) (columns : ℕ → List ℕ) (word : List ℕ) where
+  pub changed-flag : (p : ℕ) → p < n → flagAt (changedFlags n columns word) p ≡ changedAt columns word p
+  unfolding changedFlags
+  changed-flag p l =
+      ap (λ x. eqb x 1) (listed-at n p (λ q. bit (changedAt columns word q)) 0 l) ∙ bit-one (changedAt columns word p)
+    where
+      bit-one : (b : Bool) → eqb (bit b) 1 ≡ b
+      bit-one true = refl
+      bit-one false = refl
+
+  pub changed-flags : count n (flagAt (changedFlags n columns word)) ≡ changedOf n columns word
+  unfolding changedOf
+  changed-flags = count-ext n (flagAt (changedFlags n columns word)) (changedAt columns word) changed-flag

@@ -46,6 +46,6 @@ fn main() {
     let word = [0u8; 64];
     show(total::total(&table, &word) as u64);
     show(total::pinned(&table, &word) as u64);
-    show(total::changed(&table, &word) as u64);
+    show(total::changed(total::changed_places(&table, &word)) as u64);
     end_line();
 }

@@ -63,7 +63,7 @@ margin-shows report (some d) e f =
     ap (λ n. cond (eqb n 1) (numberLine (marginIn report) newline) (dash ∷ newline ∷ [])) e ∙ ap (λ n. numberLine n newline) f
 
 pub heading-shows : (rate d : ℕ) {report : List ℕ} {total tests pinned changed : ℕ} {margin : Option ℕ}
-    → Shows report total tests pinned changed margin
+    → {cheapest : ℕ} → Shows report total tests pinned changed margin cheapest
     → headingOf rate d report
     ≡ numberLine rate space ++ numberLine d space ++ numberLine total space ++ numberLine tests space ++ numberLine pinned space
     ++ numberLine changed space ++ marginText margin

@@ -7,7 +7,7 @@
 --   report-bytes           the bytes of a report
 use mathlib.Core.Bool.{Bool, true, false, not, _&&_}
 use mathlib.Core.Path.{_≡_, refl, sym, ap, ap₂, _∙_}
-use mathlib.Core.List.{List, [], _∷_}
+use mathlib.Core.List.{List, [], _∷_, _++_}
 use mathlib.Core.Option.{Option, none, some}
 use mathlib.Core.Logic.{_≢_}
 use Prim.Native.Nat.{ℕ, _*_, _/_, _%_, _<_, _≤_}
@@ -71,23 +71,25 @@ present-bytes {margin} {d} e h =
     cc
 
 -- they are five
-margin-five : (margin : Option ℕ)
-    → let b = marginBytes margin in getD b 0 0 ∷ getD b 1 0 ∷ getD b 2 0 ∷ getD b 3 0 ∷ getD b 4 0 ∷ [] ≡ b
+margin-five : (margin : Option ℕ) (behind : List ℕ)
+    → let b = marginBytes margin in getD b 0 0 ∷ getD b 1 0 ∷ getD b 2 0 ∷ getD b 3 0 ∷ getD b 4 0 ∷ behind ≡ b ++ behind
 unfolding marginBytes bytesOf
-margin-five none = refl
-margin-five (some d) = refl
+margin-five none behind = refl
+margin-five (some d) behind = refl
 
 -- the bytes of a report, each as the code divides it out of numbers that fit
-pub report-bytes : (total tests pinned changed : ℕ) (margin : Option ℕ) {b : List ℕ} → b ≡ marginBytes margin
-    → total < 4294967296 → tests < 65536 → pinned < 256 → changed < 256
-    → total / 16777216 ∷ total / 65536 % 256 ∷ total / 256 % 256 ∷ total % 256 ∷ tests / 256 ∷ tests % 256 ∷ pinned ∷ changed ∷ getD b 0 0 ∷ getD b 1 0 ∷ getD b 2 0 ∷ getD b 3 0 ∷ getD b 4 0 ∷ []
-    ≡ reportOf 1 total tests pinned changed margin
+pub report-bytes : (total tests pinned changed : ℕ) (margin : Option ℕ) (mark : ℕ) {b : List ℕ} → b ≡ marginBytes margin
+    → total < 4294967296 → tests < 65536 → pinned < 256 → changed < 256 → mark < 256
+    → total / 16777216 ∷ total / 65536 % 256 ∷ total / 256 % 256 ∷ total % 256 ∷ tests / 256 ∷ tests % 256 ∷ pinned ∷ changed ∷ getD b 0 0 ∷ getD b 1 0 ∷ getD b 2 0 ∷ getD b 3 0 ∷ getD b 4 0 ∷ mark ∷ []
+    ≡ reportOf 1 total tests pinned changed margin mark
 unfolding reportOf bytesOf
-report-bytes total tests pinned changed margin {b} r ht hs hp hc =
+report-bytes total tests pinned changed margin mark {b} r ht hs hp hc hm =
     let e0 : total / 16777216 ≡ total / 256 / 256 / 256 % 256 = omega arith in
     let e1 : total / 65536 % 256 ≡ total / 256 / 256 % 256 = omega arith in
     let e4 : tests / 256 ≡ tests / 256 % 256 = omega arith in
     let e6 : pinned ≡ pinned % 256 = omega arith in
     let e7 : changed ≡ changed % 256 = omega arith in
-    let f = margin-five margin in
+    let e8 : mark ≡ mark % 256 = omega arith in
+    let f : getD b 0 0 ∷ getD b 1 0 ∷ getD b 2 0 ∷ getD b 3 0 ∷ getD b 4 0 ∷ mark % 256 ∷ [] ≡ marginBytes margin ++ (mark % 256 ∷ []) =
+    ap (λ l. getD l 0 0 ∷ getD l 1 0 ∷ getD l 2 0 ∷ getD l 3 0 ∷ getD l 4 0 ∷ mark % 256 ∷ []) r ∙ margin-five margin (mark % 256 ∷ []) in
     cc

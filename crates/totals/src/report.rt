@@ -1,10 +1,10 @@
-// The report's thirteen bytes.
+// The report's fourteen bytes.
 use crate::margin::Margin;
 ghost use mathlib.Core.Path.{_≡_};
 ghost use Rattle.soft.specs.Total.{marginBytes, reportOf};
 ghost use Rattle.totals.specs.Margin.{marginIs};
 
-pub const REPORT_BYTES: usize = 13;
+pub const REPORT_BYTES: usize = 14;
 
 // A byte of 1 and the margin, or zeros where it is absent: zero is a margin too.
 fn margin_bytes(margin: Margin) -> [u8; 5]
@@ -22,8 +22,15 @@ fn margin_bytes(margin: Margin) -> [u8; 5]
     ]
 }
 
-pub fn report(total: u32, tests: u16, pinned: u8, changed: u8, margin: Margin) -> [u8; REPORT_BYTES]
-    ensures { λ r. ⌜ r ≡ reportOf 1 total tests pinned changed (marginIs margin) ⌝ }
+pub fn report(
+    total: u32,
+    tests: u16,
+    pinned: u8,
+    changed: u8,
+    margin: Margin,
+    mark: u8,
+) -> [u8; REPORT_BYTES]
+    ensures { λ r. ⌜ r ≡ reportOf 1 total tests pinned changed (marginIs margin) mark ⌝ }
 {
     let runner_up = margin_bytes(margin);
     [
@@ -40,5 +47,6 @@ pub fn report(total: u32, tests: u16, pinned: u8, changed: u8, margin: Margin) -
         runner_up[2],
         runner_up[3],
         runner_up[4],
+        mark,
     ]
 }

@@ -11,7 +11,8 @@ ghost use mathlib.Core.Path.{_≡_};
 ghost use Prim.Native.Nat.{_<_};
 ghost use Rattle.soft.specs.Column.{places, symbols, columnOf};
 ghost use Rattle.soft.specs.Blank.{flagAt};
-ghost use Rattle.soft.specs.Total.{totalOf, pinnedOf, changedAt, changedOf, agree, differingIn};
+ghost use Rattle.lists.specs.Count.{count};
+ghost use Rattle.soft.specs.Total.{totalOf, pinnedOf, changedAt, changedFlags, agree, differingIn};
 
 // A cost at the ceiling is summed as it stands.
 pub fn total(costs: &[u16], word: &[u8]) -> u32
@@ -44,12 +45,24 @@ fn is_changed(costs: &[u16], word: &[u8], place: usize) -> bool
     is_open(costs, place)
 }
 
-pub fn changed(costs: &[u16], word: &[u8]) -> u8
-    ensures { λ r. ⌜ r ≡ changedOf places (columnOf symbols (now (costs .entry))) (now (word .entry)) ⌝ }
+// A flag for each place: 1 where it is changed.
+pub fn changed_places(costs: &[u16], word: &[u8]) -> [u8; PLACES]
+    ensures { λ r. ⌜ r ≡ changedFlags places (columnOf symbols (now (costs .entry))) (now (word .entry)) ⌝ }
+{
+    let mut out = [0u8; PLACES];
+    for place in 0..PLACES {
+        out[place] = bit(is_changed(costs, word, place)) as u8;
+    }
+    out
+}
+
+// How many places are changed, by their flags.
+pub fn changed(flags: [u8; PLACES]) -> u8
+    ensures { λ r. ⌜ r ≡ count places (flagAt flags) ⌝ }
 {
     let mut n = 0u16;
     for place in 0..PLACES {
-        n += bit(is_changed(costs, word, place));
+        n += bit(flags[place] == 1);
     }
     n as u8
 }

@@ -5,10 +5,10 @@ use Rattle.bench_sheet.proofs.show_report.Statement.{statement}
 use Rattle.bench_sheet.proofs.show_report.Tie as tie
 
 abbrev Inv-loop : tie.InvT-loop
-Inv-loop report i₀ i = i ≤ 13
+Inv-loop report i₀ i = i ≤ 14
 
 abbrev μ-loop : tie.MeasureT-loop
-μ-loop report i₀ i = 13 - i
+μ-loop report i₀ i = 14 - i
 
 loop-holds : tie.Need-loop-holds Inv-loop μ-loop
 loop-holds c = search needs

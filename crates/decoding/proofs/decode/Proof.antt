@@ -2,12 +2,13 @@
 use mathlib.Core.Path.{_≡_, sym, _∙_}
 use native.Mathlib.Omega.{arith}
 use lib.ListN.{length}
+use Rattle.soft.specs.Column.{places}
 use Rattle.code.specs.Encoding.{mostRate}
 use Rattle.code.specs.Rates.{known-bounds}
 use Rattle.book.specs.Here.{reportLength}
 use Rattle.answers.specs.Result.{total-near}
 use Rattle.chase.specs.Laws.{nearest-call}
-use Rattle.decoding.proofs.Answered.{tests-few, answered-none, decoded-near}
+use Rattle.decoding.proofs.Answered.{markable, tests-few, answered-none, decoded-near}
 use borrow.Author.Needs.{needs}
 use Rattle.decoding.proofs.decode.Statement.{statement}
 use Rattle.decoding.proofs.decode.Tie as tie
@@ -15,6 +16,10 @@ use Rattle.decoding.proofs.decode.Tie as tie
 -- the message that was found has room for every rate
 found-room : (c : tie.After-nearest) → length (c .nearest .result .message) ≡ mostRate
 found-room c = search needs
+
+-- the codeword is one of all places
+word-room : (c : tie.After-nearest) → length (c .nearest .result .codeword) ≡ places
+word-room c = search needs
 
 -- and the report has its length
 report-room : (c : tie.After-report) → length (c .report .result) ≡ reportLength
@@ -49,18 +54,31 @@ slice-aggregate-pinned c = search needs
 pinned-requires : tie.Need-pinned-requires
 pinned-requires c κs = search needs
 
-slice-aggregate-changed : tie.Need-slice-aggregate-changed
-slice-aggregate-changed c = search needs
+slice-aggregate-changed-places : tie.Need-slice-aggregate-changed-places
+slice-aggregate-changed-places c = search needs
+
+changed-places-requires : tie.Need-changed-places-requires
+changed-places-requires c κs = search needs
 
 changed-requires : tie.Need-changed-requires
 changed-requires c κs = search needs
 
+slice-aggregate-mark : tie.Need-slice-aggregate-mark
+slice-aggregate-mark c = sym (word-room (c .before .before .before .before .before .before .before .before .before .before .before .before .before .before .before .before))
+
+least-distance-requires : tie.Need-least-distance-requires
+least-distance-requires c κs =
+    let b = known-bounds _ (c .before .before .before .before .before .before .before .before .before .before .before .before .before .before .before .before .before .before .before .before .pre .askable .known) in
+    record { least = omega (arith, b); most = omega (arith, b) }
+
+mark-requires : tie.Need-mark-requires
+mark-requires c κs =
+    let near = nearest-call _ _ _ _ _ (c .before .before .before .before .before .before .before .before .before .before .before .before .before .before .before .before .before .nearest .ensures) in
+    markable _ _ _ (near .encoded _ (total-near (c .before .before .before .before .before .before .before .before .before .before .before .before .before .before .before .answer .given .1))) (c .before .before .before .changed-places .ensures) (c .least-distance .ensures)
+
 cast-report : tie.Need-cast-report
 cast-report c =
-    omega (
-      arith,
-      tests-few (c .before .before .before .before .before .before .before .before .before .before .before .before .before .before .before .before .before .before .before .pre .askable) (nearest-call _ _ _ _ _ (c .before .before .before .before .before .before .before .before .before .before .before .before .before .before .before .nearest .ensures)) _ _ (c .before .before .before .before .before .before .before .before .before .before .before .before .before .answer .given .1),
-    )
+    omega (arith, tests-few (c .before .before .before .before .before .before .before .before .before .before .before .before .before .before .before .before .before .before .before .before .before .before .before .pre .askable) (nearest-call _ _ _ _ _ (c .before .before .before .before .before .before .before .before .before .before .before .before .before .before .before .before .before .before .before .nearest .ensures)) _ _ (c .before .before .before .before .before .before .before .before .before .before .before .before .before .before .before .before .before .answer .given .1))
 
 report-requires : tie.Need-report-requires
 report-requires c κs = search needs
@@ -79,11 +97,11 @@ same-length-2 c = search needs
 
 returns-2 : tie.Need-returns-2
 returns-2 c =
-    let given = c .before .before .before .before .before .before .before .before .before .before .before .before .before .before .before .before .before .before .before .before .before .before .before .before .before .pre in
-    let near = nearest-call _ _ _ _ _ (c .before .before .before .before .before .before .before .before .before .before .before .before .before .before .before .before .before .before .before .before .before .nearest .ensures) in
-    let answer = c .before .before .before .before .before .before .before .before .before .before .before .before .before .before .before .before .before .before .before .answer .given .1 in
-    decoded-near (given .askable) near _ _ answer (given .message-long) (found-room (c .before .before .before .before .before .before .before .before .before .before .before .before .before .before .before .before .before .before .before .before .before)) (known-bounds _ (given .askable .known) .1)
-    (c .before .before .before .before .before .before .before .before .before .before .before .before .before .before .copy .ensures) (near .encoded _ (total-near answer)) (c .before .before .before .before .before .before .before .before .before .pinned .ensures) (c .before .before .before .before .before .before .before .changed .ensures) (c .before .before .before .before .before .report .ensures)
+    let given = c .before .before .before .before .before .before .before .before .before .before .before .before .before .before .before .before .before .before .before .before .before .before .before .before .before .before .before .before .before .pre in
+    let near = nearest-call _ _ _ _ _ (c .before .before .before .before .before .before .before .before .before .before .before .before .before .before .before .before .before .before .before .before .before .before .before .before .before .nearest .ensures) in
+    let answer = c .before .before .before .before .before .before .before .before .before .before .before .before .before .before .before .before .before .before .before .before .before .before .before .answer .given .1 in
+    decoded-near (given .askable) near _ _ answer (given .message-long) (found-room (c .before .before .before .before .before .before .before .before .before .before .before .before .before .before .before .before .before .before .before .before .before .before .before .before .before)) (known-bounds _ (given .askable .known) .1)
+    (c .before .before .before .before .before .before .before .before .before .before .before .before .before .before .before .before .before .before .copy .ensures) (near .encoded _ (total-near answer)) (c .before .before .before .before .before .before .before .before .before .before .before .before .before .pinned .ensures) (c .before .before .before .before .before .before .before .before .before .before .before .changed-places .ensures) (c .before .before .before .before .before .before .before .before .before .before .changed .ensures) (c .before .before .before .before .before .before .before .before .least-distance .ensures) (c .before .before .before .before .before .before .before .mark .ensures) (c .before .before .before .before .before .report .ensures)
     (given .report-long ∙ sym (report-room (c .before .before .before .before .before))) (c .before .before .copy2 .ensures)
 
 pub decode-spec : {M : Type 1} → statement M
@@ -99,8 +117,12 @@ decode-spec =
     copy-requires
     slice-aggregate-pinned
     pinned-requires
-    slice-aggregate-changed
+    slice-aggregate-changed-places
+    changed-places-requires
     changed-requires
+    slice-aggregate-mark
+    least-distance-requires
+    mark-requires
     cast-report
     report-requires
     slice-aggregate-copy-2

@@ -1,0 +1,59 @@
+-- The four ends.
+use borrow.Author.Needs.{needs}
+use native.Mathlib.Omega.{arith}
+use Rattle.marks.proofs.Marking.{enough-above, few-left, marked-clean, marked-none, marked-far, marked-near}
+use Rattle.marks.proofs.mark.Statement.{statement}
+use Rattle.marks.proofs.mark.Tie as tie
+
+excess-requires : tie.Need-excess-requires
+excess-requires c κs = search needs
+
+returns : tie.Need-returns
+returns c = marked-clean (c .before .before .before .before .pre) (c .before .excess .ensures) (c .if1 .taken)
+
+changed-requires : tie.Need-changed-requires
+changed-requires c κs = search needs
+
+cast-count : tie.Need-cast-count
+cast-count c = search needs
+
+returns-2 : tie.Need-returns-2
+returns-2 c =
+    marked-none (c .before .before .before .before .before .before .pre) (c .before .before .before .excess .ensures) (c .before .changed .ensures)
+    (c .before .before .if1 .left) (c .if2 .taken)
+
+gaps-requires : tie.Need-gaps-requires
+gaps-requires c κs = search needs
+
+sub-low-sum : tie.Need-sub-low-sum
+sub-low-sum c = search needs
+
+low-sum-requires : tie.Need-low-sum-requires
+low-sum-requires c κs =
+    let M = c .before .before .before .before .before .before .before .pre in
+    (omega (arith, M .few), omega (arith, few-left M (c .before .before .changed .ensures), enough-above _ _ _ _ (c .gaps .ensures) (M .changed)))
+
+returns-3 : tie.Need-returns-3
+returns-3 c =
+    marked-far (c .before .before .before .before .before .before .before .before .before .pre) (c .before .before .before .before .before .before .excess .ensures)
+    (c .before .before .before .before .changed .ensures) (c .before .before .gaps .ensures) (c .before .low-sum .ensures) (c .if3 .taken)
+
+returns-4 : tie.Need-returns-4
+returns-4 c =
+    marked-near (c .before .before .before .before .before .before .before .before .before .pre) (c .before .before .before .before .before .before .excess .ensures)
+    (c .before .before .before .before .changed .ensures) (c .before .before .gaps .ensures) (c .before .low-sum .ensures) (c .if3 .left)
+
+pub mark-spec : {M : Type 1} → statement M
+mark-spec =
+    tie.close
+    (tie.spec
+    excess-requires
+    returns
+    changed-requires
+    cast-count
+    returns-2
+    gaps-requires
+    sub-low-sum
+    low-sum-requires
+    returns-3
+    returns-4)

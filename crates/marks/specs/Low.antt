@@ -1,0 +1,57 @@
+-- The sum of the smallest gaps as it is computed: changed places have a gap above all, and a threshold parts the others.
+--
+--   above                65,536: above all gaps
+--   GapAt columns p flag g   g is the plain gap at place p, or above all where the flag is 1; Gaps: so has each entry of an array
+--   belowBy n t gaps, sumBelow n t gaps   how many of the first n entries are below t, and their sum
+--   Splits gaps few t    at most so few entries are below t, and at least so few are up to t
+--   LowSum gaps few r    r is the sum of the entries below such a t, and t for the rest of so few
+--   Markable columns word flags far   the word has a symbol of its column at each place, the flags are those of its changed places, and `far` is at most
+--                        the number of places
+use mathlib.Core.Bool.{false, cond}
+use mathlib.Core.Path.{_≡_}
+use mathlib.Core.List.{List}
+use Prim.Native.Nat.{ℕ, suc, _+_, _-_, _*_, _<_, _≤_}
+use lib.Dec.{eqb, ltb}
+use lib.ListN.{length, getD}
+use Rattle.lists.specs.Count.{count}
+use Rattle.lists.specs.Listed.{listed}
+use Rattle.soft.specs.Column.{ceiling, places, symbols, gapOf}
+use Rattle.soft.specs.Blank.{flagAt}
+use Rattle.soft.specs.Total.{symbolAt, changedFlags}
+use Rattle.soft.specs.Mark.{sumIn}
+
+abbrev pub above : ℕ
+above = suc ceiling
+
+pub record GapAt (columns : ℕ → List ℕ) (p flag g : ℕ) : Type 0 where
+  pub is : g ≡ cond (eqb flag 1) above (gapOf (columns p))
+  pub small : eqb flag 1 ≡ false → gapOf (columns p) < above
+
+unfoldable pub gapsOf : ℕ → (ℕ → List ℕ) → List ℕ → List ℕ
+gapsOf n columns flags = listed n (λ p. cond (flagAt flags p) above (gapOf (columns p)))
+
+pub record Gaps (columns : ℕ → List ℕ) (flags gaps : List ℕ) : Type 0 where
+  pub is : gaps ≡ gapsOf places columns flags
+  pub small : (p : ℕ) → p < places → flagAt flags p ≡ false → gapOf (columns p) < above
+
+unfoldable pub belowBy : ℕ → ℕ → List ℕ → ℕ
+belowBy n t gaps = count n (λ p. ltb (getD gaps p 0) t)
+
+unfoldable pub sumBelow : ℕ → ℕ → List ℕ → ℕ
+sumBelow n t gaps = sumIn n (λ p. ltb (getD gaps p 0) t) (λ p. getD gaps p 0)
+
+pub record Splits (gaps : List ℕ) (few t : ℕ) : Type 0 where
+  pub within : t < above
+  pub at-most : belowBy places t gaps ≤ few
+  pub at-least : few ≤ belowBy places (suc t) gaps
+
+pub record LowSum (gaps : List ℕ) (few r : ℕ) : Type 0 where
+  pub t : ℕ
+  pub splits : Splits gaps few t
+  pub is : r ≡ sumBelow places t gaps + (few - belowBy places t gaps) * t
+
+pub record Markable (columns : ℕ → List ℕ) (word flags : List ℕ) (far : ℕ) : Type 0 where
+  pub wide : (p : ℕ) → p < places → length (columns p) ≡ symbols
+  pub symbol : (p : ℕ) → p < places → symbolAt word p < symbols
+  pub changed : flags ≡ changedFlags places columns word
+  pub few : far ≤ places

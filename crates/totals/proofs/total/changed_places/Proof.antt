@@ -1,0 +1,69 @@
+-- The flags of the places passed are stored, the rest is as it was.
+use mathlib.Core.Path.{_≡_, ap, _∙_}
+use mathlib.Core.List.{_++_}
+use Prim.Native.Nat.{_≤_, _-_}
+use native.Mathlib.Omega.{arith}
+use lib.ListN.{drop}
+use borrow.Author.Needs.{needs}
+use Rattle.lists.specs.Count.{bit}
+use Rattle.lists.specs.Listed.{listed, listed-start, listed-store, listed-end}
+use Rattle.soft.specs.Column.{columnOf}
+use Rattle.soft.specs.Total.{changedAt, changedFlags}
+use Rattle.totals.proofs.total.changed_places.Statement.{statement}
+use Rattle.totals.proofs.total.changed_places.Tie as tie
+
+abbrev Inv-loop : tie.InvT-loop
+Inv-loop costs word out₀ place₀ out place =
+    (place ≤ 64) × (out ≡ listed place (λ p. bit (changedAt (columnOf 16 costs) word p)) ++ drop place out₀)
+
+abbrev μ-loop : tie.MeasureT-loop
+μ-loop costs word out₀ place₀ out place = 64 - place
+
+loop-holds : tie.Need-loop-holds Inv-loop μ-loop
+loop-holds c = (omega arith, listed-start _ _)
+
+is-changed-requires : tie.Need-is-changed-requires Inv-loop μ-loop
+is-changed-requires c κs = search needs
+
+bit-requires : tie.Need-bit-requires Inv-loop μ-loop
+bit-requires c κs = search needs
+
+cast-out : tie.Need-cast-out Inv-loop μ-loop
+cast-out c = search needs
+
+array-write-out : tie.Need-array-write-out Inv-loop μ-loop
+array-write-out c = search needs
+
+add-place : tie.Need-add-place Inv-loop μ-loop
+add-place c = search needs
+
+loop-less : tie.Need-loop-less Inv-loop μ-loop
+loop-less c = search needs
+
+loop-again : tie.Need-loop-again Inv-loop μ-loop
+loop-again c = (
+  omega arith,
+  listed-store 0 _ _ _ _ _ (omega arith) (c .bit .ensures .0 ∙ ap bit (c .before .is-changed .ensures)) (c .before .before .before .loop .inv .1),
+)
+
+returns : tie.Need-returns Inv-loop μ-loop
+unfolding changedFlags
+returns c =
+    let e : c .before .loop .place ≡ 64 = omega arith in
+    rw e at (listed-end _ _ _ _ (omega arith) (c .before .loop .inv .1))
+
+pub changed-places-spec : {M : Type 1} → statement M
+changed-places-spec =
+    tie.close
+    (tie.spec
+    Inv-loop
+    μ-loop
+    loop-holds
+    is-changed-requires
+    bit-requires
+    cast-out
+    array-write-out
+    add-place
+    loop-less
+    loop-again
+    returns)
