@@ -237,7 +237,13 @@ mod tests {
             let values = vec![0; size];
             assert_eq!(decoded(39, &values, 13, right), Err(Refusal::Size));
         }
-        for sizes in [[38, REPORT_BYTES], [49, REPORT_BYTES], [39, 8], [39, 14]] {
+        for sizes in [
+            [38, REPORT_BYTES],
+            [49, REPORT_BYTES],
+            [39, 8],
+            [39, 13],
+            [39, 15],
+        ] {
             assert_eq!(decoded(39, &values, 13, sizes), Err(Refusal::Size));
         }
         for doubt in [13, 256, u64::MAX] {

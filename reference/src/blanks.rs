@@ -309,6 +309,7 @@ impl fmt::Display for Blanks {
 mod tests {
     use super::*;
     use crate::call_lists::READING;
+    use crate::decode::REPORT_BYTES;
     use crate::frames::{faded, frame_s};
     use crate::random::Random;
 
@@ -395,7 +396,7 @@ mod tests {
         };
         let closing = Call::Close {
             message: 49,
-            report: 13,
+            report: REPORT_BYTES as u16,
         };
         let calls = [open(&[1]), deliver(1, 5), READING, deliver(2, 5)];
         for call in calls {

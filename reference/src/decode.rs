@@ -1,6 +1,7 @@
 //! The tree of test words, each of them tried, and table decoding.
 //!
-//! - [`Answer`]: the message, and the five numbers of the report; [`margin_of`] reads the last.
+//! - [`Answer`]: the message, and what the report holds; [`margin_of`] and [`mark_of`] read its last
+//!   bytes.
 //! - [`test_words`]: all test words of columns and a doubtful list.
 //! - [`near_codewords`]: all near codewords with their totals; [`decode`]: the one of least total.
 //! - [`decode_table`]: document 01's call, with its checks; [`decode_table_by`]: with doubtful places
@@ -9,6 +10,7 @@
 
 use crate::code::{check_size, Code};
 use crate::curve::PLACES;
+use crate::mark::Standing;
 use crate::nearest::{Finder, Near};
 use crate::refusal::Refusal;
 use crate::row::Row;
@@ -17,8 +19,12 @@ use crate::soft::{self, doubtful_below, doubtful_places, Columns, COLUMN_BYTES, 
 /// "Table of 2,048 bytes, place 0 first."
 pub const TABLE_BYTES: usize = PLACES * COLUMN_BYTES;
 
-/// "The report grows to 13 bytes."
-pub const REPORT_BYTES: usize = 13;
+/// "The report grows to 13 bytes", and "the mark is a last report byte".
+pub const REPORT_BYTES: usize = 14;
+
+/// Where the margin stands in a report, and the mark.
+pub(crate) const MARGIN_BYTES: std::ops::Range<usize> = 9..13;
+pub(crate) const MARK_BYTE: usize = 13;
 
 /// The answer to a frame.
 #[derive(Clone, Debug, PartialEq, Eq)]
@@ -32,12 +38,14 @@ pub struct Answer {
     /// "The least total among near codewords other than the answer, minus the answer's total";
     /// none if no other codeword is near.
     pub margin: Option<u32>,
+    /// Whether it is known that no codeword at all costs less.
+    pub marked: bool,
 }
 
 impl Answer {
     /// "High byte first: total (4), test words with a codeword within T (2), pinned places (1),
     /// changed places (1)." "Byte 8 is 1 or 0 for present, bytes 9 to 12 the margin, zero where
-    /// absent."
+    /// absent." The mark is "1 or 0".
     pub fn report(&self) -> [u8; REPORT_BYTES] {
         let total = self.total.to_be_bytes();
         let tests = self.tests.to_be_bytes();
@@ -48,8 +56,9 @@ impl Answer {
         report[7] = self.changed;
         if let Some(margin) = self.margin {
             report[8] = 1;
-            report[9..13].copy_from_slice(&margin.to_be_bytes());
+            report[MARGIN_BYTES].copy_from_slice(&margin.to_be_bytes());
         }
+        report[MARK_BYTE] = u8::from(self.marked);
         report
     }
 }
@@ -59,6 +68,12 @@ pub fn margin_of(report: &[u8]) -> Option<u32> {
     assert_eq!(report.len(), REPORT_BYTES);
     let margin = u32::from_be_bytes([report[9], report[10], report[11], report[12]]);
     (report[8] == 1).then_some(margin)
+}
+
+/// Whether a report has the mark.
+pub fn mark_of(report: &[u8]) -> bool {
+    assert_eq!(report.len(), REPORT_BYTES);
+    report[MARK_BYTE] == 1
 }
 
 /// "Each doubtful place, lowest first, doubles them, once with its best and once with its second
@@ -119,6 +134,7 @@ pub fn decode(finder: &Finder, columns: &Columns, doubtful: &[u8]) -> Result<Ans
         pinned: soft::pinned(columns, &codeword),
         changed: soft::changed(columns, &codeword),
         margin: ranking.get(1).map(|(runner_up, _)| runner_up - total),
+        marked: Standing::of(finder.code(), columns, &codeword).is_marked(),
     })
 }
 
@@ -372,10 +388,10 @@ mod tests {
         }
     }
 
-    /// Zero is a margin, and not the same as none.
+    /// Zero is a margin, and not the same as none. The mark comes last.
     #[test]
-    fn reports_hold_the_margin_high_byte_first() {
-        let report = |margin| {
+    fn reports_hold_the_margin_high_byte_first_and_the_mark() {
+        let report = |margin, marked| {
             let answer = Answer {
                 message: Vec::new(),
                 total: 0x00a1_a2a3,
@@ -383,9 +399,11 @@ mod tests {
                 pinned: 3,
                 changed: 4,
                 margin,
+                marked,
             };
-            assert_eq!(margin_of(&answer.report()), margin);
-            answer.report()
+            let report = answer.report();
+            assert_eq!((margin_of(&report), mark_of(&report)), (margin, marked));
+            report
         };
         let before = [0, 0xa1, 0xa2, 0xa3, 1, 2, 3, 4];
         for (margin, bytes) in [
@@ -393,8 +411,12 @@ mod tests {
             (Some(0), [1, 0, 0, 0, 0]),
             (Some(0x000b_0c0d), [1, 0, 0x0b, 0x0c, 0x0d]),
         ] {
-            assert_eq!(report(margin)[..8], before);
-            assert_eq!(report(margin)[8..], bytes);
+            for marked in [false, true] {
+                let report = report(margin, marked);
+                assert_eq!(report[..8], before);
+                assert_eq!(report[8..13], bytes);
+                assert_eq!(report[13..], [u8::from(marked)]);
+            }
         }
     }
 }

@@ -9,6 +9,7 @@
 //! - each test word is decoded by itself, with an error locator and checks from which blank places
 //!   are eliminated, and of a tree of 4,096 the first one's syndromes serve all ([`nearest`]); answer and
 //!   margin are the first two totals of all codewords found ([`decode`]);
+//! - the mark sorts the gaps of the unchanged places and sums them from the front ([`mark`]);
 //! - doubtful places by threshold and maximum are taken from the front of the places sorted by gap, one
 //!   after the other ([`soft`]);
 //! - a column from bit values is what is left of their magnitudes where signs agree, from a table of
@@ -28,10 +29,10 @@
 //!     column[if place == 7 { 3 } else { 0 }] = 0;
 //!     session.deliver(place, column).unwrap();
 //! }
-//! let (mut message, mut report) = ([99; 39], [99; 13]);
+//! let (mut message, mut report) = ([99; 39], [99; 14]);
 //! session.close(&mut message, &mut report).unwrap();
 //! assert_eq!(message, [0; 39]);
-//! assert_eq!(report, [0, 0, 0, 40, 0, 1, 0, 1, 0, 0, 0, 0, 0]);
+//! assert_eq!(report, [0, 0, 0, 40, 0, 1, 0, 1, 0, 0, 0, 0, 0, 1]);
 //! ```
 //!
 //! # Comparing
@@ -101,6 +102,7 @@ pub mod least;
 pub mod light;
 pub mod linear;
 pub mod margins;
+pub mod mark;
 pub mod measured;
 pub mod nearest;
 pub mod pairs;

@@ -107,6 +107,11 @@ impl<'a> Finder<'a> {
         Ok(finder.get_or_init(|| Finder::new(code)))
     }
 
+    /// The code whose codewords are found.
+    pub fn code(&self) -> &Code {
+        self.code
+    }
+
     /// All places but the blank ones; none where there is no T with so many blank.
     pub fn unblanked(&self, blank: &[u8]) -> Option<Unblanked<'_>> {
         let reach = self.code.reach_with(blank.len())?;

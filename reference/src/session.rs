@@ -251,7 +251,7 @@ mod tests {
         for _ in 0..2 {
             assert_eq!(session.close(&mut message[1..], &mut report[1..]), Ok(()));
             assert_eq!(message[1..], [0; 39]);
-            assert_eq!(report[1..], [0, 0, 0, 0, 0, 1, 0, 0, 0, 0, 0, 0, 0]);
+            assert_eq!(report[1..], [0, 0, 0, 0, 0, 1, 0, 0, 0, 0, 0, 0, 0, 1]);
         }
         assert_eq!(session, before);
     }

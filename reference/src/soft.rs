@@ -6,7 +6,8 @@
 //! - [`is_blank`], [`blank_places`]: columns that say nothing.
 //! - [`doubtful_places`]: the places that table decoding doubles; [`smallest`]: by any gap;
 //!   [`doubtful_below`]: by threshold and maximum.
-//! - [`total`], [`pinned`], [`changed`]: what a codeword costs, and the counts of the report.
+//! - [`total`], [`pinned`], [`changed`]: what a codeword costs, and the counts of the report;
+//!   [`is_changed`]: one place of the last.
 
 use crate::curve::PLACES;
 use crate::field::SYMBOLS;
@@ -145,11 +146,15 @@ pub fn pinned(columns: &Columns, word: &[u8; PLACES]) -> u8 {
     costs(columns, word).filter(|cost| *cost == CEILING).count() as u8
 }
 
-/// "Changed places, where the answer is not the best symbol." A blank place "never counts as
-/// differing or changed".
+/// "Changed places, where the answer is not the best symbol."
 pub fn changed(columns: &Columns, word: &[u8; PLACES]) -> u8 {
-    let differs = |(column, symbol): &(&Column, &u8)| !is_blank(column) && best(column) != **symbol;
-    columns.iter().zip(word).filter(differs).count() as u8
+    let changed = |(column, symbol): &(&Column, &u8)| is_changed(column, **symbol);
+    columns.iter().zip(word).filter(changed).count() as u8
+}
+
+/// Whether a place with this symbol is changed. A blank place "never counts as differing or changed".
+pub fn is_changed(column: &Column, symbol: u8) -> bool {
+    !is_blank(column) && best(column) != symbol
 }
 
 #[cfg(test)]

@@ -487,7 +487,7 @@ mod tests {
     use crate::bit_frames::BitKind;
     use crate::bits::{column_of_bits, BITS, FRAME_VALUES};
     use crate::blanks::OF_TABLES;
-    use crate::decode::{decode_table_below_by, decode_table_by, TABLE_BYTES};
+    use crate::decode::{decode_table_below_by, decode_table_by, MARGIN_BYTES, TABLE_BYTES};
     use crate::slips::SLIPS;
     use crate::soft::{
         best, column_bytes, column_of_bytes, counted_gap, doubtful_below, doubtful_places, gap,
@@ -829,7 +829,7 @@ mod tests {
         }
         let never: DecodeTable = |rate, table, doubt, message, report| {
             faulty([rate, doubt], table, [message, report], |report| {
-                report[8..].fill(0);
+                report[8..13].fill(0);
             })
         };
         let always: DecodeTable = |rate, table, doubt, message, report| {
@@ -839,7 +839,7 @@ mod tests {
         };
         let zero_is_absent: DecodeTable = |rate, table, doubt, message, report| {
             faulty([rate, doubt], table, [message, report], |report| {
-                report[8] &= u8::from(report[9..] != [0; 4]);
+                report[8] &= u8::from(report[MARGIN_BYTES] != [0; 4]);
             })
         };
         let two_bytes: DecodeTable = |rate, table, doubt, message, report| {
@@ -851,7 +851,7 @@ mod tests {
             faulty([rate, doubt], table, [message, report], |report| {
                 if let Some(margin) = margin_of(report) {
                     let total = u32::from_be_bytes([report[0], report[1], report[2], report[3]]);
-                    report[9..].copy_from_slice(&(total + margin).to_be_bytes());
+                    report[MARGIN_BYTES].copy_from_slice(&(total + margin).to_be_bytes());
                 }
             })
         };

@@ -233,6 +233,7 @@ fn delivered_again(withdrawn: &Column, column: &Column) -> Vec<Event> {
 mod tests {
     use super::*;
     use crate::call_lists::READING;
+    use crate::decode::REPORT_BYTES;
 
     /// The events of calls, in order.
     fn events(calls: &[Call]) -> Vec<Event> {
@@ -352,7 +353,7 @@ mod tests {
     fn closings_and_writings_after_withdrawals_are_told() {
         let closing = Call::Close {
             message: 39,
-            report: 13,
+            report: REPORT_BYTES as u16,
         };
         let mut calls = vec![open()];
         calls.extend((0..64).map(|place| deliver(place, 1)));

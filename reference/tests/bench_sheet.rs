@@ -3,7 +3,7 @@
 use reference::capture::{capture_size, write_capture};
 use reference::code::encode;
 use reference::curve::{monomials, points, Monomial, Point, PLACES};
-use reference::decode::{decode_table, margin_of, table_of_columns, Answer, REPORT_BYTES};
+use reference::decode::{decode_table, margin_of, mark_of, table_of_columns, Answer, REPORT_BYTES};
 use reference::field::times;
 use reference::frames::frame_s;
 use reference::least::INTERPOLANT_BYTES;
@@ -97,10 +97,11 @@ fn decoded(rate: u64, columns: &Columns, doubt: u64) -> Result<Answer, Refusal> 
         pinned: report[6],
         changed: report[7],
         margin: margin_of(&report),
+        marked: mark_of(&report),
     })
 }
 
-/// An answer with the message zero and no second near codeword.
+/// An answer with the message zero and no second near codeword, which no codeword undercuts.
 fn zero(total: u32, tests: u16, pinned: u8, changed: u8) -> Answer {
     let message = vec![0; 39];
     Answer {
@@ -110,6 +111,7 @@ fn zero(total: u32, tests: u16, pinned: u8, changed: u8) -> Answer {
         pinned,
         changed,
         margin: None,
+        marked: true,
     }
 }
 
@@ -161,7 +163,9 @@ fn r4_two_doubtful_places() {
 
 #[test]
 fn r5_rate_49_repairs_one_place() {
-    assert_eq!(decoded(49, &frame_s(1), 0).unwrap().message, [0; 49]);
+    let answer = decoded(49, &frame_s(1), 0).unwrap();
+    assert_eq!(answer.message, [0; 49]);
+    assert_eq!((answer.total, answer.changed, answer.marked), (30, 1, true));
     assert_eq!(decoded(49, &frame_s(2), 0), Err(Refusal::NoneNear));
 }
 
