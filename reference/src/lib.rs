@@ -37,29 +37,32 @@
 //!
 //! # Comparing
 //!
-//! [`frames`] makes frames of thirteen kinds from a seed, each with every number of blank places,
-//! [`pairs`] those between codewords at least distance, [`fades`] those with consecutive places of
-//! noise, [`damage`] captures with faults, [`versions`] those of both versions with each fault,
-//! [`arrivals`] five sorts of order in which places arrive, [`below_frames`] thresholds and maxima,
-//! [`bit_frames`] bit values, all at rates 39 and 49; [`rates`] makes frames at every rate around what
-//! the rule decides there. The binary `compare` runs them in two ways. It counts the frames with each
-//! number of doubtful places, with blank ones and with a margin, the tables in which a pinned second is
-//! not chosen as doubtful, the captures of both versions, with what wrong rules would make of them,
-//! those written after each sort of order, the withdrawals of each sort, the sorts of fades, those of
-//! thresholds, with what wrong rules would lead to ([`slips`]), those of bit values and those of rates,
-//! with what wrong rules would lead to, and fails where they are too few to try it ([`doubts`],
-//! [`blanks`], [`margins`], [`choices`], [`version_counts`], [`written`], [`withdrawals`],
-//! [`fade_counts`], [`below_counts`], [`bit_counts`], [`rate_counts`]).
+//! [`frames`] makes frames of thirteen kinds from a seed, each with every number of blank places, [`pairs`]
+//! those between codewords at least distance, [`fades`] those with consecutive places of noise, [`damage`]
+//! captures with faults, [`versions`] those of both versions with each fault, [`arrivals`] five sorts of
+//! order in which places arrive, [`below_frames`] thresholds and maxima, [`bit_frames`] bit values, all at
+//! rates 39 and 49; [`rates`] makes frames at every rate around what the rule decides there, and
+//! [`mark_frames`] around what the mark does. The binary `compare` runs them in two ways. It counts the
+//! frames with each number of doubtful places, with blank ones and with a margin, the tables in which a
+//! pinned second is not chosen as doubtful, the captures of both versions, with what wrong rules would make
+//! of them, those written after each sort of order, the withdrawals of each sort, the sorts of fades, those
+//! of thresholds, with what wrong rules would lead to ([`slips`]), those of bit values and those of rates,
+//! with what wrong rules would lead to, those of marks, with what wrong rules would mark ([`mark_slips`]),
+//! and fails where they are too few to try it ([`doubts`], [`blanks`], [`margins`], [`choices`],
+//! [`version_counts`], [`written`], [`withdrawals`], [`fade_counts`], [`below_counts`], [`bit_counts`],
+//! [`rate_counts`], [`mark_counts`]). That a marked answer costs least is tried at small rates by a search
+//! through all codewords ([`cheapest`]).
 //!
 //! Calls that cross as numbers and byte slices are linked: with the feature `proved`, and with
 //! `MODEM_LIB_DIR` naming the folder of `libmodem.a`, `compare code`, `compare tables`, `compare below`,
-//! `compare bits`, `compare fades` and `compare rates` run the trials of [`trials`] on both libraries.
+//! `compare bits`, `compare fades`, `compare rates` and `compare marks` run the trials of [`trials`] on both
+//! libraries.
 //!
-//! Sessions and captures are compared by stream: a program reads calls on its standard input and
-//! writes answers on its standard output, laid out as in [`calls`]; `compare run` starts it on the
-//! lists of [`call_lists`] and [`withdrawal_lists`] and names the first answer that differs, and
-//! `compare fades` and `compare rates` on a session for each of their frames. `compare shows` does the
-//! same with a program that prints as `show` does, and so does `compare rates`.
+//! Sessions and captures are compared by stream: a program reads calls on its standard input and writes
+//! answers on its standard output, laid out as in [`calls`]; `compare run` starts it on the lists of
+//! [`call_lists`] and [`withdrawal_lists`] and names the first answer that differs, and `compare fades`,
+//! `compare rates` and `compare marks` on a session for each of their frames. `compare shows` does the same
+//! with a program that prints as `show` does, and so does `compare rates`.
 //!
 //! ```text
 //! cargo test --offline
@@ -86,6 +89,7 @@ pub mod call_lists;
 pub mod calls;
 pub mod capture;
 pub mod channel;
+pub mod cheapest;
 pub mod choices;
 pub mod code;
 pub mod counted;
@@ -103,6 +107,9 @@ pub mod light;
 pub mod linear;
 pub mod margins;
 pub mod mark;
+pub mod mark_counts;
+pub mod mark_frames;
+pub mod mark_slips;
 pub mod measured;
 pub mod nearest;
 pub mod pairs;

@@ -3,7 +3,7 @@
 //! - [`compare_calls`]: one process for each share of the frames; it reads calls and writes
 //!   answers, as [`crate::calls`] lays them out. The [`Tally`] says what was compared.
 //! - [`compare_fades`]: the same with a session for each fade; [`compare_rates`]: with one for each of the
-//!   frames at every rate.
+//!   frames at every rate; [`compare_marks`]: with one for each of those for the mark.
 //! - [`compare_shows`]: a process for each capture, valid or damaged, that prints as `show` does;
 //!   [`Shown`] says what was compared; [`compare_rate_shows`]: the captures of frames at every rate.
 
@@ -18,12 +18,14 @@ use crate::call_lists::call_list;
 use crate::calls::Call;
 use crate::capture::open_capture;
 use crate::damage::{capture_of, damaged};
-use crate::decode::{margin_of, REPORT_BYTES};
+use crate::decode::{margin_of, mark_of, REPORT_BYTES};
 use crate::doubts::{Came, Doubts};
 use crate::fade_counts::FadeCounts;
 use crate::fades::Fade;
 use crate::frames::{Frame, Kind};
 use crate::margins::Margins;
+use crate::mark_counts::{MarkCounts, Marks};
+use crate::mark_frames::MarkFrame;
 use crate::random::Random;
 use crate::rate_counts::{Part, RateCounts};
 use crate::rates::RateFrame;
@@ -38,7 +40,7 @@ use crate::written::Written;
 
 /// How often each call was answered with each number; the withdrawals; what was made with blank
 /// places; the captures of both versions; and, from sessions without a withdrawal, the captures written
-/// after each sort of order, and the margins, blank places and doubtful ones, a frame each.
+/// after each sort of order, and the margins, marks, blank places and doubtful ones, a frame each.
 #[derive(Clone, Debug, Default, PartialEq, Eq)]
 pub struct Tally {
     /// By letter and number; a look-up's number is the part's length.
@@ -48,6 +50,7 @@ pub struct Tally {
     pub blanks: Blanks,
     pub versions: VersionCounts,
     pub doubts: Doubts,
+    pub marks: Marks,
     pub margins: Margins,
 }
 
@@ -76,6 +79,7 @@ impl Tally {
         let margin = margin_of(report).filter(|_| number == 0);
         if number == 0 {
             self.margins.count(margin);
+            self.marks.count(mark_of(report));
         }
         let came = match number {
             0 => Some(Came::of_report(report)),
@@ -99,6 +103,7 @@ impl Tally {
         self.blanks.add(other.blanks);
         self.versions.add(other.versions);
         self.doubts.add(other.doubts);
+        self.marks.add(other.marks);
         self.margins.add(other.margins);
     }
 }
@@ -120,12 +125,13 @@ impl fmt::Display for Tally {
             blanks,
             versions,
             doubts,
+            marks,
             margins,
             ..
         } = self;
         write!(
             out,
-            "; {written}; {withdrawals}; {blanks}; {versions}; {doubts}; {margins}"
+            "; {written}; {withdrawals}; {blanks}; {versions}; {doubts}; {marks}; {margins}"
         )
     }
 }
@@ -149,14 +155,8 @@ pub fn compare_calls(
     seed: u64,
     count: u64,
 ) -> Result<Tally, String> {
-    let tallies = in_shares(count, |numbers| {
-        let frames: Vec<(u64, Vec<Call>)> = numbers
-            .map(|number| (number, chosen_calls(letters, seed, number)))
-            .collect();
-        let calls = frames.iter().flat_map(|(_, calls)| calls);
-        let answers = output_of(program, calls.flat_map(Call::bytes).collect())?;
-        check_answers(&frames, &answers)
-    })?;
+    let lists = |number| chosen_calls(letters, seed, number);
+    let tallies = compare_lists(program, count, lists, check_answers)?;
     let mut sum = Tally::default();
     for tally in tallies {
         sum.add(tally);
@@ -167,12 +167,8 @@ pub fn compare_calls(
 /// Runs a program on a session for each of `count` fades. What was compared, or a line that names the
 /// first difference.
 pub fn compare_fades(program: &[String], seed: u64, count: u64) -> Result<FadeCounts, String> {
-    let shares = in_shares(count, |numbers| {
-        let fades: Vec<(u64, Vec<Call>)> = fade_sessions(seed, numbers).collect();
-        let calls = fades.iter().flat_map(|(_, calls)| calls);
-        let answers = output_of(program, calls.flat_map(Call::bytes).collect())?;
-        check_fades(seed, &fades, &answers)
-    })?;
+    let check = |fades: &[_], answers: &[u8]| check_fades(seed, fades, answers);
+    let shares = compare_lists(program, count, |number| fade_session(seed, number), check)?;
     let mut sum = FadeCounts::default();
     for counts in shares {
         sum.add(counts);
@@ -180,15 +176,9 @@ pub fn compare_fades(program: &[String], seed: u64, count: u64) -> Result<FadeCo
     Ok(sum)
 }
 
-/// The calls of these fades.
-pub fn fade_sessions(
-    seed: u64,
-    numbers: impl Iterator<Item = u64>,
-) -> impl Iterator<Item = (u64, Vec<Call>)> {
-    numbers.map(move |number| {
-        let calls = Fade::numbered(seed, number).calls(&mut Random::new(!seed, number));
-        (number, calls)
-    })
+/// The calls of a numbered fade.
+pub fn fade_session(seed: u64, number: u64) -> Vec<Call> {
+    Fade::numbered(seed, number).calls(&mut Random::new(!seed, number))
 }
 
 /// Checks a program's answers to the fades' calls; each is counted by what its closing answers.
@@ -216,12 +206,8 @@ pub fn check_fades(
 /// Runs a program on a session for each of `count` frames at every rate. What was compared, or a line
 /// that names the first difference.
 pub fn compare_rates(program: &[String], seed: u64, count: u64) -> Result<RateCounts, String> {
-    let shares = in_shares(count, |numbers| {
-        let frames: Vec<(u64, Vec<Call>)> = rate_sessions(seed, numbers).collect();
-        let calls = frames.iter().flat_map(|(_, calls)| calls);
-        let answers = output_of(program, calls.flat_map(Call::bytes).collect())?;
-        check_rates(seed, &frames, &answers)
-    })?;
+    let check = |frames: &[_], answers: &[u8]| check_rates(seed, frames, answers);
+    let shares = compare_lists(program, count, |number| rate_session(seed, number), check)?;
     let mut sum = RateCounts::default();
     for counts in shares {
         sum.add(counts);
@@ -229,15 +215,9 @@ pub fn compare_rates(program: &[String], seed: u64, count: u64) -> Result<RateCo
     Ok(sum)
 }
 
-/// The calls of these frames.
-pub fn rate_sessions(
-    seed: u64,
-    numbers: impl Iterator<Item = u64>,
-) -> impl Iterator<Item = (u64, Vec<Call>)> {
-    numbers.map(move |number| {
-        let calls = RateFrame::numbered(seed, number).calls(&mut Random::new(!seed, number));
-        (number, calls)
-    })
+/// The calls of one of these frames.
+pub fn rate_session(seed: u64, number: u64) -> Vec<Call> {
+    RateFrame::numbered(seed, number).calls(&mut Random::new(!seed, number))
 }
 
 /// Checks a program's answers to these calls; a frame is counted by what each of its closings answers.
@@ -259,6 +239,47 @@ pub fn check_rates(
                 let report = &expected[expected.len() - REPORT_BYTES..];
                 let margin = margin_of(report).filter(|_| expected[0] == 0);
                 counts.count_frame(Part::Sessions, &frame, expected[0], margin);
+            }
+        }
+    }
+    nothing_after(rest)?;
+    Ok(counts)
+}
+
+/// Runs a program on a session for each of `count` frames for the mark. What was compared, or a line that
+/// names the first difference.
+pub fn compare_marks(program: &[String], seed: u64, count: u64) -> Result<MarkCounts, String> {
+    let check = |frames: &[_], answers: &[u8]| check_marks(seed, frames, answers);
+    let shares = compare_lists(program, count, |number| mark_session(seed, number), check)?;
+    let mut sum = MarkCounts::default();
+    for counts in shares {
+        sum.add(counts);
+    }
+    Ok(sum)
+}
+
+/// The calls of one of these frames.
+pub fn mark_session(seed: u64, number: u64) -> Vec<Call> {
+    MarkFrame::numbered(seed, number).calls(&mut Random::new(!seed, number))
+}
+
+/// Checks a program's answers to these calls; a frame is counted by what each of its closings answers.
+pub fn check_marks(
+    seed: u64,
+    frames: &[(u64, Vec<Call>)],
+    answers: &[u8],
+) -> Result<MarkCounts, String> {
+    let mut rest = answers;
+    let mut counts = MarkCounts::default();
+    let mut session = Session::default();
+    for (number, calls) in frames {
+        let frame = MarkFrame::numbered(seed, *number);
+        for (at, call) in calls.iter().enumerate() {
+            let expected = call.answer(&mut session);
+            rest = after(rest, &expected, call, *number, at)?;
+            if Closed::at(call, &expected, &session).is_some() {
+                let (message, report) = expected[1..].split_at(frame.frame.rate as usize);
+                counts.count(&frame, expected[0], message, report);
             }
         }
     }
@@ -507,6 +528,21 @@ pub fn numbered_capture(seed: u64, number: u64) -> Vec<u8> {
         3 => spoilt(&frame, &places, number / 4, &mut random),
         _ => capture_of(&frame, &places),
     }
+}
+
+/// Runs a program on the calls of each number below `count`, in shares, and checks its answers.
+fn compare_lists<T: Send>(
+    program: &[String],
+    count: u64,
+    list: impl Fn(u64) -> Vec<Call> + Sync,
+    check: impl Fn(&[(u64, Vec<Call>)], &[u8]) -> Result<T, String> + Sync,
+) -> Result<Vec<T>, String> {
+    in_shares(count, |numbers| {
+        let lists: Vec<(u64, Vec<Call>)> = numbers.map(|number| (number, list(number))).collect();
+        let calls = lists.iter().flat_map(|(_, calls)| calls);
+        let answers = output_of(program, calls.flat_map(Call::bytes).collect())?;
+        check(&lists, &answers)
+    })
 }
 
 /// Does the numbers below `count` in as many shares as there are processors.

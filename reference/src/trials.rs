@@ -6,10 +6,10 @@
 //! - [`encode_trial`], [`read_back_trial`], [`table_trial`], [`fade_trial`], [`below_trial`],
 //!   [`bits_trial`]: one numbered call, right or damaged, on a library; the [`Outcome`] is its number and
 //!   every byte of its buffers. [`rate_table_trial`], [`rate_below_trial`], [`rate_bits_trial`]: those of
-//!   frames at every rate.
-//! - [`compare`]: many trials on two libraries; the [`Tally`] of numbers, margins, blank places,
-//!   doubtful ones, doubts and sorts of fades, of thresholds, of bit values and of rates, or a
-//!   [`Difference`].
+//!   frames at every rate; [`mark_table_trial`], [`mark_below_trial`]: those of frames for the mark.
+//! - [`compare`]: many trials on two libraries; the [`Tally`] of numbers, margins, marks, blank places,
+//!   doubtful ones, doubts and sorts of fades, of thresholds, of bit values, of rates and of frames for the
+//!   mark, or a [`Difference`].
 
 use std::sync::atomic::{AtomicBool, Ordering};
 use std::thread;
@@ -22,12 +22,16 @@ use crate::bits::decode_bits;
 use crate::blanks::{Blanks, Faded};
 use crate::choices::{Choice, Choices};
 use crate::code::{encode, read_back, Code};
-use crate::decode::{decode_table, decode_table_below, margin_of, table_of_columns, REPORT_BYTES};
+use crate::decode::{
+    decode_table, decode_table_below, margin_of, mark_of, table_of_columns, REPORT_BYTES,
+};
 use crate::doubts::{Came, Doubts};
 use crate::fade_counts::FadeCounts;
 use crate::fades::Fade;
 use crate::frames::{any_rate, random_codeword, unknown_rate, Frame, Kind, DOUBTFUL_GAP, RATES};
 use crate::margins::Margins;
+use crate::mark_counts::{MarkCounts, Marks};
+use crate::mark_frames::MarkFrame;
 use crate::random::Random;
 use crate::rate_counts::{Part, RateCounts};
 use crate::rates::RateFrame;
@@ -100,6 +104,8 @@ pub struct Outcome {
     pub coded: Option<Option<usize>>,
     /// The frame, where it is one of those at every rate, and the comparison that it is in.
     pub rated: Option<(Part, RateFrame)>,
+    /// The frame, where it is one of those for the mark.
+    pub marked: Option<MarkFrame>,
 }
 
 /// The numbers that these calls return are below this.
@@ -115,12 +121,14 @@ pub struct Difference {
 /// One call of a library, the same for the same seed and number.
 pub type Trial<L> = fn(&L, u64, u64) -> Outcome;
 
-/// How often each number was returned, the margins of the reports, the blank and the doubtful places
-/// of the tables and the sorts of fades, of thresholds, of bit values and of rates.
+/// How often each number was returned, the margins and marks of the reports, the blank and the doubtful
+/// places of the tables and the sorts of fades, of thresholds, of bit values, of rates and of frames for the
+/// mark.
 #[derive(Clone, Debug, Default)]
 pub struct Tally {
     pub numbers: [u64; NUMBERS],
     pub margins: Margins,
+    pub marks: Marks,
     pub blanks: Blanks,
     pub choices: Choices,
     pub doubts: Doubts,
@@ -128,6 +136,7 @@ pub struct Tally {
     pub below: BelowCounts,
     pub bits: BitCounts,
     pub rates: RateCounts,
+    pub mark_sorts: MarkCounts,
 }
 
 impl Tally {
@@ -144,6 +153,7 @@ impl Tally {
         }
         if let Some(report) = report {
             self.margins.count(margin_of(report));
+            self.marks.count(mark_of(report));
         }
         if let Some(faded) = &outcome.faded {
             let margin = report.and_then(|report| margin_of(report));
@@ -173,6 +183,10 @@ impl Tally {
         if let (Some(call), Some(report)) = (&outcome.bits, &outcome.report) {
             self.bits.count(call, outcome.number, message, report);
         }
+        if let (Some(frame), Some(report)) = (&outcome.marked, &outcome.report) {
+            let number = outcome.number;
+            self.mark_sorts.count(frame, number, message, report);
+        }
     }
 
     fn add(&mut self, other: Tally) {
@@ -180,6 +194,7 @@ impl Tally {
             *sum += times;
         }
         self.margins.add(other.margins);
+        self.marks.add(other.marks);
         self.blanks.add(other.blanks);
         self.choices.add(other.choices);
         self.doubts.add(other.doubts);
@@ -187,6 +202,7 @@ impl Tally {
         self.below.add(other.below);
         self.bits.add(other.bits);
         self.rates.add(other.rates);
+        self.mark_sorts.add(other.mark_sorts);
     }
 }
 
@@ -395,8 +411,51 @@ fn rated(
     seed: u64,
     decode: impl FnOnce(u64, [&mut [u8]; 2]) -> u8,
 ) -> Outcome {
+    let outcome = decoded(frame.frame.rate, seed, decode);
+    Outcome {
+        rated: Some((part, frame)),
+        ..outcome
+    }
+}
+
+/// Table decoding of one of the numbered frames for the mark.
+pub fn mark_table_trial<D>(decode_table: &D, seed: u64, number: u64) -> Outcome
+where
+    D: Fn(u64, &[u8], u64, &mut [u8], &mut [u8]) -> u8,
+{
+    let frame = MarkFrame::numbered(seed, number);
+    let table = table_of_columns(&frame.frame.columns);
+    let doubt = frame.doubt() as u64;
+    let outcome = decoded(
+        frame.frame.rate,
+        !seed ^ number,
+        |rate, [message, report]| decode_table(rate, &table, doubt, message, report),
+    );
+    Outcome {
+        marked: Some(frame),
+        ..outcome
+    }
+}
+
+/// The same with the largest threshold, and as many places as maximum as are doubtful, or one.
+pub fn mark_below_trial(decode_below: &DecodeBelow, seed: u64, number: u64) -> Outcome {
+    let frame = MarkFrame::numbered(seed, number);
+    let table = table_of_columns(&frame.frame.columns);
+    let most = frame.doubt().max(1) as u64;
+    let outcome = decoded(
+        frame.frame.rate,
+        !seed ^ number,
+        |rate, [message, report]| decode_below(rate, &table, u16::MAX, most, message, report),
+    );
+    Outcome {
+        marked: Some(frame),
+        ..outcome
+    }
+}
+
+/// A call that decodes into buffers of the right sizes, whose first bytes follow a seed.
+fn decoded(rate: u64, seed: u64, decode: impl FnOnce(u64, [&mut [u8]; 2]) -> u8) -> Outcome {
     let mut random = Random::new(seed, 0);
-    let rate = frame.frame.rate;
     let mut message = bytes(rate as usize, &mut random);
     let mut report = bytes(REPORT_BYTES, &mut random);
     let number = decode(rate, [&mut message, &mut report]);
@@ -405,7 +464,6 @@ fn rated(
         rate,
         buffer: message,
         report: Some(report),
-        rated: Some((part, frame)),
         ..Outcome::default()
     }
 }
@@ -549,6 +607,16 @@ mod tests {
         let both = [&REFERENCE, &REFERENCE];
         let tally = compare(encode_trial, both, 62, 40).unwrap();
         assert_eq!(tally.margins, Margins::default());
+    }
+
+    #[test]
+    fn trials_have_marks() {
+        let both = [&REFERENCE_TABLE, &REFERENCE_TABLE];
+        let tally = compare(table_trial, both, 75, 1200).unwrap();
+        assert_eq!(tally.marks.check(1200), Ok(()));
+        let both = [&REFERENCE, &REFERENCE];
+        let tally = compare(encode_trial, both, 75, 40).unwrap();
+        assert_eq!(tally.marks, Marks::default());
     }
 
     #[test]

@@ -3,7 +3,7 @@
 use reference::calls::{answer_all, Call};
 use reference::fades::ROUND;
 use reference::random::Random;
-use reference::streams::{check_fades, fade_sessions};
+use reference::streams::{check_fades, fade_session};
 use reference::trials::{compare, fade_trial, DecodeTable, REFERENCE_TABLE};
 
 /// Ten rounds: at rate 39 each number of blank places comes.
@@ -78,7 +78,7 @@ fn faults_are_found_on_fades() {
 /// counted, and any changed byte is named.
 #[test]
 fn sessions_take_fades() {
-    let fades: Vec<(u64, Vec<Call>)> = fade_sessions(84, 0..COUNT).collect();
+    let fades: Vec<(u64, Vec<Call>)> = (0..COUNT).map(|n| (n, fade_session(84, n))).collect();
     for (_, calls) in &fades {
         let letters: Vec<u8> = calls.iter().map(Call::letter).collect();
         assert_eq!(letters, [b"O", &[b'D'; 64][..], b"RXW"].concat());

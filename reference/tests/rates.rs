@@ -9,7 +9,7 @@ use reference::rate_counts::Part;
 use reference::rates::FEW_TURNS;
 use reference::session::Session;
 use reference::soft::{best, blank_places};
-use reference::streams::{check_rates, rate_sessions};
+use reference::streams::{check_rates, rate_session};
 use reference::trials::{
     compare, encode_trial, rate_below_trial, rate_bits_trial, rate_table_trial, read_back_trial,
     Coding, DecodeTable, REFERENCE, REFERENCE_BELOW, REFERENCE_BITS, REFERENCE_TABLE,
@@ -155,7 +155,7 @@ fn answers_with(
 
 #[test]
 fn sessions_have_every_sort() {
-    let frames: Vec<(u64, Vec<Call>)> = rate_sessions(99, 0..COUNT).collect();
+    let frames: Vec<(u64, Vec<Call>)> = (0..COUNT).map(|n| (n, rate_session(99, n))).collect();
     let right = answers_with(|_, _, _| (), &frames);
     let counts = check_rates(99, &frames, &right).unwrap();
     assert_eq!(counts.check(Part::Sessions), Ok(()));
@@ -218,7 +218,7 @@ fn faults_of_readings_and_rates_are_found() {
     ];
     let first = RATE_COUNT as u64;
     assert_eq!(rates().count() as u64, first);
-    let frames: Vec<(u64, Vec<Call>)> = rate_sessions(100, 0..first).collect();
+    let frames: Vec<(u64, Vec<Call>)> = (0..first).map(|n| (n, rate_session(100, n))).collect();
     let right = answers_with(|_, _, _| (), &frames);
     assert!(check_rates(100, &frames, &right).is_ok());
     for (name, fault) in faults {

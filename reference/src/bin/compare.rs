@@ -37,6 +37,8 @@ compare bits SEED COUNT                     the proved decoding from bit values 
 compare rates SEED REPLAY SHOW              the proved decoding at every rate (feature proved), by doubt, by
                                             threshold and from bit values, a program on a session for
                                             each frame and one on its capture
+compare marks SEED PROGRAM ..               the proved decoding on both sides of the mark (feature proved), by
+                                            doubt and by threshold, and a program on a session for each frame
 LETTERS are those of the calls wanted, of OCDRWXLU.
 The count of frames with a margin is printed; fewer than one in six are a failure.
 The counts of frames with blank places are printed, by kind, by rate and number of these places, and
@@ -65,7 +67,13 @@ round every value at every position.
 The counts of what is tried at each rate are printed, encoded and read back, near and not, with blank
 places, and in sessions read with each number of settled places, written, opened and looked up, with the
 wrong rules that would lead elsewhere; one that is missing is a failure, and so is a frame that is near
-against the rule, or a reading at rate 39 or 49 with a byte above 81 that is not zero.";
+against the rule, or a reading at rate 39 or 49 with a byte above 81 that is not zero.
+The counts of marked and of unmarked answers are printed; fewer than one in 25 frames of either are a
+failure. Those of frames for the mark are printed, at each rate with the excess one below the slack, equal
+to it and one above, with blank places, pinned ones and pinned seconds, with another codeword that costs as
+much or one less, and with no gap to sum, with the wrong rules that would mark otherwise; one that is
+missing is a failure, and so is an answer that is not marked as its frame is made to be, or a marked one
+that another of the codewords tried costs less than.";
 
 fn main() -> ExitCode {
     let arguments: Vec<String> = std::env::args().skip(1).collect();
@@ -92,6 +100,7 @@ fn run(arguments: &[String]) -> Result<(), String> {
             output(format!("{count} frames, {calls} calls alike ({tally})\n").as_bytes())?;
             if letters.contains('X') {
                 tally.margins.check(number(count)?)?;
+                tally.marks.check(number(count)?)?;
             }
             let chosen = |wanted: &str| wanted.chars().all(|letter| letters.contains(letter));
             if chosen("OCDW") {
@@ -142,6 +151,8 @@ fn run(arguments: &[String]) -> Result<(), String> {
         ["bits", seed, count] => proved::bits(number(seed)?, number(count)?),
         #[cfg(feature = "proved")]
         ["rates", seed, replay, show] => proved::rates(number(seed)?, replay, show),
+        #[cfg(feature = "proved")]
+        ["marks", seed, _, ..] => proved::marks(number(seed)?, &arguments[2..]),
         _ => Err(USAGE.to_string()),
     }
 }
@@ -221,14 +232,17 @@ fn time_with(doubt: usize, count: u64) -> Result<(), String> {
 mod proved {
     use reference::blanks::OF_TABLES;
     use reference::code::RATE_COUNT;
+    use reference::mark_counts::MarkCounts;
+    use reference::mark_frames::{FEW_MARK_TURNS, MARK_TURNS};
     use reference::proved::{PROVED, PROVED_BELOW, PROVED_BITS, PROVED_TABLE};
     use reference::rate_counts::{Part, RateCounts};
     use reference::rates::{FEW_TURNS, TURNS};
-    use reference::streams::{compare_fades, compare_rate_shows, compare_rates};
+    use reference::streams::{compare_fades, compare_marks, compare_rate_shows, compare_rates};
     use reference::trials::{
-        below_trial, bits_trial, compare, encode_trial, fade_trial, rate_below_trial,
-        rate_bits_trial, rate_table_trial, read_back_trial, table_trial, Difference, Tally, Trial,
-        REFERENCE, REFERENCE_BELOW, REFERENCE_BITS, REFERENCE_TABLE,
+        below_trial, bits_trial, compare, encode_trial, fade_trial, mark_below_trial,
+        mark_table_trial, rate_below_trial, rate_bits_trial, rate_table_trial, read_back_trial,
+        table_trial, Difference, Tally, Trial, REFERENCE, REFERENCE_BELOW, REFERENCE_BITS,
+        REFERENCE_TABLE,
     };
 
     pub fn code(seed: u64, count: u64) -> Result<(), String> {
@@ -266,6 +280,25 @@ mod proved {
         told(&format!("{few} captures alike"), &counts, Part::Shows)
     }
 
+    /// Frames for the mark: all turns as tables, a few of them with a threshold and as sessions of a program.
+    pub fn marks(seed: u64, program: &[String]) -> Result<(), String> {
+        let [count, few] = [MARK_TURNS, FEW_MARK_TURNS].map(|turns| (RATE_COUNT * turns) as u64);
+        let marked = |name: &str, counts: &MarkCounts| {
+            super::output(format!("{name}: {counts}\n").as_bytes())?;
+            counts.check()
+        };
+        let both = [&REFERENCE_TABLE, &PROVED_TABLE];
+        let name = "decode table beside the mark";
+        let tally = report(name, mark_table_trial, both, seed, count)?;
+        marked(name, &tally.mark_sorts)?;
+        let both = [&REFERENCE_BELOW, &PROVED_BELOW];
+        let name = "decode table below beside the mark";
+        let tally = report(name, mark_below_trial, both, seed, few)?;
+        marked(name, &tally.mark_sorts)?;
+        let counts = compare_marks(program, seed, few)?;
+        marked(&format!("{few} sessions alike"), &counts)
+    }
+
     pub fn tables(seed: u64, count: u64) -> Result<(), String> {
         let both = [&REFERENCE_TABLE, &PROVED_TABLE];
         let tally = report("decode table", table_trial, both, seed, count)?;
@@ -275,45 +308,59 @@ mod proved {
             choices,
             doubts,
             rates,
+            marks,
             ..
         } = tally;
         let rates_line = rates.line(Part::Unknown);
-        let line = format!("{blanks}; {choices}; {doubts}; {rates_line}; {margins}");
+        let line = format!("{blanks}; {choices}; {doubts}; {rates_line}; {marks}; {margins}");
         super::output(format!("decode table: {line}\n").as_bytes())?;
         rates.check(Part::Unknown)?;
         blanks.check(count, &OF_TABLES)?;
         choices.check(count)?;
         doubts.check(count, true)?;
+        marks.check(count)?;
         margins.check(count)
     }
 
     /// Fades as tables, and as sessions of a program.
     pub fn fades(seed: u64, count: u64, program: &[String]) -> Result<(), String> {
         let both = [&REFERENCE_TABLE, &PROVED_TABLE];
-        let Tally { fades, .. } = report("decode table", fade_trial, both, seed, count)?;
-        super::output(format!("decode table: {fades}\n").as_bytes())?;
+        let tally = report("decode table", fade_trial, both, seed, count)?;
+        let Tally { fades, marks, .. } = tally;
+        super::output(format!("decode table: {fades}; {marks}\n").as_bytes())?;
         let sessions = compare_fades(program, seed, count)?;
         super::output(format!("{count} sessions alike ({sessions})\n").as_bytes())?;
         fades.check()?;
+        marks.check(count)?;
         sessions.check()
     }
 
     pub fn below(seed: u64, count: u64) -> Result<(), String> {
         let both = [&REFERENCE_BELOW, &PROVED_BELOW];
         let tally = report("decode table below", below_trial, both, seed, count)?;
-        let Tally { below, rates, .. } = tally;
+        let Tally {
+            below,
+            rates,
+            marks,
+            ..
+        } = tally;
         let rates_line = rates.line(Part::Unknown);
-        super::output(format!("decode table below: {below}; {rates_line}\n").as_bytes())?;
+        super::output(format!("decode table below: {below}; {rates_line}; {marks}\n").as_bytes())?;
         rates.check(Part::Unknown)?;
+        marks.check(count)?;
         below.check()
     }
 
     pub fn bits(seed: u64, count: u64) -> Result<(), String> {
         let both = [&REFERENCE_BITS, &PROVED_BITS];
-        let Tally { bits, rates, .. } = report("decode bits", bits_trial, both, seed, count)?;
+        let tally = report("decode bits", bits_trial, both, seed, count)?;
+        let Tally {
+            bits, rates, marks, ..
+        } = tally;
         let rates_line = rates.line(Part::Unknown);
-        super::output(format!("decode bits: {bits}; {rates_line}\n").as_bytes())?;
+        super::output(format!("decode bits: {bits}; {rates_line}; {marks}\n").as_bytes())?;
         rates.check(Part::Unknown)?;
+        marks.check(count)?;
         bits.check()
     }
 
