@@ -17,16 +17,24 @@
  *   values    exactly 256 signed bytes: the four bit values of each symbol, place 0 and the
  *             highest bit first, -128 to 127; a positive value favours bit 0, a negative one
  *             bit 1, zero neither; a place whose four values are zero is blank
- *   report    exactly 13 bytes, high byte first: the total (4), the test words with a
+ *   report    exactly 14 bytes, high byte first: the total (4), the test words with a
  *             codeword within T (2), the pinned places (1), the changed places (1); 1 if
  *             another codeword is near too, else 0 (1), and the margin: the least total of
- *             such another one minus the answer's, 0 where there is none (4)
+ *             such another one minus the answer's, 0 where there is none (4); the mark, 1
+ *             or 0 (1)
  *
  * The rate. A codeword holds the values of a function of order at most M = k + 5. With b blank
  * places T is the largest number with 2T + b < 58 - M; a codeword that differs from some test
  * word in at most T places that are not blank is near. There is a T with up to 57 - M blank
  * places. Rate 6 repairs 23 wrong places, rate 39 six, rate 49 one; rate 52 repairs none beyond
  * its test words, and takes no blank place.
+ *
+ * The mark. Where it is 1 none of all 16^k codewords, near or not, costs less than the answer;
+ * another may cost as much. It is 1 exactly if the total minus the sum of the 64 best costs is
+ * at most the sum of the smallest 64 - M - c gaps, second cost minus best cost, of the places
+ * that are not changed, where c are. No gap is summed where that number is not positive; a
+ * blank place is not changed and has gap 0. A cost of 65535 means 'at least' and is summed as
+ * 65535: with pinned places the mark speaks of the sums as they stand, and not of true costs.
  *
  * Stack: table decoding touches some 14 kB of it without doubt, some 50 kB with eight
  * doubtful places and some 67 kB with twelve (bench/stack).
@@ -51,7 +59,7 @@ extern "C" {
 #define HERMITIAN_PLACES 64
 #define HERMITIAN_TABLE_BYTES 2048
 #define HERMITIAN_BIT_VALUES 256
-#define HERMITIAN_REPORT_BYTES 13
+#define HERMITIAN_REPORT_BYTES 14
 #define HERMITIAN_LEAST_RATE 6
 #define HERMITIAN_MOST_RATE 52
 #define HERMITIAN_MOST_DOUBT 12
@@ -89,7 +97,7 @@ uint8_t hermitian_read_back(size_t rate,
  * cost minus best cost; where the second is 65535 and the best is lower, it counts as 65535.
  * A blank place is never doubtful, wrong or changed, but each two of them take one from the
  * wrong places that are repaired.
- * Checks, in this order: rate; table of 2048, message buffer of k and report of 13 bytes;
+ * Checks, in this order: rate; table of 2048, message buffer of k and report of 14 bytes;
  * doubt; blank places; nearness. Refusals: 1, 2, 4, 12, 9. */
 uint8_t hermitian_decode_table(size_t rate,
                                const uint8_t *table, size_t table_length,
@@ -103,7 +111,7 @@ uint8_t hermitian_decode_table(size_t rate,
  * They are taken as hermitian_decode_table takes them: by the smallest gap, with gaps counted
  * as there, equal gaps by the lower place, and no blank place. So the answer is that of
  * hermitian_decode_table with a doubt of so many. Every threshold of 16 bits is taken.
- * Checks, in this order: rate; table of 2048, message buffer of k and report of 13 bytes; most;
+ * Checks, in this order: rate; table of 2048, message buffer of k and report of 14 bytes; most;
  * blank places; nearness. Refusals: 1, 2, 4, 12, 9. */
 uint8_t hermitian_decode_table_below(size_t rate,
                                      const uint8_t *table, size_t table_length,
@@ -114,7 +122,7 @@ uint8_t hermitian_decode_table_below(size_t rate,
 /* Decodes bit values as hermitian_decode_table does the table that they make: a symbol costs
  * the sum of the magnitudes of those of its four values whose favoured bit it does not have.
  * The magnitude of -128 is 128, so no cost is above 512.
- * Checks, in this order: rate; 256 values, message buffer of k and report of 13 bytes; doubt;
+ * Checks, in this order: rate; 256 values, message buffer of k and report of 14 bytes; doubt;
  * blank places; nearness. Refusals: 1, 2, 4, 12, 9. */
 uint8_t hermitian_decode_bits(size_t rate,
                               const int8_t *values, size_t values_length,

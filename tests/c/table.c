@@ -101,6 +101,7 @@ static void answers(size_t rate, size_t doubt, unsigned total, unsigned tests, u
     expect(r[7] == changed, "changed");
     expect(r[8] == (margin == ABSENT ? 0 : 1), "a margin is present or absent");
     expect((((uint32_t)r[9] << 24) | ((uint32_t)r[10] << 16) | ((uint32_t)r[11] << 8) | r[12]) == (margin == ABSENT ? 0u : (uint32_t)margin), "margin");
+    expect(r[13] <= 1, "the mark is 1 or 0");
     expect(all_are(message.bytes, rate, ROOM, 0xEE) && all_are(report.bytes, HERMITIAN_REPORT_BYTES, ROOM, 0xEE), "nothing is written after the buffers");
     expect(memcmp(given, table, sizeof given) == 0, "decoding reads the table");
     expect(guards_stand(&message) && guards_stand(&report), "guards stand");
@@ -295,6 +296,7 @@ static void refusals(void)
         refused(rate, HERMITIAN_TABLE_BYTES, TOO_MANY, rate - 1, HERMITIAN_REPORT_BYTES, HERMITIAN_WRONG_SIZE, "a short message buffer");
         refused(rate, HERMITIAN_TABLE_BYTES, TOO_MANY, rate + 1, HERMITIAN_REPORT_BYTES, HERMITIAN_WRONG_SIZE, "a long message buffer");
         refused(rate, HERMITIAN_TABLE_BYTES, TOO_MANY, rate, 8, HERMITIAN_WRONG_SIZE, "a report without room for the margin");
+        refused(rate, HERMITIAN_TABLE_BYTES, TOO_MANY, rate, 13, HERMITIAN_WRONG_SIZE, "a report without room for the mark");
         refused(rate, HERMITIAN_TABLE_BYTES, TOO_MANY, rate, HERMITIAN_REPORT_BYTES - 1, HERMITIAN_WRONG_SIZE, "a short report");
         refused(rate, HERMITIAN_TABLE_BYTES, TOO_MANY, rate, HERMITIAN_REPORT_BYTES + 1, HERMITIAN_WRONG_SIZE, "a long report");
         refused(rate, HERMITIAN_TABLE_BYTES, TOO_MANY, rate, HERMITIAN_REPORT_BYTES, HERMITIAN_WRONG_DOUBT, "doubt 13");
