@@ -9,7 +9,8 @@
 //!
 //! A frame is in error if it is refused or its message is not the one sent. All curves of a rate have
 //! the same frames, and the places lost are among those lost where more are. A curve is done with a
-//! point after FRAMES frames, or earlier, after a whole batch, when it has enough errors.
+//! point after FRAMES frames, or earlier, after a whole batch, when it has enough errors. Where no place
+//! is lost the answers that are marked are printed too.
 
 use std::fs;
 use std::path::Path;
@@ -21,7 +22,7 @@ use reference::bits::{columns_of_bits, BITS};
 use reference::channel::{Channel, LOST, LOST_AS_ZERO};
 use reference::code::Code;
 use reference::curve::PLACES;
-use reference::decode::{table_of_columns, REPORT_BYTES};
+use reference::decode::{mark_of, table_of_columns, REPORT_BYTES};
 use reference::measured::DOUBTS;
 use reference::plot::{draw, Curve};
 use reference::proved::{PROVED_BITS, PROVED_TABLE};
@@ -48,8 +49,10 @@ const FADED: [(u64, usize, [usize; 4]); 3] = [
     (49, 8, [0, 1, 2, 3]),
 ];
 
-/// Quarters of a decibel between two points of a curve of such frames.
+/// Quarters of a decibel between two points of a curve of such frames, and between two lines of a table
+/// of marks.
 const FADED_STEP: usize = 2;
+const MARKED_STEP: usize = 2;
 
 /// Such a curve ends with the first point below this rate.
 const FADED_LEAST: f64 = 1e-3;
@@ -71,9 +74,20 @@ struct Counts {
     frames: u64,
     refused: u64,
     wrong: u64,
+    /// Answers that are marked: right ones and wrong ones.
+    marked: u64,
+    marked_wrong: u64,
 }
 
 impl Counts {
+    fn add(&mut self, other: Counts) {
+        self.frames += other.frames;
+        self.refused += other.refused;
+        self.wrong += other.wrong;
+        self.marked += other.marked;
+        self.marked_wrong += other.marked_wrong;
+    }
+
     fn errors(&self) -> u64 {
         self.refused + self.wrong
     }
@@ -87,6 +101,17 @@ impl Counts {
         match self.wrong {
             0 => format!("{errors} of {}", self.frames),
             wrong => format!("{errors} of {}, {wrong} wrong", self.frames),
+        }
+    }
+
+    /// The marked ones of the right answers, and of the wrong ones where there are any.
+    fn marked_cell(&self) -> String {
+        let right = self.frames - self.errors();
+        let percent = 100.0 * self.marked as f64 / right.max(1) as f64;
+        let marked = format!("{} of {right}, {percent:.1} %", self.marked);
+        match self.wrong {
+            0 => marked,
+            wrong => format!("{marked}; wrong {} of {wrong}", self.marked_wrong),
         }
     }
 }
@@ -137,6 +162,11 @@ fn quarters(rate: u64) -> std::ops::RangeInclusive<u64> {
 /// The first lines of a printed table.
 fn head(title: &str, columns: &[String]) {
     println!("{title}: errors of frames, and how many of them are wrong messages and not refusals, where there are any.\n");
+    name_columns(columns);
+}
+
+/// The names of a table's columns.
+fn name_columns(columns: &[String]) {
     println!("| Eb/N0 in dB | {} |", columns.join(" | "));
     println!("|---|{}", "---|".repeat(columns.len()));
 }
@@ -154,6 +184,7 @@ fn by_doubt(rate: u64, frames: u64) -> String {
         DOUBTS.len(),
     );
     head(&format!("Rate {rate}"), &names);
+    let mut marked = Vec::new();
     for quarter in quarters(rate) {
         let decibels = decibels(quarter);
         computed.add(decibels, Channel::at(rate, decibels).beyond(code.reach));
@@ -163,6 +194,14 @@ fn by_doubt(rate: u64, frames: u64) -> String {
         }
         let cells = counts.map(|counts| counts.cell());
         println!("| {decibels:.2} | {} |", cells.join(" | "));
+        let cells = counts.map(|counts| counts.marked_cell());
+        marked.push(format!("| {decibels:.2} | {} |", cells.join(" | ")));
+    }
+    println!();
+    println!("Rate {rate}: marked ones of the right answers, and of the wrong ones where there are any.\n");
+    name_columns(&names);
+    for line in marked.iter().step_by(MARKED_STEP) {
+        println!("{line}");
     }
     println!();
     eprintln!();
@@ -282,10 +321,7 @@ impl Setting {
             thread::scope(|scope| {
                 let parts: Vec<_> = (0..threads).map(|_| scope.spawn(part)).collect();
                 for part in parts {
-                    let counts = part.join().expect("a thread that ends");
-                    sum.frames += counts.frames;
-                    sum.refused += counts.refused;
-                    sum.wrong += counts.wrong;
+                    sum.add(part.join().expect("a thread that ends"));
                 }
             });
             eprint!(
@@ -314,25 +350,26 @@ impl Setting {
             values[*place] = LOST;
         }
         let mut message = vec![0; self.rate as usize];
+        let mut report = [0; REPORT_BYTES];
         let number = match self.as_zero {
-            true => self.decode_as_zero(&values, &lost, &mut message),
+            true => self.decode_as_zero(&values, &lost, &mut message, &mut report),
             false => {
                 let doubt = self.doubt as u64;
                 let values = values.as_flattened();
-                PROVED_BITS(
-                    self.rate,
-                    values,
-                    doubt,
-                    &mut message,
-                    &mut [0; REPORT_BYTES],
-                )
+                PROVED_BITS(self.rate, values, doubt, &mut message, &mut report)
             }
         };
         counts.frames += 1;
         if number != 0 {
             counts.refused += 1;
-        } else if !sent.came_back(&message) {
+            return;
+        }
+        let marked = u64::from(mark_of(&report));
+        if sent.came_back(&message) {
+            counts.marked += marked;
+        } else {
             counts.wrong += 1;
+            counts.marked_wrong += marked;
         }
     }
 
@@ -342,18 +379,13 @@ impl Setting {
         values: &[[i8; BITS]; PLACES],
         lost: &[usize],
         message: &mut [u8],
+        report: &mut [u8],
     ) -> u8 {
         let mut columns = columns_of_bits(values.as_flattened());
         for place in lost {
             columns[*place] = LOST_AS_ZERO;
         }
         let table = table_of_columns(&columns);
-        PROVED_TABLE(
-            self.rate,
-            &table,
-            self.doubt as u64,
-            message,
-            &mut [0; REPORT_BYTES],
-        )
+        PROVED_TABLE(self.rate, &table, self.doubt as u64, message, report)
     }
 }
