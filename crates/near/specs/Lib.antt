@@ -18,4 +18,5 @@ pub mod Governing
 pub mod Rivals
 pub mod Here
 pub mod LeastDistance
+pub mod Distances
 pub mod BenchSheet
