@@ -104,11 +104,13 @@ impl Counts {
         }
     }
 
-    /// The marked ones of the right answers, and of the wrong ones where there are any.
+    /// The marked ones of the right answers, the percentage rounded down, and of the wrong ones where there
+    /// are any.
     fn marked_cell(&self) -> String {
         let right = self.frames - self.errors();
-        let percent = 100.0 * self.marked as f64 / right.max(1) as f64;
-        let marked = format!("{} of {right}, {percent:.1} %", self.marked);
+        let tenths = 1000 * self.marked / right.max(1);
+        let (percent, tenth) = (tenths / 10, tenths % 10);
+        let marked = format!("{} of {right}, {percent}.{tenth} %", self.marked);
         match self.wrong {
             0 => marked,
             wrong => format!("{marked}; wrong {} of {wrong}", self.marked_wrong),
