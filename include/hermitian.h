@@ -30,11 +30,11 @@
  * its test words, and takes no blank place.
  *
  * The mark. Where it is 1 none of all 16^k codewords, near or not, costs less than the answer;
- * another may cost as much. It is 1 exactly if the total minus the sum of the 64 best costs is
- * at most the sum of the smallest 64 - M - c gaps, second cost minus best cost, of the places
- * that are not changed, where c are. No gap is summed where that number is not positive; a
- * blank place is not changed and has gap 0. A cost of 65535 means 'at least' and is summed as
- * 65535: with pinned places the mark speaks of the sums as they stand, and not of true costs.
+ * another may cost as much. With c changed places it is 1 exactly if the total minus the sum of
+ * the 64 best costs is at most the sum of the smallest 64 - M - c gaps, second cost minus best
+ * cost, of the other places. No gap is summed where that number is not positive; a blank place
+ * is among the others, with gap 0. A cost of 65535 means 'at least' and is summed as 65535:
+ * with pinned places the mark speaks of the sums as they stand, and not of true costs.
  *
  * Stack: table decoding touches some 14 kB of it without doubt, some 50 kB with eight
  * doubtful places and some 67 kB with twelve (bench/stack).

@@ -210,7 +210,8 @@ static void none_left(void)
     }
 }
 
-/* A clean frame is marked; the answer may have pinned places, whose costs are summed as 65535. */
+/* A clean frame is marked; the answer may have pinned places, whose costs are summed as 65535. At rate 52 six changed places leave one gap,
+ * which is as large as a gap may be. */
 static void ceilings(void)
 {
     put_all(0, 40);
@@ -226,6 +227,14 @@ static void ceilings(void)
     answered(by_doubt(39, 0), 39, 63u * (CEILING - 100) + 1900, 1, 1, "19 gaps of 100");
     vote(0, 1901);
     answered(by_doubt(39, 0), 39, 63u * (CEILING - 100) + 1901, 1, 0, "one more than 19 gaps of 100");
+    for (unsigned over = 0; over < 2; over++) {
+        put_all(0, CEILING);
+        for (size_t i = 0; i < 6; i++) {
+            put_place(7 * i, i == 0 ? CEILING - 5 + over : 1, CEILING);
+            put_cost(7 * i, 1, 0);
+        }
+        answered(by_doubt(52, 6), 52, CEILING + over, 6, over ? 0 : 1, "the largest gap, and one more than it");
+    }
 }
 
 /* A report of another size than 14 is refused before the doubt, and nothing is written. */
