@@ -1,36 +1,78 @@
 -- From the code's arrays to the mark: gaps below a threshold are those of unchanged places, and the mark by the excess.
 --
 --   over-none, over-made   what a place costs over its best cost, case by case
+--   plain-gap, cost-turn   the gap by the two smallest costs, and a bound of the costs passed
 --   gap-changed, gap-unchanged, small-turn   the gap at a place, and at all places passed
+--   low-reach              where fewer gaps than j are below t, the sum of the j smallest is at least t
 --   below-is, sum-is       the entries below a threshold, and their sum, are those of the unchanged places
 --   enough-above           all unchanged places have an entry below `above`
 --   low-is                 so the code's sum is that of the smallest gaps
 --   product-small          as many times a threshold as there are places fits a sum
 --   few-left               no more gaps are asked for than places are unchanged
---   marked-clean, marked-none, marked-far, marked-near   the four ends of `mark`
+--   marked-clean, marked-none, marked-clear, marked-far, marked-near   the five ends of `mark`
 use mathlib.Core.Bool.{Bool, true, false, not, cond, _&&_, true≢false}
 use mathlib.Core.Path.{_≡_, refl, sym, ap, ap₂, _∙_, subst}
 use mathlib.Core.List.{List}
 use mathlib.Core.Logic.{_≢_}
 use Prim.Native.Nat.{ℕ, suc, _+_, _-_, _*_, _<_, _≤_}
-use native.Mathlib.Nat.{mul-le-mul}
-use native.Mathlib.Decide.{ℕ-discrete}
+use native.Mathlib.Nat.{mul-le-mul, mul-le-mul-right}
+use native.Mathlib.Decide.{decLt, ℕ-discrete}
 use native.Mathlib.Omega.{arith}
 use lib.Dec.{T, eqb, ltb, leb, lt→ltb}
 use lib.ListN.{length, getD}
-use borrow.Author.Tests.{eq-eqb, ne-eqb, le-ltb, le-leb, lt-leb}
+use borrow.Author.Tests.{eq-eqb, ne-eqb, lt-ltb, le-ltb, ltb-true, le-leb, lt-leb}
 use Rattle.lists.specs.Count as Count
-use Rattle.lists.specs.Count.{bit, count, count-ext, count-mono, sumOf-ext}
-use Rattle.lists.specs.Every.{both-intro}
+use Rattle.lists.specs.Count.{bit, count, count-ext, count-mono, count-split, sumOf-ext, sumOf-mono}
+use Rattle.lists.specs.Distinct.{and-left, and-right}
+use Rattle.lists.specs.Every.{both-intro, both-left, both-right}
 use Rattle.lists.specs.Listed.{listed, listed-at}
-use Rattle.soft.specs.Column.{places, symbols, costOf, bestOf, gapOf}
+use Rattle.lists.specs.Least.{leastOf, nextOf, least-is, next-is}
+use Rattle.soft.specs.Column.{places, symbols, costOf, bestOf, secondOf, gapOf}
+use Rattle.soft.specs.ColumnLaws.{best-below, best-least, second-below, second-other, second-best}
 use Rattle.soft.specs.Blank.{flagAt}
 use Rattle.soft.specs.Total.{symbolAt, costIn, totalOf, changedAt, changedOf, changedFlags}
 use Rattle.soft.specs.TotalLaws.{changed-flag, changed-flags}
+use Rattle.soft.specs.Doubt.{fewAhead}
 use Rattle.soft.specs.Threshold.{belowOf}
 use Rattle.soft.specs.Mark.{isBelow, sumIn, lowSum, bestCost, bestTotal, plainGap, unchanged, slack, excessIn, isMarked}
-use Rattle.soft.specs.MarkLaws.{lowSum-threshold, slack-none, unchanged-count, excess-total, excess-ext}
-use Rattle.marks.specs.Low.{above, GapAt, gapsOf, Gaps, belowBy, sumBelow, Splits, LowSum, Markable}
+use Rattle.soft.specs.MarkLaws.{sumIn-same, low-count, lowSum-threshold, slack-none, unchanged-count, excess-total, excess-ext}
+use Rattle.marks.specs.Low.{above, GapAt, gapsOf, Gaps, belowBy, sumBelow, Splits, LowSum, clearOf, Markable}
+
+-- ---- one of the smallest gaps that makes up for an excess
+
+module _ (n j : ℕ) (counts : ℕ → Bool) (gap : ℕ → ℕ) (t : ℕ) (some : j ≤ count n counts) (few : belowOf n t counts gap < j) where
+  low : ℕ → Bool
+  low = fewAhead n j counts gap
+
+  large : ℕ → Bool
+  large p = low p && not (ltb (gap p) t)
+
+  small-few : count n (λ p. low p && ltb (gap p) t) ≤ belowOf n t counts gap
+  unfolding belowOf low
+  small-few =
+      count-mono n (λ p. fewAhead n j counts gap p && ltb (gap p) t) (λ p. counts p && ltb (gap p) t)
+      (λ p l u.
+      both-intro (counts p) (ltb (gap p) t) (both-left (counts p) _ (both-left (fewAhead n j counts gap p) (ltb (gap p) t) u))
+      (both-right (fewAhead n j counts gap p) (ltb (gap p) t) u))
+
+  one-large : 1 ≤ count n large
+  unfolding large low
+  one-large = omega (arith, few, small-few, low-count n j counts gap some, count-split n low (λ p. ltb (gap p) t))
+
+  pub low-reach : t ≤ lowSum n j counts gap
+  unfolding lowSum sumIn large low
+  low-reach =
+      omega (
+        arith,
+        sumOf-mono n (λ p. cond (large p) t 0) (λ p. cond (low p) (gap p) 0) (λ p l. go p (low p) (decLt (gap p) t)),
+        sumIn-same n large t,
+        mul-le-mul-right t one-large,
+      )
+    where
+      go : (p : ℕ) (b : Bool) → Dec (gap p < t) → cond (b && not (ltb (gap p) t)) t 0 ≤ cond b (gap p) 0
+      go p true (yes h) = omega (arith, ap (λ c. cond (not c) t 0) (lt-ltb (gap p) t h))
+      go p true (no h) = omega (arith, ap (λ c. cond (not c) t 0) (le-ltb (gap p) t (omega arith)))
+      go p false d = omega arith
 
 -- ---- one place
 
@@ -56,6 +98,27 @@ module _ (columns : ℕ → List ℕ) (p : ℕ) {flag : ℕ} where
   gap-unchanged n g-is column-is l =
       let e = g-is ∙ ap gapOf column-is in
       record { is = e ∙ sym (ap (λ b. cond b above (gapOf (columns p))) (ne-eqb flag 1 n)); small = λ f. subst (λ x. x < above) e l }
+
+-- the plain gap by the two smallest costs
+pub plain-gap : (column : List ℕ) {n b : ℕ} → length column ≡ n → 1 < n → ((s : ℕ) → s < n → costOf column s ≤ b) → {least next : ℕ}
+    → least ≡ leastOf b n (costOf column) → next ≡ nextOf b n (costOf column) → next - least ≡ gapOf column
+unfolding gapOf
+plain-gap column {n} {b} size wide small l x =
+    let two : 1 < length column = omega (arith, size) in
+    let best = best-below column two in
+    let second = second-below column two in
+    ap₂ (λ y z. y - z)
+    (x ∙ next-is b (costOf column) n (bestOf column) (secondOf column) (omega (arith, size)) (omega (arith, size)) (λ e. second-other column two (sym e))
+    (best-least column two (secondOf column) second) (small (secondOf column) (omega (arith, size))) (λ k h d. second-best column two .least k (omega (arith, size)) d))
+    (l ∙ least-is b (costOf column) n (bestOf column) (omega (arith, size)) (small (bestOf column) (omega (arith, size))) (λ k h. best-least column two k (omega (arith, size))))
+
+-- one symbol more
+pub cost-turn : (n : ℕ) (f : ℕ → ℕ) {b : ℕ} → ((s : ℕ) → s < n → f s ≤ b) → f n ≤ b → (s : ℕ) → s < n + 1 → f s ≤ b
+cost-turn n f {b} h l s k = go (ℕ-discrete s n)
+  where
+    go : Dec (s ≡ n) → f s ≤ b
+    go (yes e) = omega (arith, ap f e)
+    go (no e) = h s (omega arith)
 
 -- one place more
 pub small-turn : (columns : ℕ → List ℕ) (flags : List ℕ) (n : ℕ) {g : ℕ} → ((p : ℕ) → p < n → flagAt flags p ≡ false → gapOf (columns p) < above)
@@ -158,6 +221,24 @@ module _ {columns : ℕ → List ℕ} {word flags : List ℕ} {far : ℕ} (M : M
     marked-clean z = marked true (le-leb due _ (omega arith))
 
     module _ {count : ℕ} (c : count ≡ Count.count places (flagAt flags)) where
+      pub marked-clear : {gaps : List ℕ} → Gaps columns flags gaps → {r : Bool} → r ≡ true → r ≡ clearOf gaps due (far - count)
+          → 1 ≡ bit (isMarked places far columns word)
+      unfolding clearOf slack
+      marked-clear {gaps} made t k =
+          let e = sym k ∙ t in
+          let small : due < above = ltb-true due above (and-left (ltb due above) (ltb (belowBy places due gaps) (far - count)) e) in
+          let few : belowBy places due gaps < far - count =
+          ltb-true (belowBy places due gaps) (far - count) (and-right (ltb due above) (ltb (belowBy places due gaps) (far - count)) e) in
+          let q = count-is c in
+          let b = below-is columns word flags gaps made (M .changed) due (omega arith) in
+          marked true
+          (le-leb due _
+          (omega (
+            arith,
+            low-reach places (far - count) (unchanged columns word) (plainGap columns) due (few-left c) (omega (arith, b)),
+            ap (λ n. lowSum places (far - n) (unchanged columns word) (plainGap columns)) q,
+          )))
+
       pub marked-none : due ≢ 0 → far ≤ count → 0 ≡ bit (isMarked places far columns word)
       marked-none n h = marked false (lt-leb due _ (omega (arith, slack-none places far columns word (omega (arith, count-is c)))))
 

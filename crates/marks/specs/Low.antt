@@ -5,9 +5,10 @@
 --   belowBy n t gaps, sumBelow n t gaps   how many of the first n entries are below t, and their sum
 --   Splits gaps few t    at most so few entries are below t, and at least so few are up to t
 --   LowSum gaps few r    r is the sum of the entries below such a t, and t for the rest of so few
+--   clearOf gaps due few fewer entries than so few are below `due`, which is no larger than a gap may be
 --   Markable columns word flags far   the word has a symbol of its column at each place, the flags are those of its changed places, and `far` is at most
 --                        the number of places
-use mathlib.Core.Bool.{false, cond}
+use mathlib.Core.Bool.{Bool, false, cond, _&&_}
 use mathlib.Core.Path.{_≡_}
 use mathlib.Core.List.{List}
 use Prim.Native.Nat.{ℕ, suc, _+_, _-_, _*_, _<_, _≤_}
@@ -49,6 +50,9 @@ pub record LowSum (gaps : List ℕ) (few r : ℕ) : Type 0 where
   pub t : ℕ
   pub splits : Splits gaps few t
   pub is : r ≡ sumBelow places t gaps + (few - belowBy places t gaps) * t
+
+unfoldable pub clearOf : List ℕ → ℕ → ℕ → Bool
+clearOf gaps due few = ltb due above && ltb (belowBy places due gaps) few
 
 pub record Markable (columns : ℕ → List ℕ) (word flags : List ℕ) (far : ℕ) : Type 0 where
   pub wide : (p : ℕ) → p < places → length (columns p) ≡ symbols

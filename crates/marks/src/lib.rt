@@ -1,5 +1,7 @@
 // The mark of a word that no codeword of its rate undercuts, near or not: what it costs over all best costs is no more than the smallest gaps of
 // its unchanged places add up to. It knows of no code: how many places another codeword differs in at least is a number.
+mod gap;
+
 ghost use mathlib.Core.Path.{_≡_};
 ghost use mathlib.Core.Bool.{cond};
 ghost use Prim.Native.Nat.{_+_, _-_, _*_, _≤_};
@@ -9,10 +11,10 @@ ghost use Rattle.soft.specs.Column.{places, symbols, columnOf};
 ghost use Rattle.soft.specs.Blank.{flagAt};
 ghost use Rattle.soft.specs.Total.{costIn};
 ghost use Rattle.soft.specs.Mark.{bestCost, excessIn, isMarked};
-ghost use Rattle.marks.specs.Low.{above, GapAt, Gaps, belowBy, sumBelow, Splits, LowSum, Markable};
+ghost use Rattle.marks.specs.Low.{above, GapAt, Gaps, belowBy, sumBelow, Splits, LowSum, clearOf, Markable};
+use crate::gap::gap_of;
 use columns::bit::bit;
 use columns::column::best;
-use columns::column::gap;
 use columns::costs::PLACES;
 use columns::costs::byte_at;
 use columns::costs::column_of;
@@ -54,7 +56,7 @@ fn gap_at(costs: &[u16], place: usize, flag: u8) -> u32
     if flag == 1 {
         return ABOVE;
     }
-    gap(column_of(costs, place)) as u32
+    gap_of(column_of(costs, place))
 }
 
 // The gaps of the unchanged places; those of the changed ones, whose flag is 1, are above all.
@@ -148,8 +150,19 @@ fn low_sum(gaps: [u32; PLACES], few: usize) -> u32
     sum_below(gaps, limit) + rest as u32 * limit
 }
 
+// Whether fewer gaps than so few are below the excess: then one of the so few smallest ones alone makes up for it.
+fn is_clear(gaps: [u32; PLACES], due: u32, few: usize) -> bool
+    ensures { λ r. ⌜ r ≡ clearOf gaps due few ⌝ }
+{
+    if ABOVE <= due {
+        return false;
+    }
+    count_below(gaps, due) < few
+}
+
 // 1 for a word whose total, without all best costs, is at most the sum of the smallest gaps of its unchanged places, so many of them as a word
-// that differs from it in at least `far` places differs in; otherwise 0. A word without excess is marked at once.
+// that differs from it in at least `far` places differs in; otherwise 0. A word without excess is marked at once, and so is one
+// whose excess a single gap makes up for.
 pub fn mark(costs: &[u16], word: &[u8], flags: [u8; PLACES], far: usize) -> u8
     requires { ⌜ Markable (columnOf symbols (now costs)) (now word) flags far ⌝ }
     ensures { λ r. ⌜ r ≡ bit (isMarked places far (columnOf symbols (now (costs .entry))) (now (word .entry))) ⌝ }
@@ -162,7 +175,12 @@ pub fn mark(costs: &[u16], word: &[u8], flags: [u8; PLACES], far: usize) -> u8
     if far <= count {
         return 0;
     }
-    let slack = low_sum(gaps(costs, flags), far - count);
+    let near = gaps(costs, flags);
+    let few = far - count;
+    if is_clear(near, due, few) {
+        return 1;
+    }
+    let slack = low_sum(near, few);
     if slack < due {
         return 0;
     }

@@ -13,14 +13,11 @@ returns c = gap-changed _ _ (c .if1 .taken)
 column-of-requires : tie.Need-column-of-requires
 column-of-requires c κs = search needs
 
-gap-requires : tie.Need-gap-requires
-gap-requires c κs = search needs
-
-cast-result : tie.Need-cast-result
-cast-result c = search needs
+gap-of-requires : tie.Need-gap-of-requires
+gap-of-requires c κs = search needs
 
 returns-2 : tie.Need-returns-2
-returns-2 c = gap-unchanged _ _ (c .before .before .if1 .left) (c .gap .ensures) (c .before .column-of .ensures) (omega arith)
+returns-2 c = gap-unchanged _ _ (c .before .before .if1 .left) (c .gap-of .ensures .0) (c .before .column-of .ensures) (omega (arith, c .gap-of .ensures .1))
 
 pub gap-at-spec : {M : Type 1} → statement M
-gap-at-spec = tie.close (tie.spec returns column-of-requires gap-requires cast-result returns-2)
+gap-at-spec = tie.close (tie.spec returns column-of-requires gap-of-requires returns-2)

@@ -1,7 +1,7 @@
--- The four ends.
+-- The five ends.
 use borrow.Author.Needs.{needs}
 use native.Mathlib.Omega.{arith}
-use Rattle.marks.proofs.Marking.{enough-above, few-left, marked-clean, marked-none, marked-far, marked-near}
+use Rattle.marks.proofs.Marking.{enough-above, few-left, marked-clean, marked-none, marked-clear, marked-far, marked-near}
 use Rattle.marks.proofs.mark.Statement.{statement}
 use Rattle.marks.proofs.mark.Tie as tie
 
@@ -25,23 +25,31 @@ returns-2 c =
 gaps-requires : tie.Need-gaps-requires
 gaps-requires c κs = search needs
 
-sub-low-sum : tie.Need-sub-low-sum
-sub-low-sum c = search needs
+sub-few : tie.Need-sub-few
+sub-few c = search needs
 
-low-sum-requires : tie.Need-low-sum-requires
-low-sum-requires c κs =
-    let M = c .before .before .before .before .before .before .before .pre in
-    (omega (arith, M .few), omega (arith, few-left M (c .before .before .changed .ensures), enough-above _ _ _ _ (c .gaps .ensures) (M .changed)))
+is-clear-requires : tie.Need-is-clear-requires
+is-clear-requires c κs = search needs
 
 returns-3 : tie.Need-returns-3
 returns-3 c =
-    marked-far (c .before .before .before .before .before .before .before .before .before .pre) (c .before .before .before .before .before .before .excess .ensures)
-    (c .before .before .before .before .changed .ensures) (c .before .before .gaps .ensures) (c .before .low-sum .ensures) (c .if3 .taken)
+    marked-clear (c .before .before .before .before .before .before .before .before .before .pre) (c .before .before .before .before .before .before .excess .ensures)
+    (c .before .before .before .before .changed .ensures) (c .before .before .gaps .ensures) (c .if3 .taken) (c .before .is-clear .ensures)
+
+low-sum-requires : tie.Need-low-sum-requires
+low-sum-requires c κs =
+    let M = c .before .before .before .before .before .before .before .before .before .pre in
+    (omega (arith, M .few), omega (arith, few-left M (c .before .before .before .before .changed .ensures), enough-above _ _ _ _ (c .before .before .gaps .ensures) (M .changed)))
 
 returns-4 : tie.Need-returns-4
 returns-4 c =
-    marked-near (c .before .before .before .before .before .before .before .before .before .pre) (c .before .before .before .before .before .before .excess .ensures)
-    (c .before .before .before .before .changed .ensures) (c .before .before .gaps .ensures) (c .before .low-sum .ensures) (c .if3 .left)
+    marked-far (c .before .before .before .before .before .before .before .before .before .before .before .pre) (c .before .before .before .before .before .before .before .before .excess .ensures)
+    (c .before .before .before .before .before .before .changed .ensures) (c .before .before .before .before .gaps .ensures) (c .before .low-sum .ensures) (c .if4 .taken)
+
+returns-5 : tie.Need-returns-5
+returns-5 c =
+    marked-near (c .before .before .before .before .before .before .before .before .before .before .before .pre) (c .before .before .before .before .before .before .before .before .excess .ensures)
+    (c .before .before .before .before .before .before .changed .ensures) (c .before .before .before .before .gaps .ensures) (c .before .low-sum .ensures) (c .if4 .left)
 
 pub mark-spec : {M : Type 1} → statement M
 mark-spec =
@@ -53,7 +61,9 @@ mark-spec =
     cast-count
     returns-2
     gaps-requires
-    sub-low-sum
-    low-sum-requires
+    sub-few
+    is-clear-requires
     returns-3
-    returns-4)
+    low-sum-requires
+    returns-4
+    returns-5)
