@@ -7,7 +7,7 @@ use Rattle.encoding.proofs.known_rate.Tie as tie
 
 returns : tie.Need-returns
 unfolding knownRate
-returns c = rw (lt-leb leastRate (c .before .args .rate) (c .if1 .taken))
+returns c = rw (lt-leb leastRate (c .before .args .rate) (omega arith))
 
 returns-2 : tie.Need-returns-2
 unfolding knownRate
