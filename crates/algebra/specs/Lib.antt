@@ -5,6 +5,7 @@ pub mod Elimination
 pub mod Subspace
 pub mod Koetter
 pub mod Least
+pub mod Echelon
 pub mod Examples
 pub mod Power
 pub mod Weighted

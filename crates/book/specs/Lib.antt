@@ -35,6 +35,8 @@ pub mod LookUpLaws
 pub mod Reading
 pub mod ReadingLaws
 pub mod ReadingSentences
+pub mod Engine
+pub mod EngineLaws
 pub mod Bench
 pub mod AnyCalls
 pub mod Calls

@@ -4,6 +4,7 @@
 --   DoubtfulList list    at most as many places as the largest doubt, all of them the modem's, strictly rising: each smaller than the next
 --   list-fits, fits-list the lists that pass the test
 --   list-short           they are no longer than the largest doubt
+--   fits-places          places that rise strictly are different
 --   below-of             a list each of whose entries is below n passes the test for that
 --
 -- Of the modem of 64 places:
@@ -16,17 +17,19 @@
 --   rate-6, rate-39, rate-49, rate-52   four of them; rate-reaches: T without blank places at three
 use mathlib.Core.Bool.{true, _&&_}
 use mathlib.Core.Path.{_≡_, refl, subst}
-use mathlib.Core.List.{List, [], _∷_}
+use mathlib.Core.List.{List, [], _∷_, List·Memᴰ, List·Memᴰ·cases-cons, List·Memᴰ·not-nil}
+use mathlib.Core.Logic.{⊎-elim}
 use Prim.Native.Nat.{ℕ, zero, suc, _+_, _-_, _<_, _≤_}
 use native.Mathlib.Nat.{le-of-suc-le-suc}
 use native.Mathlib.Omega.{arith}
 use lib.Dec.{ltb, leb, lit≤}
 use lib.ListN.{length, getD}
 use borrow.Author.Tests.{lt-ltb, leb-true, le-leb}
-use Rattle.lists.specs.Distinct.{below, below-at, and-left, and-right, and-both}
+use Rattle.lists.specs.Distinct.{below, below-at, below-cons, and-left, and-right, and-both}
 use Rattle.code.specs.Encoding.{knownRate}
 use Rattle.code.specs.Rates.{known-bounds, bounds-known}
 use Rattle.near.specs.Reach.{reach-is}
+use Rattle.near.specs.Tree.{Places, places-nil, places-cons}
 use Rattle.near.specs.Here.{mOf, m-is, blankLimit, blank-limit-is, reachOf, Workable, workable, IsReach, limit-reach, reach-table}
 use Rattle.family.specs.Member.{m16}
 use Rattle.book.specs.Model.{Model, places}
@@ -60,8 +63,33 @@ below-of n [] h = refl
 below-of n (p ∷ list) h =
     and-both (ltb p n) (below n list) (lt-ltb p n (h 0 (omega arith))) (below-of n list (λ i l. h (suc i) (omega arith)))
 
+rising-above : (n : ℕ) (list : List ℕ) → risingFrom n list ≡ true → (q : ℕ) → List·Memᴰ q list → n ≤ q
+unfolding risingFrom
+rising-above n [] e q m = absurd (List·Memᴰ·not-nil m)
+rising-above n (p ∷ list) e q m =
+    let f : n ≤ p = leb-true n p (and-left (leb n p) (risingFrom (suc p) list) e) in
+    ⊎-elim (λ s. omega arith)
+    (λ l. omega (arith, rising-above (suc p) list (and-right (leb n p) (risingFrom (suc p) list) e) q l))
+    (List·Memᴰ·cases-cons m)
+
+-- for any number of places
+rising-places : (least n : ℕ) (list : List ℕ) → risingFrom least list ≡ true → below n list ≡ true → Places n list
+unfolding risingFrom
+rising-places least n [] e b = places-nil
+rising-places least n (p ∷ list) e b =
+    let r : risingFrom (suc p) list ≡ true = and-right (leb least p) (risingFrom (suc p) list) e in
+    let h = below-cons n p list b in
+    places-cons (h .0) (λ (m : List·Memᴰ p list). omega (arith, rising-above (suc p) list r p m)) (rising-places (suc p) n list r (h .1))
+
 module _ (𝓓 : Model) where
   open Model 𝓓 using (known, mostDoubt)
+
+  pub fits-places : (list : List ℕ) → fitPlaces 𝓓 list ≡ true → Places (places 𝓓) list
+  unfolding fitPlaces rising
+  fits-places list e =
+      let b = below (places 𝓓) list in
+      let c = risingFrom 0 list in
+      rising-places 0 (places 𝓓) list (and-right b c e) (and-left b c e)
 
   abbrev pub Known : ℕ → Type 0
   Known rate = known rate ≡ true

@@ -1,7 +1,8 @@
 -- Document 01's sentences about interpolant readings, each a theorem of the book of the modem of 64 places.
 --
---   Reads book bytes, reading-least   reading into 98 bytes shows the least Q through the row's settled places, those taken, not doubtful and not blank:
---                        each coefficient in its byte, none outside the bytes, and 0 for missing orders
+--   ShowsLeast M ns bytes   98 bytes show the least Q through the nodes: each coefficient in its byte, none outside the bytes, and 0 for missing orders;
+--                        shows-least: so does every reading
+--   Reads book bytes, reading-least   so does reading into 98 bytes, through the row's settled places, those taken, not doubtful and not blank
 --   blank-unread         a blank column at the end of the row, at a place that was free, changes no reading; blank-delivered: so no delivery of a blank
 --                        column does, whether it is accepted or refused
 --   reading-alike        books that agree read alike
@@ -17,7 +18,8 @@ use Rattle.refusals.specs.Refusal.{accepted}
 use Rattle.soft.specs.Column.{isBlank}
 use Rattle.hermitian.specs.Present.{Present}
 use Rattle.hermitian.specs.Keys.{Term, plain, timesZ, key}
-use Rattle.interpolant.specs.LeastQ.{coefficient, readingLength}
+use Rattle.family.specs.Nodes.{Node}
+use Rattle.interpolant.specs.LeastQ.{coefficient, readingLength, readingOf}
 use Rattle.interpolant.specs.Meaning.{IsLeastQ, Shown}
 use Rattle.interpolant.specs.Least.{leastQ-some}
 use Rattle.interpolant.specs.Reading.{reading-size, reading-plain, reading-z, missing-plain, missing-z, all-shown}
@@ -36,40 +38,45 @@ use Rattle.book.specs.Here.{places, columnsOf, deliverOf}
 
 -- ---- 'the … bytes of the least Q for the row's settled places', of document 02 98 of them; a blank place 'is not interpolated'
 
-pub record Reads (book : Book) (bytes : List ℕ) : Type 0 where
+pub record ShowsLeast (M : ℕ) (ns : List Node) (bytes : List ℕ) : Type 0 where
   pub q : List ℕ
   pub highest : Term
-  pub least : IsLeastQ (highestOrder book) (settledOf book) q highest
+  pub least : IsLeastQ M ns q highest
   pub size : length bytes ≡ readingLength
-  pub without-z : (o : ℕ) → o ≤ 64 → getD bytes o 0 ≡ coefficient q (key (highestOrder book) (plain o))
-  pub with-z : (o : ℕ) → o ≤ 32 → getD bytes (65 + o) 0 ≡ coefficient q (key (highestOrder book) (timesZ o))
+  pub without-z : (o : ℕ) → o ≤ 64 → getD bytes o 0 ≡ coefficient q (key M (plain o))
+  pub with-z : (o : ℕ) → o ≤ 32 → getD bytes (65 + o) 0 ≡ coefficient q (key M (timesZ o))
   -- 'It shows the least Q': all of it
-  pub all-there : (k : ℕ) → coefficient q k ≢ 0 → Shown (highestOrder book) k
+  pub all-there : (k : ℕ) → coefficient q k ≢ 0 → Shown M k
   -- 'missing orders hold 0'
   pub missing-zero : (o : ℕ) → ¬ Present 4 o → (o ≤ 64 → getD bytes o 0 ≡ 0) × (o ≤ 32 → getD bytes (65 + o) 0 ≡ 0)
+
+-- through at most as many nodes as there are places, from the smallest M on
+pub shows-least : (M : ℕ) (ns : List Node) → 11 ≤ M → length ns ≤ places → ShowsLeast M ns (readingOf M ns)
+shows-least M ns large few =
+    let l = leastQ-some M ns in
+    record {
+      q = l .0;
+      highest = l .1;
+      least = l .4;
+      size = reading-size M ns;
+      without-z = reading-plain M ns (l .2);
+      with-z = reading-z M ns (l .2);
+      all-there = all-shown M ns (l .2) large few;
+      missing-zero = λ o n. (
+        λ h. reading-plain M ns (l .2) o h ∙ missing-plain M ns (l .2) o n,
+        λ h. reading-z M ns (l .2) o h ∙ missing-z M ns (l .2) o n,
+      );
+    }
+
+abbrev pub Reads : Book → List ℕ → Type 0
+Reads book bytes = ShowsLeast (highestOrder book) (settledOf book) bytes
 
 pub reading-least : (book : Book) → Rate (book .rate) → (out : List ℕ) → length out ≡ readingLength
     → (readOf book out .number ≡ accepted) × Reads book (readOf book out .bytes)
 reading-least book rate out h =
-    let M = highestOrder book in
-    let ns = settledOf book in
-    let a = read-accepted book out h in
-    let l = leastQ-some M ns in (
+    let a = read-accepted book out h in (
       ap (λ (f : Filled). f .number) a,
-      subst (λ (f : Filled). Reads book (f .bytes)) (sym a)
-          (record {
-            q = l .0;
-            highest = l .1;
-            least = l .4;
-            size = reading-size M ns;
-            without-z = reading-plain M ns (l .2);
-            with-z = reading-z M ns (l .2);
-            all-there = all-shown M ns (l .2) (rate-orders rate) (settled-few book);
-            missing-zero = λ o n. (
-              λ h. reading-plain M ns (l .2) o h ∙ missing-plain M ns (l .2) o n,
-              λ h. reading-z M ns (l .2) o h ∙ missing-z M ns (l .2) o n,
-            );
-          }),
+      subst (λ (f : Filled). Reads book (f .bytes)) (sym a) (shows-least (highestOrder book) (settledOf book) (rate-orders rate) (settled-few book)),
     )
 
 -- ---- document 02: 'it is not interpolated'

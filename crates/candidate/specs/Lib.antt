@@ -1,3 +1,4 @@
 pub mod Ranged
 pub mod Candidate
 pub mod Marked
+pub mod Settled

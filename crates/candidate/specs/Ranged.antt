@@ -1,16 +1,20 @@
 -- The rates by their bounds.
 --
 --   Ranged k        k from the smallest rate to the largest
+--   known-range     so is every known rate
 --   workable        such a rate has a T
 --   top-small       M is at most 57
 --   reach-small     T is at most 28, however many places are blank
 --   limit-small     the limit of keys is at most 127, the largest key that a row has room for
+use mathlib.Core.Bool.{true}
+use mathlib.Core.Path.{_≡_}
 use Prim.Native.Nat.{ℕ, _≤_}
 use native.Mathlib.Omega.{arith}
 use Rattle.hermitian.specs.Orders.{orderOf-most}
 use Rattle.hermitian.specs.Repair.{limit}
 use Rattle.rows.specs.Rows.{xOrder}
-use Rattle.code.specs.Encoding.{leastRate, mostRate}
+use Rattle.code.specs.Encoding.{leastRate, mostRate, knownRate}
+use Rattle.code.specs.Rates.{known-bounds}
 use Rattle.near.specs.Here.{mOf, reachOf, Workable, genus-4, limitOf, workable as within}
 use Rattle.near.specs.Interpolated as Interpolated
 use Rattle.near.specs.Near as Near
@@ -19,6 +23,9 @@ use Rattle.hermitian.specs.Present.{genus}
 pub record Ranged (k : ℕ) : Type 0 where
   pub least : leastRate ≤ k
   pub most : k ≤ mostRate
+
+pub known-range : (k : ℕ) → knownRate k ≡ true → Ranged k
+known-range k e = let h = known-bounds k e in record { least = omega arith; most = omega arith }
 
 pub workable : {k : ℕ} → Ranged k → Workable k
 workable h = within (omega arith) (omega arith)

@@ -16,7 +16,7 @@ use Rattle.chase.specs.Call.{Asked, wellFormed, nearestOf}
 use Rattle.chase.specs.Laws.{form-asked, nearest-unasked}
 use Rattle.chase.specs.Places.{arePlaces}
 use Rattle.answers.specs.Result.{nothingFound}
-use Rattle.chase.proofs.Settling.{known-range}
+use Rattle.candidate.specs.Ranged.{known-range}
 
 module _ (rate : ℕ) (costs doubtful : List ℕ) (doubt : ℕ) where
   -- arguments that may not be asked find nothing

@@ -1,20 +1,15 @@
--- From the settled places to the root of the tree: nodes, the known rates, and the blank places.
-use mathlib.Core.Bool.{Bool, true, false, not}
-use mathlib.Core.Path.{_≡_, refl, sym, ap, _∙_, subst, subst₂}
-use mathlib.Core.List.{List, List·Memᴰ}
-use Prim.Native.Nat.{ℕ, _-_, _*_, _<_, _≤_}
+-- From the settled places to the root of the tree: the blank places, and the nodes.
+use mathlib.Core.Bool.{Bool, not}
+use mathlib.Core.Path.{_≡_, sym, ap, _∙_, subst, subst₂}
+use mathlib.Core.List.{List}
+use Prim.Native.Nat.{ℕ, _-_, _*_, _≤_}
 use native.Mathlib.Omega.{arith}
-use lib.Dec.{T}
-use lib.ListN.{length, getD, take, drop, length-take}
+use lib.ListN.{length, take, drop, length-take}
 use Rattle.lists.specs.Count.{count}
-use Rattle.lists.specs.Every.{true-T, T-true}
-use Rattle.family.specs.Member as Family
-use Rattle.family.specs.Member.{Member, m16}
-use Rattle.code.specs.Encoding.{knownRate}
-use Rattle.code.specs.Rates.{known-bounds}
-use Rattle.values.specs.Settled.{settled, settled-member, settled-only}
+use Rattle.family.specs.Member.{m16}
+use Rattle.values.specs.Settled.{settled}
 use Rattle.near.specs.Here.{mOf, limitOf, blankLimit, blanksIn}
-use Rattle.near.specs.Tree.{Places, places-unblanked, Decided}
+use Rattle.near.specs.Tree.{Places, places-unblanked}
 use Rattle.near.specs.Flags.{Flagged}
 use Rattle.interpolation.specs.Extending.{Stored}
 use Rattle.soft.specs.Column.{places, symbols, columnOf}
@@ -28,42 +23,10 @@ use Rattle.doubt.specs.Picked.{PickedOf, picked-take}
 use Rattle.chase.specs.Call.{Asked, nearestOf}
 use Rattle.chase.specs.Laws.{nearest-asked}
 use Rattle.answers.specs.Nearest.{Nearest}
-use Rattle.candidate.specs.Ranged.{Ranged}
+use Rattle.candidate.specs.Settled.{settled-decided}
 use Rattle.candidate.specs.Marked.{Marked, limit-marked}
 use Rattle.tree.specs.Searching.{SearchOf}
 use Rattle.answers.specs.Answered.{Sound, toldOf, told-is}
-
--- ---- known rates
-
-pub known-range : (k : ℕ) → knownRate k ≡ true → Ranged k
-known-range k e = let h = known-bounds k e in record { least = omega arith; most = omega arith }
-
--- ---- the nodes of the settled places
-
-module _ (word flags : List ℕ) where
-  -- those of the places that count, where the flags are 1 at the settled ones of these and nowhere else
-  decided-by : (𝓜 : Member) (counts : ℕ → Bool) (ps : List ℕ) → ((p : ℕ) → p < Family.places 𝓜 → getD flags p 0 ≡ 1 → T (counts p) × (¬ List·Memᴰ p ps))
-      → ((p : ℕ) → p < Family.places 𝓜 → T (counts p) → ¬ List·Memᴰ p ps → getD flags p 0 ≡ 1) → Decided 𝓜 counts word ps (settled word flags (Family.places 𝓜))
-  decided-by 𝓜 counts ps off on =
-      record {
-        inside = λ n m.
-            let r = settled-only word flags (Family.places 𝓜) n m in
-            let q = off (r .at) (r .below) (r .flag) in
-            (r .at, r .below, q .0, q .1, r .is);
-        covers = λ p h t n. settled-member word flags (Family.places 𝓜) p h (on p h t n);
-      }
-
-  pub settled-decided : (𝓜 : Member) (counts : ℕ → Bool) (ps : List ℕ) → Flagged (Family.places 𝓜) counts ps flags
-      → Decided 𝓜 counts word ps (settled word flags (Family.places 𝓜))
-  settled-decided 𝓜 counts ps F =
-      decided-by 𝓜 counts ps
-      (λ p h e. (lit p e (counts p) refl, λ i. let z : _≡_ {A = ℕ} 0 1 = sym (F .off p i) ∙ e in absurd (omega arith)))
-      (λ p h t n. F .on p h (T-true (counts p) t) n)
-    where
-      -- a place with the flag 1 counts
-      lit : (p : ℕ) → getD flags p 0 ≡ 1 → (b : Bool) → counts p ≡ b → T (counts p)
-      lit p e true c = true-T (counts p) c
-      lit p e false c = absurd (F .blank p c e)
 
 -- ---- the blank places
 

@@ -4,24 +4,21 @@
 --   asked-open, unasked-blank   so the search may be asked, exactly if no more places are blank than the limit
 --   fit-places         a fit doubtful list has different places, all below the number of places
 --   askable-fit        so the arguments are such at a known rate
-use mathlib.Core.Bool.{true, _&&_}
+use mathlib.Core.Bool.{true}
 use mathlib.Core.Path.{_≡_}
-use mathlib.Core.List.{List, [], _∷_, List·Memᴰ, List·Memᴰ·cases-cons, List·Memᴰ·not-nil}
-use mathlib.Core.Logic.{⊎-elim}
-use Prim.Native.Nat.{ℕ, suc, _*_, _<_, _≤_}
+use mathlib.Core.List.{List}
+use Prim.Native.Nat.{ℕ, _*_, _<_, _≤_}
 use native.Mathlib.Omega.{arith}
 use lib.Dec.{leb}
 use lib.ListN.{length, take}
-use borrow.Author.Tests.{leb-true}
-use Rattle.lists.specs.Distinct.{below, below-cons, and-left, and-right}
+use Rattle.lists.specs.Distinct.{and-right}
 use Rattle.code.specs.Encoding.{knownRate}
 use Rattle.soft.specs.Column.{places, symbols, columnOf}
 use Rattle.soft.specs.Doubt.{mostDoubt}
 use Rattle.near.specs.Here.{blankLimit, blanksIn, Places}
-use Rattle.near.specs.Tree as Family
-use Rattle.near.specs.Tree.{places-nil, places-cons}
-use Rattle.book.specs.Opening.{risingFrom, rising}
-use Rattle.book.specs.Here.{fitDoubt}
+use Rattle.book.specs.Model.{modem64}
+use Rattle.book.specs.Here.{fitPlaces, fitDoubt}
+use Rattle.book.specs.OpeningLaws.{fits-places}
 use Rattle.book.specs.Opening as BookOpening
 use Rattle.chase.specs.Call.{Asked}
 
@@ -31,32 +28,9 @@ pub record Askable (rate : ℕ) (costs doubtful : List ℕ) (doubt : ℕ) : Type
   pub few : doubt ≤ mostDoubt
   pub fit : Places (take doubt doubtful)
 
-rising-above : (n : ℕ) (list : List ℕ) → risingFrom n list ≡ true → (q : ℕ) → List·Memᴰ q list → n ≤ q
-unfolding risingFrom
-rising-above n [] e q m = absurd (List·Memᴰ·not-nil m)
-rising-above n (p ∷ list) e q m =
-    let f : n ≤ p = leb-true n p (and-left (leb n p) (risingFrom (suc p) list) e) in
-    ⊎-elim (λ s. omega arith)
-    (λ l. omega (arith, rising-above (suc p) list (and-right (leb n p) (risingFrom (suc p) list) e) q l))
-    (List·Memᴰ·cases-cons m)
-
--- for any number of places
-rising-places : (least n : ℕ) (list : List ℕ) → risingFrom least list ≡ true → below n list ≡ true → Family.Places n list
-unfolding risingFrom
-rising-places least n [] e b = places-nil
-rising-places least n (p ∷ list) e b =
-    let r : risingFrom (suc p) list ≡ true = and-right (leb least p) (risingFrom (suc p) list) e in
-    let h = below-cons n p list b in
-    places-cons (h .0) (λ (m : List·Memᴰ p list). omega (arith, rising-above (suc p) list r p m)) (rising-places (suc p) n list r (h .1))
-
 pub fit-places : (list : List ℕ) → fitDoubt list ≡ true → Places list
-unfolding BookOpening.fitDoubt BookOpening.fitPlaces rising
-fit-places list e =
-    let a = leb (length list) mostDoubt in
-    let b = below places list in
-    let c = risingFrom 0 list in
-    let f : (b && c) ≡ true = and-right a (b && c) e in
-    rising-places 0 places list (and-right b c f) (and-left b c f)
+unfolding BookOpening.fitDoubt
+fit-places list e = fits-places modem64 list (and-right (leb (length list) mostDoubt) (fitPlaces list) e)
 
 module _ (rate : ℕ) (costs doubtful : List ℕ) (doubt : ℕ) where
   pub asked-open : Askable rate costs doubtful doubt → blanksIn (columnOf symbols costs) ≤ blankLimit rate → Asked rate costs doubtful doubt

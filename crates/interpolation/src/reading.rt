@@ -51,7 +51,7 @@ fn shown(q0: [u8; PLACES], q1: [u8; PLACES], i: usize) -> u8
 }
 
 // The bytes of a multiple.
-fn scaled(q0: [u8; PLACES], q1: [u8; PLACES], by: u8) -> [u8; READING]
+pub fn scaled(q0: [u8; PLACES], q1: [u8; PLACES], by: u8) -> [u8; READING]
     ensures { λ r. ⌜ ((M : ℕ) → r ≡ listed readingLength (byteOf M (scale K16 (toF by) (polynomialOf M q0 q1)))) ⌝ }
 {
     let mut out = [0u8; READING];

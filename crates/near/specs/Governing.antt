@@ -9,7 +9,7 @@
 --   governed-outside          where c and the filled word differ in few enough places, it is so for every word outside ps
 --   Only k m t                no message but m has its codeword within T of t
 --   governed-only             so it is where the codeword of m governs t
---   governed-here             whether there is one is then whether the codeword of m is within T
+--   only-near, only-far       then it is the codeword within T, if it is, and else there is none; governed-here: whether there is one
 --   within-tests, within-some, within-none   so test words that m alone can be near are only counted: how many are near, and the answer
 use mathlib.Core.Bool.{Bool, true, false, not, _&&_, _||_, false≢true}
 use mathlib.Core.Path.{_≡_, refl, sym, ap, _∙_, subst}
@@ -120,17 +120,19 @@ module _ (𝓜 : Member) (counts : ℕ → Bool) (reach : ℕ) where
               leb→le (differingIn counts (places 𝓜) (encodeOf 𝓜 k n) t) reach (f .passed),
             )
 
-    pub governed-here : (t : List ℕ) → Only k m t → isSome (codewordNear 𝓜 counts reach k t) ≡ nearTo 𝓜 counts reach k t m
-    governed-here t only = go (nearTo 𝓜 counts reach k t m) refl
-      where
-        go : (b : Bool) → nearTo 𝓜 counts reach k t m ≡ b → isSome (codewordNear 𝓜 counts reach k t) ≡ b
-        go true e =
-            ap isSome
-            (answers-unique (word-answers 𝓜 counts reach k t)
-            (best (record { word = w; passed = subst T (sym e) tt }) (λ n f. inl (only n f))))
-        go false e =
-            ap isSome
-            (codeword-none 𝓜 counts reach k t (λ n f. subst T (ap (nearTo 𝓜 counts reach k t) (only n f) ∙ e) (f .passed)))
+    module _ (t : List ℕ) (only : Only k m t) where
+      pub only-near : nearTo 𝓜 counts reach k t m ≡ true → codewordNear 𝓜 counts reach k t ≡ some m
+      only-near e = answers-unique (word-answers 𝓜 counts reach k t) (best (record { word = w; passed = subst T (sym e) tt }) (λ n f. inl (only n f)))
+
+      pub only-far : nearTo 𝓜 counts reach k t m ≡ false → codewordNear 𝓜 counts reach k t ≡ none
+      only-far e = codeword-none 𝓜 counts reach k t (λ n f. subst T (ap (nearTo 𝓜 counts reach k t) (only n f) ∙ e) (f .passed))
+
+      pub governed-here : isSome (codewordNear 𝓜 counts reach k t) ≡ nearTo 𝓜 counts reach k t m
+      governed-here = go (nearTo 𝓜 counts reach k t m) refl
+        where
+          go : (b : Bool) → nearTo 𝓜 counts reach k t m ≡ b → isSome (codewordNear 𝓜 counts reach k t) ≡ b
+          go true e = ap isSome (only-near e)
+          go false e = ap isSome (only-far e)
 
     pub within-tests : (ts : List (List ℕ)) → ((t : List ℕ) → List·Memᴰ t ts → Only k m t)
         → testsNear 𝓜 counts reach k ts ≡ testsWithin 𝓜 counts reach (encodeOf 𝓜 k m) ts

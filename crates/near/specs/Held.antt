@@ -5,6 +5,7 @@
 --   message-in         the message of these symbols is the function's
 --   Held k word c      c is a Q through the word whose weight, half its lead, and T are less than the places that count
 --   limit-decides      so is every Q with its lead up to the limit, where so many wrong places can be repaired
+--   word-spent         where every Q through a word leads above the limit, no codeword is within T of it
 --   held-lead          where a codeword is within T of the word, its lead is that of its part with z,
 --   near-odd           an odd key,
 --   held-divides       and the quotient's message is that codeword's
@@ -35,11 +36,11 @@ use Rattle.hermitian.specs.Repair.{limit}
 use Rattle.soft.specs.TestWord.{expand}
 use Rattle.family.specs.Member.{Member, symbols, places}
 use Rattle.family.specs.Nodes.{Node, ThroughNodes}
-use Rattle.near.specs.Near.{mOf, nearTo, testsNear, answerOf}
+use Rattle.near.specs.Near.{mOf, nearTo, codewordNear, testsNear, answerOf}
 use Rattle.near.specs.Reach.{Workable, Repairable}
 use Rattle.near.specs.Codeword.{symbolsOf, symbolsOf-at, symbolFrom, messageFrom}
-use Rattle.near.specs.Laws.{none-near}
-use Rattle.near.specs.Interpolated.{limitOf, nodesOf, near-lead, near-divides}
+use Rattle.near.specs.Laws.{codeword-none, none-near}
+use Rattle.near.specs.Interpolated.{limitOf, nodesOf, near-exists, near-lead, near-divides}
 use Rattle.near.specs.Tree.{Places, Decided, decided-through, without, count-without, decided-without, near-without}
 
 module _ (𝓜 : Member) where
@@ -75,6 +76,13 @@ module _ (𝓜 : Member) (counts : ℕ → Bool) (reach : ℕ) where
   pub limit-decides : (k : ℕ) {lead : ℕ} → lead ≤ limitOf 𝓜 reach k → Repairable 𝓜 counts reach k → lead / 2 + reach < count (places 𝓜) counts
   unfolding limitOf limit
   limit-decides k unspent repairs = omega (arith, radius-decides wide (mOf 𝓜 k) reach repairs)
+
+  pub word-spent : {k : ℕ} → Workable 𝓜 k → (word : List ℕ)
+      → ((c : ℕ → GF gf) (l : ℕ) → ThroughNodes 𝓜 (mOf 𝓜 k) (nodesOf 𝓜 counts word) c → Lead (K gf) c l → limitOf 𝓜 reach k < l)
+      → codewordNear 𝓜 counts reach k word ≡ none
+  word-spent {k} rate word above =
+      codeword-none 𝓜 counts reach k word
+      (λ m f. let h = near-exists 𝓜 counts reach word rate m (f .passed) in omega (arith, h .4, above (h .0) (h .1) (h .2) (h .3)))
 
   module _ {k : ℕ} (rate : Workable 𝓜 k) {word : List ℕ} {c : ℕ → GF gf} (h : Held k word c) {m : List ℕ} (f : Found (symbols 𝓜) k (nearTo 𝓜 counts reach k word) m) where
     pub held-lead : (j : ℕ) × (h .lead ≡ 2 * (j + mOf 𝓜 k) + 1) × Lead (K gf) (withZ (K gf) (mOf 𝓜 k) c) j

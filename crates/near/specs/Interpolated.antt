@@ -3,6 +3,7 @@
 --
 --   limitOf T k          2(o + M) + 1, where T points have a locator up to the order o = orderOf w T: the largest key that decoding needs
 --   nodesOf word         the nodes of a word: each place that counts, with the word's symbol
+--   near-exists          where a codeword is within T of a word, some Q through its nodes has its lead up to the limit, and with z (an odd key)
 --   near-spent           where every odd class is spent, at some nodes of the word only, no codeword is within T of it
 --   near-lead            a row through the word whose weight, half its lead, and T are less than the places that count has its lead with z where a
 --                        codeword is within T of the word,
@@ -10,7 +11,7 @@
 use mathlib.Core.Bool.{Bool}
 use mathlib.Core.Path.{_≡_, refl, sym, ap, _∙_, subst, subst₂}
 use mathlib.Core.List.{List, List·Memᴰ}
-use Prim.Native.Nat.{ℕ, _+_, _*_, _/_, _%_, _<_}
+use Prim.Native.Nat.{ℕ, _+_, _*_, _/_, _%_, _<_, _≤_}
 use native.Mathlib.Nat.{dvd-mul-right, mod-mod-of-dvd}
 use native.Mathlib.Omega.{arith}
 use lib.Dec.{T}
@@ -116,13 +117,17 @@ module _ (𝓜 : Member) (counts : ℕ → Bool) (reach : ℕ) where
                 (arith, N .few, Distance.differing-ext (K gf) (count (places 𝓜) counts) (N .value) Z (N .value) (λ i. symbolsOf 𝓜 word (here i)) (λ i h. refl) z-here);
           })
 
+      pub near-exists : (m : List ℕ) → T (nearTo 𝓜 counts reach k word m)
+          → (c : ℕ → GF gf) × (l : ℕ) × ThroughNodes 𝓜 (mOf 𝓜 k) (nodesOf 𝓜 counts word) c × Lead (K gf) c l × (l ≤ limitOf 𝓜 reach k) × (l % 2 ≡ 1)
+      unfolding limitOf X Y Z d
+      near-exists m t = near-held (K gf) w (mOf 𝓜 k) (sampleAt 𝓜) d (nodesOf 𝓜 counts word) wide word-points (word-near m t)
+
       -- at some nodes of the word only, since what vanishes at all of them vanishes there
       pub near-spent : {classes : ℕ} → classes ≡ 2 * w → {G : ℕ → ℕ → GF gf} {l : ℕ → ℕ} (ns : List Node) → ((n : Node) → List·Memᴰ n ns → List·Memᴰ n (nodesOf 𝓜 counts word))
           → Basis (K gf) classes (limitOf 𝓜 reach k) (ThroughNodes 𝓜 (mOf 𝓜 k) ns) G l → ((r : ℕ) → r < classes → r % 2 ≡ 1 → limitOf 𝓜 reach k < l r)
           → (m : List ℕ) → T (nearTo 𝓜 counts reach k word m) → ⊥
-      unfolding limitOf X Y Z d
       near-spent {classes} twice ns some B spent m t =
-          let h = near-held (K gf) w (mOf 𝓜 k) (sampleAt 𝓜) d (nodesOf 𝓜 counts word) wide word-points (word-near m t) in
+          let h = near-exists m t in
           let r = class-lead (K gf) B (omega (arith, wide)) (common-fewer (K gf) some (h .0) (h .2)) (h .3) in
           let odd : h .1 % classes % 2 ≡ 1 = ap (λ s. h .1 % s % 2) twice ∙ mod-mod-of-dvd 2 (h .1) (dvd-mul-right 2 w) ∙ h .5 in
           omega (arith, h .4, r .1, spent (h .1 % classes) (r .0) odd)

@@ -12,12 +12,11 @@ use native.Mathlib.Omega.{arith}
 use lib.Dec.{eqb}
 use lib.ListN.{getD, take}
 use borrow.Author.Tests.{eq-eqb, ne-eqb}
-use Rattle.lists.specs.Count.{bit}
 use Rattle.lists.specs.Listed.{listed, listed-at}
 use Rattle.lists.specs.Distinct.{among}
 use Rattle.soft.specs.Column.{symbols, columnOf}
 use Rattle.soft.specs.Blank.{openAt, flagsOf}
-use Rattle.soft.specs.BlankLaws.{flags-at}
+use Rattle.soft.specs.BlankLaws.{bit-flag, flags-at}
 use Rattle.soft.specs.TestWord.{bestWord}
 use Rattle.soft.specs.TestWordLaws.{bestWord-at}
 use Rattle.family.specs.Nodes.{Node, node}
@@ -48,10 +47,6 @@ module _ (there : Bool) (doubtful : List ℕ) (p counts : ℕ) where
   unfolding flagOf
   flag-settled e d b = rw (e, d, eq-eqb counts 1 b)
 
-bit-one : (b : Bool) → eqb (bit b) 1 ≡ b
-bit-one true = refl
-bit-one false = refl
-
 module _ (s : Session) (good : Good s) (word counts flags : List ℕ) (w : word ≡ bestWord places (columnOf symbols (s .costs)))
     (o : counts ≡ flagsOf places (columnOf symbols (s .costs)))
     (f : flags ≡ listed places (readFlag (s .taken) (take (s .doubt) (s .doubtful)) counts)) where
@@ -63,7 +58,7 @@ module _ (s : Session) (good : Good s) (word counts flags : List ℕ) (w : word 
   flagged p h =
       let list = take (s .doubt) (s .doubtful) in
       ap (λ x. eqb x 1) (ap (λ (l : List ℕ). getD l p 0) f ∙ listed-at places p (readFlag (s .taken) list counts) 0 h)
-      ∙ bit-one (getD (s .taken) p false && (not (among p list) && eqb (getD counts p 0) 1))
+      ∙ bit-flag (getD (s .taken) p false && (not (among p list) && eqb (getD counts p 0) 1))
       ∙ ap (λ b. getD (s .taken) p false && (not (among p list) && b)) (opened p h) ∙ sym (settled-taken s good p)
 
   noded : (p : ℕ) → p < places → node p (getD word p 0) ≡ settledAt (bookOf s) p

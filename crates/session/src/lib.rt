@@ -43,7 +43,7 @@ pub struct Withdrawn {
 }
 
 // Whether no place is above 63 and each is above the one before it.
-fn fit_places(list: &[u8]) -> bool
+pub fn fit_places(list: &[u8]) -> bool
     ensures { λ r. ⌜ r ≡ fitPlaces (now (list .entry)) ⌝ }
 {
     let mut least: usize = 0;

@@ -3,6 +3,7 @@
 --   blank-same             a column is blank exactly if any two of its costs are equal
 --   ceiling-blank          a column whose best cost is at the ceiling is blank: no cost is larger
 --   open-count             the places that are not blank and the blank ones are all
+--   bit-flag, flag-listed, flags-listed   the flags of a test say what it says, and nowhere behind the n
 --   flags-length, flags-at  a flag for each place says whether it is not blank,
 --   flags-blanks           so many of them are not 1 as places are blank
 --   flags-open             and they say it at every place, where those behind the n are blank
@@ -24,7 +25,7 @@ use lib.ListN.{length, List·getD-eq-default}
 use borrow.Author.Tests.{eq-eqb}
 use Rattle.lists.specs.Count.{bit, count, count-nil, count-suc, count-ext}
 use Rattle.lists.specs.Every.{every, every-at, every-true, true-T}
-use Rattle.lists.specs.Listed.{listed-length, listed-at}
+use Rattle.lists.specs.Listed.{listed, listed-length, listed-at}
 use Rattle.lists.specs.Different.{Different, different-nil, different-cons}
 use Rattle.soft.specs.Column.{ceiling, costOf, columnOf, bestOf, isBlank}
 use Rattle.soft.specs.ColumnLaws.{best-least, column-length, cost-column}
@@ -69,9 +70,25 @@ open-count (suc n) columns =
       opposite (blankAt columns n),
     )
 
-flag-bit : (b : Bool) → eqb (bit b) 1 ≡ b
-flag-bit true = refl
-flag-bit false = refl
+pub bit-flag : (b : Bool) → eqb (bit b) 1 ≡ b
+bit-flag true = refl
+bit-flag false = refl
+
+module _ (n : ℕ) (f : ℕ → Bool) where
+  abbrev flags : List ℕ
+  flags = listed n (λ p. bit (f p))
+
+  pub flag-listed : (p : ℕ) → p < n → flagAt flags p ≡ f p
+  flag-listed p l = ap (λ x. eqb x 1) (listed-at n p (λ q. bit (f q)) 0 l) ∙ bit-flag (f p)
+
+  pub flags-listed : ((p : ℕ) → n ≤ p → f p ≡ false) → flagAt flags ≡ f
+  flags-listed behind = fun-ext (λ p. at p (decLt p n))
+    where
+      at : (p : ℕ) → Dec (p < n) → flagAt flags p ≡ f p
+      at p (yes l) = flag-listed p l
+      at p (no l) =
+          let b : length flags ≤ p = omega (arith, listed-length n (λ q. bit (f q))) in
+          ap (λ x. eqb x 1) (List·getD-eq-default flags 0 b) ∙ sym (behind p (omega arith))
 
 pub flags-length : (n : ℕ) (columns : ℕ → List ℕ) → length (flagsOf n columns) ≡ n
 unfolding flagsOf
@@ -79,16 +96,11 @@ flags-length n columns = listed-length n (λ p. bit (openAt columns p))
 
 pub flags-at : (n : ℕ) (columns : ℕ → List ℕ) (p : ℕ) → p < n → flagAt (flagsOf n columns) p ≡ openAt columns p
 unfolding flagsOf
-flags-at n columns p l = ap (λ x. eqb x 1) (listed-at n p (λ q. bit (openAt columns q)) 0 l) ∙ flag-bit (openAt columns p)
+flags-at n columns p l = flag-listed n (openAt columns) p l
 
 pub flags-open : (n : ℕ) (columns : ℕ → List ℕ) → ((p : ℕ) → n ≤ p → isBlank (columns p) ≡ true) → flagAt (flagsOf n columns) ≡ openAt columns
-flags-open n columns behind = fun-ext (λ p. at p (decLt p n))
-  where
-    at : (p : ℕ) → Dec (p < n) → flagAt (flagsOf n columns) p ≡ openAt columns p
-    at p (yes l) = flags-at n columns p l
-    at p (no l) =
-        let b : length (flagsOf n columns) ≤ p = omega (arith, flags-length n columns) in
-        ap (λ x. eqb x 1) (List·getD-eq-default (flagsOf n columns) 0 b) ∙ sym (ap not (behind p (omega arith)))
+unfolding flagsOf
+flags-open n columns behind = flags-listed n (openAt columns) (λ p h. ap not (behind p h))
 
 -- so the flags that are not 1 are those of the blank places
 pub flags-blanks : (n : ℕ) (columns : ℕ → List ℕ) → count n (λ p. not (flagAt (flagsOf n columns) p)) ≡ blanksOf n columns

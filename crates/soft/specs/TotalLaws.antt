@@ -28,10 +28,9 @@ use lib.ListN.{length, set, length-append, length-set}
 use lib.Seq.{ext-getD, getD-set-same, getD-set-other}
 use borrow.Author.Tests.{lt-ltb, eq-eqb, ne-eqb, not-false}
 use Rattle.lists.specs.Count.{bit, sumOf, sumOf-suc, sumOf-ext, sumOf-mono, sumOf-plus, sumOf-bound, count, count-nil, count-suc, count-ext, count-le, count-mono, count-none, count-zero, count-but}
-use Rattle.lists.specs.Listed.{listed-at}
 use Rattle.soft.specs.Column.{costOf, bestOf, ceiling, isBlank}
 use Rattle.soft.specs.Blank.{openAt, flagAt}
-use Rattle.soft.specs.BlankLaws.{blank-same}
+use Rattle.soft.specs.BlankLaws.{blank-same, flag-listed}
 use Rattle.soft.specs.TestWord.{bestAt, bestWord}
 use Rattle.soft.specs.Total.{symbolAt, costIn, totalOf, pinnedAt, pinnedOf, changedAt, changedOf, changedFlags, agree, differAt, everywhere, differingIn, differing, bytesOf, marginBytes, reportOf}
 use Rattle.soft.specs.TestWordLaws.{bestWord-length, bestWord-at}
@@ -334,12 +333,7 @@ reportOf-length wide total tests pinned changed margin mark =
 module _ (n : ℕ) (columns : ℕ → List ℕ) (word : List ℕ) where
   pub changed-flag : (p : ℕ) → p < n → flagAt (changedFlags n columns word) p ≡ changedAt columns word p
   unfolding changedFlags
-  changed-flag p l =
-      ap (λ x. eqb x 1) (listed-at n p (λ q. bit (changedAt columns word q)) 0 l) ∙ bit-one (changedAt columns word p)
-    where
-      bit-one : (b : Bool) → eqb (bit b) 1 ≡ b
-      bit-one true = refl
-      bit-one false = refl
+  changed-flag p l = flag-listed n (changedAt columns word) p l
 
   pub changed-flags : count n (flagAt (changedFlags n columns word)) ≡ changedOf n columns word
   unfolding changedOf

@@ -10,7 +10,8 @@ use Rattle.chase.specs.Laws.{asked-form}
 use Rattle.answers.specs.Answered.{Sound, sound-nothing}
 use Rattle.candidate.specs.Ranged.{top-small, limit-small}
 use Rattle.candidate.specs.Marked.{Marked}
-use Rattle.chase.proofs.Settling.{known-range, blank-number, marked, picked-few, root}
+use Rattle.candidate.specs.Ranged.{known-range}
+use Rattle.chase.proofs.Settling.{blank-number, marked, picked-few, root}
 use Rattle.chase.proofs.Asking.{unasked, unasked-rate, unasked-doubt, unasked-form, unasked-blank}
 use borrow.Author.Needs.{needs}
 use Rattle.chase.proofs.nearest.Statement.{statement}

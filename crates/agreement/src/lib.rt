@@ -1,0 +1,1 @@
+// That the elimination engine and the tree agree on a test word, of the contracts of both: theory alone.

@@ -1,0 +1,3 @@
+pub mod Monomials
+pub mod Clearing
+pub mod Keys

@@ -1,0 +1,3 @@
+pub mod Terms
+pub mod Reducing
+pub mod Solving
