@@ -48,13 +48,13 @@ none≢some e = subst (λ (o : Option (List ℕ)). go o) e tt
     go none = Unit {0}
     go (some m) = ⊥
 
-module _ {k : ℕ} {word blanks codeword q : List ℕ} (P : EnginePassed k word blanks (length codeword) (length q)) {columns : ℕ → List ℕ}
+module _ (k : ℕ) (word blanks codeword q : List ℕ) (P : EnginePassed k word blanks (length codeword) (length q)) (columns : ℕ → List ℕ)
     (blank : BlankAt blanks columns) where
   abbrev call : Eliminated
   call = engineOf k word blanks codeword q
 
   answer-is : answerOf k columns (word ∷ []) ≡ nearBy k blanks word
-  answer-is = answer-one (P .fit) blank k word (P .known) (P .few)
+  answer-is = answer-one blanks (P .fit) columns blank k word (P .known) (P .few)
 
   pub engine-agrees : {f : Found} → Nearest k columns (word ∷ []) f → Sound k columns f → Agrees call f
   engine-agrees {f} N S = go (f .answer) refl
@@ -97,12 +97,12 @@ no-doubt : (columns : ℕ → List ℕ) → testWords places columns [] ≡ best
 unfolding testWords
 no-doubt columns = ap (expand columns (bestWord places columns)) (unblanked-nil (openAt columns)) ∙ expand-nil columns (bestWord places columns)
 
-module _ {k : ℕ} {word blanks codeword q : List ℕ} (P : EnginePassed k word blanks (length codeword) (length q)) {costs : List ℕ}
+module _ (k : ℕ) (word blanks codeword q : List ℕ) (P : EnginePassed k word blanks (length codeword) (length q)) (costs : List ℕ)
     (blank : BlankAt blanks (columnOf symbols costs)) (is-best : word ≡ bestWord places (columnOf symbols costs)) where
   pub engine-nearest : (doubtful : List ℕ) → Asked k costs doubtful 0 → {f : Found} → f ≡ nearestOf k costs doubtful 0
       → Agrees (engineOf k word blanks codeword q) f
   engine-nearest doubtful asked {f} e =
-      engine-agrees P blank
+      engine-agrees k word blanks codeword q P (columnOf symbols costs) blank
       (subst (λ ts. Nearest k (columnOf symbols costs) ts f) tests (nearest-call k costs doubtful 0 f e .asked asked))
       (subst (Sound k (columnOf symbols costs)) (sym (e ∙ nearest-asked k costs doubtful 0 asked))
       (found-sound k (columnOf symbols costs) (testWords places (columnOf symbols costs) (take 0 doubtful)) (known-bounds k (asked .known) .1)))

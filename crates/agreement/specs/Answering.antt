@@ -34,7 +34,7 @@ use Rattle.book.specs.EngineLaws.{unblanked-count, unblanked-repairs}
 abbrev pub BlankAt : List ℕ → (ℕ → List ℕ) → Type 0
 BlankAt blanks columns = (p : ℕ) → p < places → openAt columns p ≡ unblankedBy blanks p
 
-module _ {blanks : List ℕ} (fit : fitPlaces blanks ≡ true) {columns : ℕ → List ℕ} (same : BlankAt blanks columns) where
+module _ (blanks : List ℕ) (fit : fitPlaces blanks ≡ true) (columns : ℕ → List ℕ) (same : BlankAt blanks columns) where
   pub same-number : blanksIn columns ≡ length blanks
   same-number =
       omega (arith, open-count places columns, unblanked-count blanks fit, count-ext places (openAt columns) (unblankedBy blanks) same)
