@@ -21,7 +21,7 @@ nobody-requires : tie.Need-nobody-requires
 nobody-requires c κs = search needs
 
 returns : tie.Need-returns
-returns c = none-solved (c .before .before .before .before .before .before .pre .0) _ _ (c .before .before .before .before .before .before .pre .1) (c .before .before .before .before .before .before .pre .2) (c .before .before .before .before .top-order .ensures) (c .before .before .before .before .before .largest-key .ensures) (c .before .before .before .solve .ensures) (c .before .if1 .taken) (c .nobody .ensures)
+returns c = none-solved (c .before .before .before .before .before .before .pre .0) _ _ (c .before .before .before .before .before .before .pre .1) (c .before .before .before .before .before .before .pre .2) (c .before .before .before .before .top-order .ensures) (c .before .before .before .before .before .largest-key .ensures) (c .before .before .before .solve .ensures) (omega (arith, c .before .if1 .taken)) (c .nobody .ensures)
 
 candidate-of-requires : tie.Need-candidate-of-requires
 candidate-of-requires c κs = c .before .before .before .before .before .before .pre .0
@@ -36,7 +36,7 @@ nobody-requires-2 : tie.Need-nobody-requires-2
 nobody-requires-2 c κs = search needs
 
 returns-2 : tie.Need-returns-2
-returns-2 c = far-solved (c .before .before .before .before .before .before .before .before .before .before .before .before .pre .0) _ _ (c .before .before .before .before .before .before .before .before .before .before .before .before .pre .1) (c .before .before .before .before .before .before .before .before .before .before .before .before .pre .2) (c .before .before .before .before .before .before .before .before .before .before .top-order .ensures) (c .before .before .before .before .before .before .before .before .before .before .before .largest-key .ensures) (c .before .before .before .before .before .before .before .before .before .solve .ensures) (c .before .before .before .before .before .before .before .if1 .left) (c .before .before .before .before .before .candidate-of .ensures) (c .before .before .before .reach .ensures) (c .before .before .distance .ensures) (c .before .if2 .taken) (c .nobody2 .ensures)
+returns-2 c = far-solved (c .before .before .before .before .before .before .before .before .before .before .before .before .pre .0) _ _ (c .before .before .before .before .before .before .before .before .before .before .before .before .pre .1) (c .before .before .before .before .before .before .before .before .before .before .before .before .pre .2) (c .before .before .before .before .before .before .before .before .before .before .top-order .ensures) (c .before .before .before .before .before .before .before .before .before .before .before .largest-key .ensures) (c .before .before .before .before .before .before .before .before .before .solve .ensures) (omega (arith, c .before .before .before .before .before .before .before .if1 .left)) (c .before .before .before .before .before .candidate-of .ensures) (c .before .before .before .reach .ensures) (c .before .before .distance .ensures) (omega (arith, c .before .if2 .taken)) (c .nobody2 .ensures)
 
 without-z-requires : tie.Need-without-z-requires
 without-z-requires c κs = search needs
@@ -48,7 +48,7 @@ scaled-requires : tie.Need-scaled-requires
 scaled-requires c κs = search needs
 
 returns-3 : tie.Need-returns-3
-returns-3 c = near-solved (c .before .before .before .before .before .before .before .before .before .before .before .before .before .before .pre .0) _ _ (c .before .before .before .before .before .before .before .before .before .before .before .before .before .before .pre .1) (c .before .before .before .before .before .before .before .before .before .before .before .before .before .before .pre .2) (c .before .before .before .before .before .before .before .before .before .before .before .before .top-order .ensures) (c .before .before .before .before .before .before .before .before .before .before .before .before .before .largest-key .ensures) (c .before .before .before .before .before .before .before .before .before .before .before .solve .ensures) (c .before .before .before .before .before .before .before .before .before .if1 .left) (c .before .before .before .before .before .before .before .candidate-of .ensures) (c .before .before .before .before .before .reach .ensures) (c .before .before .before .before .distance .ensures) (c .before .before .before .if2 .left) refl (c .before .before .without-z .ensures) (c .before .with-z .ensures) (c .scaled .ensures _) refl
+returns-3 c = near-solved (c .before .before .before .before .before .before .before .before .before .before .before .before .before .before .pre .0) _ _ (c .before .before .before .before .before .before .before .before .before .before .before .before .before .before .pre .1) (c .before .before .before .before .before .before .before .before .before .before .before .before .before .before .pre .2) (c .before .before .before .before .before .before .before .before .before .before .before .before .top-order .ensures) (c .before .before .before .before .before .before .before .before .before .before .before .before .before .largest-key .ensures) (c .before .before .before .before .before .before .before .before .before .before .before .solve .ensures) (omega (arith, c .before .before .before .before .before .before .before .before .before .if1 .left)) (c .before .before .before .before .before .before .before .candidate-of .ensures) (c .before .before .before .before .before .reach .ensures) (c .before .before .before .before .distance .ensures) (omega (arith, c .before .before .before .if2 .left)) refl (c .before .before .without-z .ensures) (c .before .with-z .ensures) (c .scaled .ensures _) refl
 
 pub decide-spec : {M : Type 1} → statement M
 decide-spec =

@@ -25,7 +25,7 @@ tried-requires : tie.Need-tried-requires Inv-loop μ-loop
 tried-requires c κs = search needs
 
 returns : tie.Need-returns Inv-loop μ-loop
-returns c = key-found (c .before .before .before .before .before .loop .inv .2) (c .before .before .tried .ensures) (c .before .before .before .before .before .before .planes .ensures) (c .if1 .taken) (c .before .before .before .before .loop-test .taken)
+returns c = key-found (c .before .before .before .before .before .loop .inv .2) (c .before .before .tried .ensures) (c .before .before .before .before .before .before .planes .ensures) (omega (arith, c .if1 .taken)) (c .before .before .before .before .loop-test .taken)
 
 keep-requires : tie.Need-keep-requires Inv-loop μ-loop
 keep-requires c κs = c .before .before .before .before .before .before .loop .inv .1
