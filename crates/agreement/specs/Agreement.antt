@@ -34,7 +34,7 @@ use Rattle.chase.specs.Laws.{nearest-asked, nearest-call}
 use Rattle.book.specs.Here.{places}
 use Rattle.book.specs.Engine.{nearBy, Eliminated, engineOf}
 use Rattle.book.specs.EngineLaws.{EnginePassed, engine-none, engine-some, engine-fits}
-use Rattle.agreement.specs.Answering.{BlankAt, answer-one}
+use Rattle.book.specs.Single.{BlankAt, answer-one}
 
 pub record Agrees (call : Eliminated) (f : Found) : Type 0 where
   pub nobody : (call .number ≡ noneNear) ↔ (f .answer ≡ NoneNear)

@@ -37,6 +37,7 @@ pub mod ReadingLaws
 pub mod ReadingSentences
 pub mod Engine
 pub mod EngineLaws
+pub mod Single
 pub mod Bench
 pub mod AnyCalls
 pub mod Calls
