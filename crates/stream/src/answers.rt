@@ -1,36 +1,18 @@
 // The answer to each call: the refusal's number or 0, then all bytes of the lent buffers; to a look-up, the part's length and the part.
 // Each call takes the session and hands back the one that it leaves. The calls themselves are made by `runs`.
 use crate::bytes;
+use crate::bytes::lent;
+use crate::bytes::write;
+use crate::bytes::write_byte;
 use columns::costs::SYMBOLS;
-use libc::STDOUT_FILENO;
 use runs::Kind;
 use session::Session;
 ghost use mathlib.Core.Path.{_≡_};
 ghost use Prim.Native.Nat.{_≤_};
-ghost use lib.ListN.{length};
 ghost use Rattle.soft.specs.Column.{symbols, costsFrom};
 ghost use Rattle.book.specs.CaptureOpening.{openCaptureOf};
 ghost use Rattle.book.specs.Here.{openOf};
 ghost use Rattle.stream.specs.Changes.{delivered, withdrawn, changeBy, numberedChange, changeOf, StandsFor, Leaves};
-
-// What lent buffers hold before a call.
-const LENT: u8 = 0xEE;
-
-// Space for a lent buffer. The `ensures` gives its length, which lending a part of it needs.
-fn lent() -> [u8; 4096]
-    ensures { λ r. ⌜ 4096 ≡ length r ⌝ }
-{
-    [LENT; 4096]
-}
-
-// Nothing is known of what a write does to standard output, so the writers ensure nothing.
-fn write(bytes: &[u8]) {
-    io::write_all(STDOUT_FILENO, bytes);
-}
-
-fn write_byte(byte: u8) {
-    write(&[byte]);
-}
 
 fn write_number(number: usize) {
     write_byte((number / 256 % 256) as u8);
