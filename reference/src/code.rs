@@ -143,7 +143,7 @@ pub fn check_size<T>(buffer: &[T], size: usize) -> Result<(), Refusal> {
     }
 }
 
-fn check_symbols(symbols: &[u8]) -> Result<(), Refusal> {
+pub(crate) fn check_symbols(symbols: &[u8]) -> Result<(), Refusal> {
     if symbols.iter().all(|symbol| *symbol <= 15) {
         Ok(())
     } else {

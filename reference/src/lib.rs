@@ -5,7 +5,9 @@
 //! - the points of the curve are searched for, the monomials enumerated ([`curve`]);
 //! - encoding sums monomials, reading back solves linear equations ([`code`], [`linear`]), with one code
 //!   for each rate from 6 to 52;
-//! - the least Q is found by elimination over its terms ([`least`]);
+//! - the least Q is found by elimination over its terms ([`least`]); for the elimination engine's call, which
+//!   does so itself, by Kötter's steps on rows of coefficients ([`steps`]), and the codeword without it
+//!   ([`engine`]);
 //! - each test word is decoded by itself, with an error locator and checks from which blank places
 //!   are eliminated, and of a tree of 4,096 the first one's syndromes serve all ([`nearest`]); answer and
 //!   margin are the first two totals of all codewords found ([`decode`]);
@@ -41,17 +43,18 @@
 //! those between codewords at least distance, [`fades`] those with consecutive places of noise, [`damage`]
 //! captures with faults, [`versions`] those of both versions with each fault, [`arrivals`] five sorts of
 //! order in which places arrive, [`below_frames`] thresholds and maxima, [`bit_frames`] bit values, all at
-//! rates 39 and 49; [`rates`] makes frames at every rate around what the rule decides there, and
-//! [`mark_frames`] around what the mark does. The binary `compare` runs them in two ways. It counts the
-//! frames with each number of doubtful places, with blank ones and with a margin, the tables in which a
-//! pinned second is not chosen as doubtful, the captures of both versions, with what wrong rules would make
-//! of them, those written after each sort of order, the withdrawals of each sort, the sorts of fades, those
-//! of thresholds, with what wrong rules would lead to ([`slips`]), those of bit values and those of rates,
-//! with what wrong rules would lead to, those of marks, with what wrong rules would mark ([`mark_slips`]),
-//! and fails where they are too few to try it ([`doubts`], [`blanks`], [`margins`], [`choices`],
-//! [`version_counts`], [`written`], [`withdrawals`], [`fade_counts`], [`below_counts`], [`bit_counts`],
-//! [`rate_counts`], [`mark_counts`]). That a marked answer costs least is tried at small rates by a search
-//! through all codewords ([`cheapest`]).
+//! rates 39 and 49; [`rates`] makes frames at every rate around what the rule decides there,
+//! [`mark_frames`] around what the mark does, and [`engine_words`] calls of the elimination engine. The
+//! binary `compare` runs them in two ways. It counts the frames with each number of doubtful places, with
+//! blank ones and with a margin, the tables in which a pinned second is not chosen as doubtful, the captures
+//! of both versions, with what wrong rules would make of them, those written after each sort of order, the
+//! withdrawals of each sort, the sorts of fades, those of thresholds, with what wrong rules would lead to
+//! ([`slips`]), those of bit values and those of rates, with what wrong rules would lead to, those of marks,
+//! with what wrong rules would mark ([`mark_slips`]), those of the engine's calls, with what wrong rules
+//! would answer ([`engine_slips`]), and fails where they are too few to try it ([`doubts`], [`blanks`],
+//! [`margins`], [`choices`], [`version_counts`], [`written`], [`withdrawals`], [`fade_counts`],
+//! [`below_counts`], [`bit_counts`], [`rate_counts`], [`mark_counts`], [`engine_counts`]). That a marked
+//! answer costs least is tried at small rates by a search through all codewords ([`cheapest`]).
 //!
 //! Calls that cross as numbers and byte slices are linked: with the feature `proved`, and with
 //! `MODEM_LIB_DIR` naming the folder of `libmodem.a`, `compare code`, `compare tables`, `compare below`,
@@ -61,8 +64,9 @@
 //! Sessions and captures are compared by stream: a program reads calls on its standard input and writes
 //! answers on its standard output, laid out as in [`calls`]; `compare run` starts it on the lists of
 //! [`call_lists`] and [`withdrawal_lists`] and names the first answer that differs, and `compare fades`,
-//! `compare rates` and `compare marks` on a session for each of their frames. `compare shows` does the same
-//! with a program that prints as `show` does, and so does `compare rates`.
+//! `compare rates` and `compare marks` on a session for each of their frames. `compare engines` does the same
+//! with a program that answers the engine's calls, and `compare shows` with one that prints as `show` does;
+//! so does `compare rates`.
 //!
 //! ```text
 //! cargo test --offline
@@ -76,7 +80,8 @@
 //! calls of [`measured`], `worst` by `bench/worst`, which draws frames in search of those that cost most
 //! ([`worst`]), `error_rates` by `bench/error-rates`, which sends codewords through a [`channel`]
 //! ([`sent`]) and draws curves ([`plot`]), and `thresholds` by `bench/thresholds`, which decodes the same
-//! frames by doubt and by threshold. What a call costs is counted by [`counted`].
+//! frames by doubt and by threshold. What a call costs is counted by [`counted`]. `bench/engines` counts
+//! calls that `compare engine` writes.
 
 pub mod arrivals;
 pub mod below_counts;
@@ -97,6 +102,10 @@ pub mod curve;
 pub mod damage;
 pub mod decode;
 pub mod doubts;
+pub mod engine;
+pub mod engine_counts;
+pub mod engine_slips;
+pub mod engine_words;
 pub mod fade_counts;
 pub mod fades;
 pub mod faults;
@@ -126,6 +135,7 @@ pub mod session;
 pub mod show;
 pub mod slips;
 pub mod soft;
+pub mod steps;
 pub mod streams;
 pub mod trials;
 pub mod version_counts;

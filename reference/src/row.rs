@@ -2,7 +2,7 @@
 //!
 //! - [`Row`]: 64 elements by lane; a word has its places as lanes.
 //! - [`Row::add_scaled`], [`Row::product`], [`Row::dot`]: arithmetic on all lanes at once, by the
-//!   same bit rule as [`crate::field::times`].
+//!   same bit rule as [`crate::field::times`]; [`Row::shifted`]: every element one lane up.
 
 /// The number of lanes, which is also the number of places.
 pub const LANES: usize = 64;
@@ -89,6 +89,18 @@ impl Row {
         (sum & 15) as u8
     }
 
+    /// Each element in the next lane; the last one is zero.
+    pub fn shifted(&self) -> Row {
+        assert_eq!(self.get(LANES - 1), 0, "no lane for the last element");
+        let mut row = Row::default();
+        let mut carried = 0;
+        for (part, from) in row.0.iter_mut().zip(self.0) {
+            *part = from << 4 | carried;
+            carried = from >> 60;
+        }
+        row
+    }
+
     /// The lowest lane that is not zero.
     pub fn lowest(&self) -> Option<usize> {
         let part = self.0.iter().position(|part| *part != 0)?;
@@ -129,6 +141,16 @@ mod tests {
         row.set(17, 6);
         assert_eq!((row.get(16), row.get(17), row.get(18)), (15, 6, 15));
         assert_eq!(Row::from_elements(row.elements()), row);
+    }
+
+    #[test]
+    fn shifting_moves_every_element_one_lane_up() {
+        let mut random = Random::new(5, 0);
+        let mut row = random_row(&mut random);
+        row.set(LANES - 1, 0);
+        let shifted = row.shifted().elements();
+        assert_eq!(shifted[0], 0);
+        assert_eq!(shifted[1..], row.elements()[..LANES - 1]);
     }
 
     #[test]

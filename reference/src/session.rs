@@ -149,10 +149,17 @@ impl Session {
 
 /// A doubtful list longer than the limit, "with a place above 63 or not strictly rising" is refused.
 pub fn check_doubtful(doubtful: &[u8]) -> Result<(), Refusal> {
-    let short = doubtful.len() <= DOUBT_LIMIT;
-    let in_range = doubtful.iter().all(|place| usize::from(*place) < PLACES);
-    let rising = doubtful.windows(2).all(|pair| pair[0] < pair[1]);
-    if short && in_range && rising {
+    if doubtful.len() > DOUBT_LIMIT {
+        return Err(Refusal::Doubt);
+    }
+    check_places(doubtful)
+}
+
+/// A list of places, however long.
+pub(crate) fn check_places(places: &[u8]) -> Result<(), Refusal> {
+    let in_range = places.iter().all(|place| usize::from(*place) < PLACES);
+    let rising = places.windows(2).all(|pair| pair[0] < pair[1]);
+    if in_range && rising {
         Ok(())
     } else {
         Err(Refusal::Doubt)

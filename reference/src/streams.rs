@@ -4,6 +4,8 @@
 //!   answers, as [`crate::calls`] lays them out. The [`Tally`] says what was compared.
 //! - [`compare_fades`]: the same with a session for each fade; [`compare_rates`]: with one for each of the
 //!   frames at every rate; [`compare_marks`]: with one for each of those for the mark.
+//! - [`compare_engines`]: a program that answers calls of the elimination engine, as [`crate::engine`] lays
+//!   them out.
 //! - [`compare_shows`]: a process for each capture, valid or damaged, that prints as `show` does;
 //!   [`Shown`] says what was compared; [`compare_rate_shows`]: the captures of frames at every rate.
 
@@ -20,6 +22,8 @@ use crate::capture::open_capture;
 use crate::damage::{capture_of, damaged};
 use crate::decode::{margin_of, mark_of, REPORT_BYTES};
 use crate::doubts::{Came, Doubts};
+use crate::engine_counts::EngineCounts;
+use crate::engine_words::{turns, EngineWord, ROUNDS};
 use crate::fade_counts::FadeCounts;
 use crate::fades::Fade;
 use crate::frames::{Frame, Kind};
@@ -282,6 +286,42 @@ pub fn check_marks(
                 counts.count(&frame, expected[0], message, report);
             }
         }
+    }
+    nothing_after(rest)?;
+    Ok(counts)
+}
+
+/// Runs a program on calls of the elimination engine at every rate. What was compared, or a line that names
+/// the first difference.
+pub fn compare_engines(program: &[String], seed: u64) -> Result<EngineCounts, String> {
+    let turns = turns();
+    let shares = in_shares((turns.len() * ROUNDS) as u64, |numbers| {
+        let words: Vec<EngineWord> = numbers
+            .map(|number| EngineWord::made(&turns, seed, number))
+            .collect();
+        let calls = words.iter().flat_map(|word| word.call.bytes()).collect();
+        check_engines(&words, &output_of(program, calls)?)
+    })?;
+    let mut sum = EngineCounts::default();
+    for counts in shares {
+        sum.add(counts);
+    }
+    Ok(sum)
+}
+
+/// Checks a program's answers to these calls, the engine's and the tree's.
+pub fn check_engines(words: &[EngineWord], answers: &[u8]) -> Result<EngineCounts, String> {
+    let mut rest = answers;
+    let mut counts = EngineCounts::default();
+    for word in words {
+        let answer = word.call.answer();
+        let expected = answer.bytes();
+        rest = rest.strip_prefix(&expected[..]).ok_or_else(|| {
+            let EngineWord { rate, turn, .. } = word;
+            let difference = difference(&expected, rest);
+            format!("engine at rate {rate}, {turn:?}: {difference}")
+        })?;
+        counts.count(word, &answer);
     }
     nothing_after(rest)?;
     Ok(counts)
@@ -613,6 +653,28 @@ mod tests {
         }
         assert!(check_answers(&frames, &answers[1..]).is_err());
         assert!(check_answers(&frames, &[&answers[..], &[0]].concat()).is_err());
+    }
+
+    /// Of the engine's answers too, and of the tree's beside them.
+    #[test]
+    fn engine_answers_are_compared_byte_by_byte() {
+        let turns = turns();
+        let numbers = (0..turns.len() as u64).step_by(251);
+        let words: Vec<EngineWord> = numbers.map(|n| EngineWord::made(&turns, 78, n)).collect();
+        let right = |word: &EngineWord| word.call.answer().bytes();
+        let answers: Vec<u8> = words.iter().flat_map(right).collect();
+        let counts = check_engines(&words, &answers).unwrap();
+        assert_eq!(counts.calls(), words.len() as u64);
+        let mut random = Random::new(79, 0);
+        for _ in 0..20 {
+            let mut wrong = answers.clone();
+            let at = random.below(wrong.len());
+            wrong[at] ^= 1;
+            let line = check_engines(&words, &wrong).unwrap_err();
+            assert!(line.starts_with("engine at rate"), "{line}");
+        }
+        assert!(check_engines(&words, &answers[..answers.len() - 1]).is_err());
+        assert!(check_engines(&words, &[&answers[..], &[0]].concat()).is_err());
     }
 
     #[test]

@@ -10,12 +10,14 @@ use reference::blanks::{OF_CAPTURES, OF_LISTS};
 use reference::calls::{answer_all, Call};
 use reference::damage::capture_of;
 use reference::decode::{decode, test_words};
+use reference::engine::answer_engine_calls;
+use reference::engine_words::measured_calls;
 use reference::frames::{frame, frame_s, Frame, Kind, RATES};
 use reference::nearest::Finder;
 use reference::random::Random;
 use reference::show::show;
 use reference::soft::DOUBT_LIMIT;
-use reference::streams::{chosen_calls, compare_calls, compare_shows, Shown};
+use reference::streams::{chosen_calls, compare_calls, compare_engines, compare_shows, Shown};
 use reference::version_counts::By;
 
 const USAGE: &str = "\
@@ -27,6 +29,10 @@ compare example [nine|six]                  write the capture of the bench sheet
                                             with none doubtful
 compare show                                read a capture, print what `show` prints
 compare shows SEED COUNT PROGRAM ..         run a program on COUNT captures and compare
+compare engines SEED PROGRAM ..             run a program on calls of the elimination engine at every rate,
+                                            and compare its answers and the tree's
+compare engine RATE BLANKS WRONG COUNT      write COUNT such calls with so many blank and wrong places
+compare engine answers                      read such calls, write their answers
 compare time COUNT                          decode COUNT frames of each sort and time them
 compare code SEED COUNT                     the proved encoding and reading back (feature proved)
 compare tables SEED COUNT                   the proved table decoding (feature proved)
@@ -73,7 +79,10 @@ failure. Those of frames for the mark are printed, at each rate with the excess 
 to it and one above, with blank places, pinned ones and pinned seconds, with another codeword that costs as
 much or one less, and with no gap to sum, with the wrong rules that would mark otherwise; one that is
 missing is a failure, and so is an answer that is not marked as its frame is made to be, or a marked one
-that another of the codewords tried costs less than.";
+that another of the codewords tried costs less than.
+The counts of calls of the elimination engine are printed, by number, by wrong and blank places, and by
+fault, with the wrong rules that would answer otherwise; one that is missing is a failure, and so is a call
+that does not come to the number that it is made for.";
 
 fn main() -> ExitCode {
     let arguments: Vec<String> = std::env::args().skip(1).collect();
@@ -135,6 +144,23 @@ fn run(arguments: &[String]) -> Result<(), String> {
             versions.check(By::Openings)?;
             doubts.check(captures / 2, false)?;
             margins.check(captures)
+        }
+        ["engines", seed, _, ..] => {
+            let counts = compare_engines(&arguments[2..], number(seed)?)?;
+            let calls = counts.calls();
+            output(format!("{calls} calls of the engine alike ({counts})\n").as_bytes())?;
+            counts.check()
+        }
+        ["engine", "answers"] => {
+            let answers = answer_engine_calls(&input()?).ok_or("the input isn't whole calls")?;
+            output(&answers)
+        }
+        ["engine", rate, blanks, wrong, count] => {
+            let [blanks, wrong] = [number(blanks)?, number(wrong)?].map(|n| n as usize);
+            let calls = measured_calls(number(rate)?, blanks, wrong, 1, number(count)?);
+            let calls = calls.ok_or("no such rate, or too many places")?;
+            let bytes = calls.iter().flat_map(|call| call.bytes());
+            output(&bytes.collect::<Vec<u8>>())
         }
         ["time", count] => time(number(count)?),
         #[cfg(feature = "proved")]
