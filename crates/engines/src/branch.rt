@@ -47,7 +47,7 @@ fn faded_costs(word: &[u8], blanks: &[u8]) -> [u16; COSTS] {
     out
 }
 
-fn none_near(number: u8) -> Branch {
+fn no_codeword(number: u8) -> Branch {
     Branch {
         number,
         codeword: [LENT; PLACES],
@@ -59,7 +59,7 @@ pub fn branch_of(rate: usize, word: &[u8], blanks: &[u8]) -> Branch {
     let found = chase::nearest(rate, &costs, [0u8; MOST_DOUBT], 0);
     let answer = found.answer;
     if let Answer::NoneNear = answer {
-        return none_near(NONE_NEAR);
+        return no_codeword(NONE_NEAR);
     }
     let codeword = found.codeword;
     Branch {
@@ -72,6 +72,6 @@ pub fn branch_of(rate: usize, word: &[u8], blanks: &[u8]) -> Branch {
 pub fn branch_beside(number: u8, rate: usize, word: &[u8], blanks: &[u8]) -> Branch {
     match number {
         ACCEPTED | NONE_NEAR => branch_of(rate, word, blanks),
-        _ => none_near(NOT_ASKED),
+        _ => no_codeword(NOT_ASKED),
     }
 }

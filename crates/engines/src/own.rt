@@ -145,7 +145,7 @@ fn wrong_places(spare: usize, turn: usize) -> usize {
     }
 }
 
-// Any of the turns at a rate, with so many of the list's places blank and so many wrong.
+// The word of a turn, with these blank places and so many wrong ones.
 fn compare_turn(rate: usize, turn: usize, blanks: &[u8], wrong: usize)
     requires { ⌜ (rate ≤ 52) × (turn ≤ 16) ⌝ }
 {
