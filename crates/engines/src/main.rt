@@ -1,11 +1,7 @@
 // Answers calls of the elimination engine on its standard input, one after the other, on its standard output, and what the tree finds
 // for each word beside it, so that another decoder can make the same calls and compare. reference/src/engine.rs has the layout.
-// The input ends at the first call that is cut short or too long. Without input the program compares the two on words of its own.
-mod branch;
-mod own;
-
-use branch::branch_beside;
-use own::compare_own;
+// The input ends at the first call that is cut short or too long.
+use branches::branch_beside;
 use stream::bytes::MOST_BYTES;
 use stream::bytes::lent;
 use stream::bytes::number;
@@ -101,10 +97,6 @@ fn answer_next() -> bool {
 
 // A proved loop ends, and nothing says that the input does: the turns are counted down from a number that no run uses up.
 fn main() {
-    if !answer_next() {
-        compare_own();
-        return;
-    }
     let mut turns = u64::MAX;
     while turns > 0 {
         if !answer_next() {

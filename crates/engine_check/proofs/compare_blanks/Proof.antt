@@ -2,8 +2,8 @@
 use mathlib.Core.Path.{sym}
 use lib.Seq.{length-take-le}
 use borrow.Author.Needs.{needs}
-use Rattle.engines.proofs.own.compare_blanks.Statement.{statement}
-use Rattle.engines.proofs.own.compare_blanks.Tie as tie
+use Rattle.engine_check.proofs.compare_blanks.Statement.{statement}
+use Rattle.engine_check.proofs.compare_blanks.Tie as tie
 
 sub-most : tie.Need-sub-most
 sub-most c = search needs

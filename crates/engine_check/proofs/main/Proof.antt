@@ -1,8 +1,8 @@
--- `compare_own` ends: no rate passed is above 53.
+-- The program ends: no rate passed is above 53.
 use Prim.Native.Nat.{_≤_, _-_}
 use borrow.Author.Needs.{needs}
-use Rattle.engines.proofs.own.compare_own.Statement.{statement}
-use Rattle.engines.proofs.own.compare_own.Tie as tie
+use Rattle.engine_check.proofs.main.Statement.{statement}
+use Rattle.engine_check.proofs.main.Tie as tie
 
 abbrev Inv-loop : tie.InvT-loop
 Inv-loop rate₀ rate = rate ≤ 53
@@ -28,8 +28,8 @@ loop-again c = search needs
 returns : tie.Need-returns Inv-loop μ-loop
 returns c = search needs
 
-pub compare-own-spec : {M : Type 1} → statement M
-compare-own-spec =
+pub main-spec : {M : Type 1} → statement M
+main-spec =
     tie.close
     (tie.spec
     Inv-loop

@@ -1,8 +1,8 @@
 -- `is_in` ends and stays within the list.
 use Prim.Native.Nat.{_≤_, _-_}
 use borrow.Author.Needs.{needs}
-use Rattle.engines.proofs.own.is_in.Statement.{statement}
-use Rattle.engines.proofs.own.is_in.Tie as tie
+use Rattle.engine_check.proofs.is_in.Statement.{statement}
+use Rattle.engine_check.proofs.is_in.Tie as tie
 
 abbrev Inv-loop : tie.InvT-loop
 Inv-loop blanks place i₀ i-end i = i ≤ i-end

@@ -2,8 +2,8 @@
 use mathlib.Core.Path.{sym}
 use lib.Seq.{length-take-le}
 use borrow.Author.Needs.{needs}
-use Rattle.engines.proofs.own.sent.Statement.{statement}
-use Rattle.engines.proofs.own.sent.Tie as tie
+use Rattle.engine_check.proofs.sent.Statement.{statement}
+use Rattle.engine_check.proofs.sent.Tie as tie
 
 message-requires : tie.Need-message-requires
 message-requires c κs = search needs

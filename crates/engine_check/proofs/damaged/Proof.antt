@@ -1,8 +1,8 @@
 -- `damaged` ends and stays within the word.
 use Prim.Native.Nat.{_≤_, _-_}
 use borrow.Author.Needs.{needs}
-use Rattle.engines.proofs.own.damaged.Statement.{statement}
-use Rattle.engines.proofs.own.damaged.Tie as tie
+use Rattle.engine_check.proofs.damaged.Statement.{statement}
+use Rattle.engine_check.proofs.damaged.Tie as tie
 
 abbrev Inv-loop : tie.InvT-loop
 Inv-loop blanks wrong from word out₀ left₀ number₀ i₀ out left number i = i ≤ 64

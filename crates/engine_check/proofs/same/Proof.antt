@@ -1,8 +1,8 @@
 -- `same` ends and stays within the words.
 use Prim.Native.Nat.{_≤_, _-_}
 use borrow.Author.Needs.{needs}
-use Rattle.engines.proofs.own.same.Statement.{statement}
-use Rattle.engines.proofs.own.same.Tie as tie
+use Rattle.engine_check.proofs.same.Statement.{statement}
+use Rattle.engine_check.proofs.same.Tie as tie
 
 abbrev Inv-loop : tie.InvT-loop
 Inv-loop a b place₀ place = place ≤ 64

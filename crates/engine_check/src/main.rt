@@ -1,8 +1,8 @@
 // Engine and tree on words of the program's own, at every rate: with no blank place, with a third and two thirds of those that may be and
 // with as many, and each with no wrong symbol, with T of them, with T + 1 and with all places wrong. A line is the rate and a sign for each
 // word: `+` where both have the same codeword, `-` where both have none, `!` where they differ.
-use crate::branch::Branch;
-use crate::branch::branch_of;
+use branches::Branch;
+use branches::branch_of;
 use columns::costs::PLACES;
 use columns::costs::byte_at;
 use encoding::LEAST_RATE;
@@ -187,7 +187,7 @@ fn compare_rate(rate: usize)
     write(b"\n");
 }
 
-pub fn compare_own() {
+fn main() {
     for rate in LEAST_RATE..MOST_RATE + 1 {
         compare_rate(rate);
     }

@@ -1,8 +1,8 @@
 -- `compare_rate` ends: the turns passed are at most 16.
 use Prim.Native.Nat.{_≤_, _-_}
 use borrow.Author.Needs.{needs}
-use Rattle.engines.proofs.own.compare_rate.Statement.{statement}
-use Rattle.engines.proofs.own.compare_rate.Tie as tie
+use Rattle.engine_check.proofs.compare_rate.Statement.{statement}
+use Rattle.engine_check.proofs.compare_rate.Tie as tie
 
 abbrev Inv-loop : tie.InvT-loop
 Inv-loop rate turn₀ t4 turn = turn ≤ 16

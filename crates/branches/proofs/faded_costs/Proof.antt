@@ -1,17 +1,26 @@
--- `costs_of` ends and stays within the table: the places passed are at most 64.
+-- `faded_costs` ends and stays within the table: the entries passed are at most the list's.
 use Prim.Native.Nat.{_≤_, _-_}
 use borrow.Author.Needs.{needs}
-use Rattle.engines.proofs.branch.costs_of.Statement.{statement}
-use Rattle.engines.proofs.branch.costs_of.Tie as tie
+use Rattle.branches.proofs.faded_costs.Statement.{statement}
+use Rattle.branches.proofs.faded_costs.Tie as tie
 
 abbrev Inv-loop : tie.InvT-loop
-Inv-loop word out₀ place₀ out place = place ≤ 64
+Inv-loop word blanks out₀ i₀ i-end out i = i ≤ i-end
 
 abbrev μ-loop : tie.MeasureT-loop
-μ-loop word out₀ place₀ out place = 64 - place
+μ-loop word blanks out₀ i₀ i-end out i = i-end - i
+
+costs-of-requires : tie.Need-costs-of-requires Inv-loop μ-loop
+costs-of-requires c κs = search needs
 
 loop-holds : tie.Need-loop-holds Inv-loop μ-loop
 loop-holds c = search needs
+
+byte-at-requires : tie.Need-byte-at-requires Inv-loop μ-loop
+byte-at-requires c κs = search needs
+
+cast-place : tie.Need-cast-place Inv-loop μ-loop
+cast-place c = search needs
 
 own-cost-requires : tie.Need-own-cost-requires Inv-loop μ-loop
 own-cost-requires c κs = search needs
@@ -22,8 +31,8 @@ mul-out c = search needs
 array-write-out : tie.Need-array-write-out Inv-loop μ-loop
 array-write-out c = search needs
 
-add-place : tie.Need-add-place Inv-loop μ-loop
-add-place c = search needs
+add-i : tie.Need-add-i Inv-loop μ-loop
+add-i c = search needs
 
 loop-less : tie.Need-loop-less Inv-loop μ-loop
 loop-less c = search needs
@@ -34,17 +43,20 @@ loop-again c = search needs
 returns : tie.Need-returns Inv-loop μ-loop
 returns c = search needs
 
-pub costs-of-spec : {M : Type 1} → statement M
-costs-of-spec =
+pub faded-costs-spec : {M : Type 1} → statement M
+faded-costs-spec =
     tie.close
     (tie.spec
     Inv-loop
     μ-loop
+    costs-of-requires
     loop-holds
+    byte-at-requires
+    cast-place
     own-cost-requires
     mul-out
     array-write-out
-    add-place
+    add-i
     loop-less
     loop-again
     returns)

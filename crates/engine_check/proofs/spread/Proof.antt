@@ -1,8 +1,8 @@
 -- `spread` ends and stays within the list.
 use Prim.Native.Nat.{_≤_, _-_}
 use borrow.Author.Needs.{needs}
-use Rattle.engines.proofs.own.spread.Statement.{statement}
-use Rattle.engines.proofs.own.spread.Tie as tie
+use Rattle.engine_check.proofs.spread.Statement.{statement}
+use Rattle.engine_check.proofs.spread.Tie as tie
 
 abbrev Inv-loop : tie.InvT-loop
 Inv-loop count out₀ i₀ out i = i ≤ 64

@@ -1,8 +1,8 @@
 -- `message` ends and stays within the message.
 use Prim.Native.Nat.{_≤_, _-_}
 use borrow.Author.Needs.{needs}
-use Rattle.engines.proofs.own.message.Statement.{statement}
-use Rattle.engines.proofs.own.message.Tie as tie
+use Rattle.engine_check.proofs.message.Statement.{statement}
+use Rattle.engine_check.proofs.message.Tie as tie
 
 abbrev Inv-loop : tie.InvT-loop
 Inv-loop from out₀ number₀ t₀ out number t = t ≤ 52
