@@ -5,21 +5,23 @@
 --   engine-agrees       so it is with whatever is found among the one test word,
 --   engine-search       which is what the contract of `tree::search` says of a node at which no place is left to decide,
 --   engine-branch       that of `tree::branch` of a branch that decides the last place,
---   engine-nearest      and that of `chase::nearest` where nothing is doubtful, of the word of best symbols
+--   engine-nearest      and that of `chase::nearest` where nothing is doubtful, of a word with the best symbols at the places that are not blank
+--   agrees-by           all of these, by the answer to a test word that may be another where places are blank
+use mathlib.Core.Bool.{true}
 use mathlib.Core.Path.{_≡_, refl, sym, ap, _∙_, subst}
 use mathlib.Core.List.{List, [], _∷_}
 use mathlib.Core.Logic.{_↔_}
 use mathlib.Core.Option.{Option, some, none}
-use Prim.Native.Nat.{ℕ}
+use Prim.Native.Nat.{ℕ, _<_}
 use native.Mathlib.Omega.{arith}
-use lib.ListN.{length, take, set}
+use lib.ListN.{length, getD, take, set}
 use Rattle.refusals.specs.Refusal.{accepted, noneNear}
 use Rattle.code.specs.Rates.{known-bounds}
 use Rattle.soft.specs.Column.{symbols, columnOf}
 use Rattle.soft.specs.Blank.{openAt}
 use Rattle.soft.specs.BlankLaws.{unblanked-nil}
-use Rattle.soft.specs.TestWord.{expand, bestWord, testWords}
-use Rattle.soft.specs.TestWordLaws.{expand-nil}
+use Rattle.soft.specs.TestWord.{expand, bestAt, bestWord, testWords}
+use Rattle.soft.specs.TestWordLaws.{expand-nil, bestWord-length, bestWord-at}
 use Rattle.near.specs.Here.{answerOf, Places}
 use Rattle.near.specs.Tree.{places-nil}
 use Rattle.answers.specs.declared.Answer.{Answer}
@@ -32,9 +34,9 @@ use Rattle.tree.specs.Searching.{Ready, SearchOf, BranchOf}
 use Rattle.chase.specs.Call.{Asked, nearestOf}
 use Rattle.chase.specs.Laws.{nearest-asked, nearest-call}
 use Rattle.book.specs.Here.{places}
-use Rattle.book.specs.Engine.{nearBy, Eliminated, engineOf}
+use Rattle.book.specs.Engine.{unblankedBy, nearBy, Eliminated, engineOf}
 use Rattle.book.specs.EngineLaws.{EnginePassed, engine-none, engine-some, engine-fits}
-use Rattle.book.specs.Single.{BlankAt, answer-one}
+use Rattle.book.specs.Single.{BlankAt, answer-one, near-open}
 
 pub record Agrees (call : Eliminated) (f : Found) : Type 0 where
   pub nobody : (call .number ≡ noneNear) ↔ (f .answer ≡ NoneNear)
@@ -48,18 +50,13 @@ none≢some e = subst (λ (o : Option (List ℕ)). go o) e tt
     go none = Unit {0}
     go (some m) = ⊥
 
-module _ (k : ℕ) (word blanks codeword q : List ℕ) (P : EnginePassed k word blanks (length codeword) (length q)) (columns : ℕ → List ℕ)
-    (blank : BlankAt blanks columns) where
-  abbrev call : Eliminated
-  call = engineOf k word blanks codeword q
-
-  answer-is : answerOf k columns (word ∷ []) ≡ nearBy k blanks word
-  answer-is = answer-one blanks (P .fit) columns blank k word (P .known) (P .few)
-
-  pub engine-agrees : {f : Found} → Nearest k columns (word ∷ []) f → Sound k columns f → Agrees call f
-  engine-agrees {f} N S = go (f .answer) refl
+-- by the answer of the columns to a test word, where that is what the engine looks for
+module _ (k : ℕ) (word blanks codeword q : List ℕ) (P : EnginePassed k word blanks (length codeword) (length q)) (columns : ℕ → List ℕ) (test : List ℕ)
+    (answer-is : answerOf k columns (test ∷ []) ≡ nearBy k blanks word) where
+  pub agrees-by : {f : Found} → Nearest k columns (test ∷ []) f → Sound k columns f → Agrees (engineOf k word blanks codeword q) f
+  agrees-by {f} N S = go (f .answer) refl
     where
-      go : (a : Answer) → f .answer ≡ a → Agrees call f
+      go : (a : Answer) → f .answer ≡ a → Agrees (engineOf k word blanks codeword q) f
       go NoneNear e =
           let n = ap (λ (c : Eliminated). c .number) (engine-none k word blanks codeword q (engine-fits k word blanks codeword q P) (sym answer-is ∙ nearest-nobody N e)) in
           record {
@@ -77,6 +74,14 @@ module _ (k : ℕ) (word blanks codeword q : List ℕ) (P : EnginePassed k word 
             somebody = ((λ z. other), (λ z. n));
             same = λ z. ap (λ (c : Eliminated). c .codeword) c ∙ sym (S .encoded);
           }
+
+module _ (k : ℕ) (word blanks codeword q : List ℕ) (P : EnginePassed k word blanks (length codeword) (length q)) (columns : ℕ → List ℕ)
+    (blank : BlankAt blanks columns) where
+  abbrev call : Eliminated
+  call = engineOf k word blanks codeword q
+
+  pub engine-agrees : {f : Found} → Nearest k columns (word ∷ []) f → Sound k columns f → Agrees call f
+  engine-agrees = agrees-by k word blanks codeword q P columns word (answer-one blanks (P .fit) columns blank k word (P .known) (P .few))
 
   pub engine-search : {rows : List (List ℕ)} {leads : List ℕ} {f : Found} → SearchOf k columns word [] rows leads 0 f → Sound k columns f
       → Ready k columns word [] rows leads → Agrees call f
@@ -98,14 +103,22 @@ unfolding testWords
 no-doubt columns = ap (expand columns (bestWord places columns)) (unblanked-nil (openAt columns)) ∙ expand-nil columns (bestWord places columns)
 
 module _ (k : ℕ) (word blanks codeword q : List ℕ) (P : EnginePassed k word blanks (length codeword) (length q)) (costs : List ℕ)
-    (blank : BlankAt blanks (columnOf symbols costs)) (is-best : word ≡ bestWord places (columnOf symbols costs)) where
-  pub engine-nearest : (doubtful : List ℕ) → Asked k costs doubtful 0 → {f : Found} → f ≡ nearestOf k costs doubtful 0
-      → Agrees (engineOf k word blanks codeword q) f
-  engine-nearest doubtful asked {f} e =
-      engine-agrees k word blanks codeword q P (columnOf symbols costs) blank
-      (subst (λ ts. Nearest k (columnOf symbols costs) ts f) tests (nearest-call k costs doubtful 0 f e .asked asked))
-      (subst (Sound k (columnOf symbols costs)) (sym (e ∙ nearest-asked k costs doubtful 0 asked))
-      (found-sound k (columnOf symbols costs) (testWords places (columnOf symbols costs) (take 0 doubtful)) (known-bounds k (asked .known) .1)))
-    where
-      tests : testWords places (columnOf symbols costs) (take 0 doubtful) ≡ word ∷ []
-      tests = no-doubt (columnOf symbols costs) ∙ ap (λ t. t ∷ []) (sym is-best)
+    (blank : BlankAt blanks (columnOf symbols costs)) (is-best : (p : ℕ) → p < places → unblankedBy blanks p ≡ true → getD word p 0 ≡ bestAt (columnOf symbols costs) p)
+  where
+    abbrev best : List ℕ
+    best = bestWord places (columnOf symbols costs)
+
+    -- the engine has the same near word
+    same-best : answerOf k (columnOf symbols costs) (best ∷ []) ≡ nearBy k blanks word
+    same-best =
+        answer-one blanks (P .fit) (columnOf symbols costs) blank k best (P .known) (P .few)
+        ∙ near-open k blanks best word (bestWord-length places (columnOf symbols costs) ∙ sym (P .word-long))
+        (λ p l o. bestWord-at places (columnOf symbols costs) p l ∙ sym (is-best p l o))
+
+    pub engine-nearest : (doubtful : List ℕ) → Asked k costs doubtful 0 → {f : Found} → f ≡ nearestOf k costs doubtful 0
+        → Agrees (engineOf k word blanks codeword q) f
+    engine-nearest doubtful asked {f} e =
+        agrees-by k word blanks codeword q P (columnOf symbols costs) best same-best
+        (subst (λ ts. Nearest k (columnOf symbols costs) ts f) (no-doubt (columnOf symbols costs)) (nearest-call k costs doubtful 0 f e .asked asked))
+        (subst (Sound k (columnOf symbols costs)) (sym (e ∙ nearest-asked k costs doubtful 0 asked))
+        (found-sound k (columnOf symbols costs) (testWords places (columnOf symbols costs) (take 0 doubtful)) (known-bounds k (asked .known) .1)))

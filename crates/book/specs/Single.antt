@@ -3,6 +3,7 @@
 --   BlankAt blanks columns   the blank places of the columns are those of the list
 --   same-number, same-reach  so there are as many, and T is the same
 --   same-near                the same codeword is near, or none
+--   near-open                so it is near any word with the same symbols at the places that are not in the list
 --   answer-one               and it is the answer of the columns to that test word alone, at whatever cost
 use mathlib.Core.Bool.{Bool, true, false}
 use mathlib.Core.Path.{_≡_, refl, sym, ap, ap₂, _∙_, subst}
@@ -12,13 +13,13 @@ use mathlib.Core.Option.{Option, some, none}
 use Prim.Native.Nat.{ℕ, _+_, _<_, _≤_}
 use native.Mathlib.Omega.{arith}
 use lib.Dec.{T, leb}
-use lib.ListN.{length}
+use lib.ListN.{length, getD}
 use Rattle.lists.specs.Count.{count, count-ext}
 use Rattle.lists.specs.Answers.{Answers, Found, free, best, answers-unique, answers-some, answers-none, answers-iff}
 use Rattle.soft.specs.Blank.{openAt, blanksOf}
 use Rattle.soft.specs.BlankLaws.{open-count}
 use Rattle.soft.specs.Total.{differingIn}
-use Rattle.soft.specs.TotalLaws.{differing-mono}
+use Rattle.soft.specs.TotalLaws.{differing-mono, differing-comm, differing-open}
 use Rattle.family.specs.Member.{m16}
 use Rattle.code.specs.Encoding.{encodeOf, knownRate}
 use Rattle.near.specs.Near.{nearTo, codewordNear}
@@ -99,3 +100,28 @@ module _ (blanks : List ℕ) (fit : fitPlaces blanks ≡ true) (columns : ℕ �
               (near-one m16 (unblankedBy blanks) (reachOf k (length blanks)) (rate-workable (known-rate k known)) word (unblanked-repairs k blanks known fit few)
               (alone n g) f)))
               ∙ sym e
+
+-- what a word has at blank places does not count
+near-alike : (k : ℕ) (blanks u v : List ℕ) → length u ≡ length v → ((p : ℕ) → p < places → unblankedBy blanks p ≡ true → getD u p 0 ≡ getD v p 0)
+    → (m : List ℕ) → nearTo m16 (unblankedBy blanks) (reachOf k (length blanks)) k u m ≡ nearTo m16 (unblankedBy blanks) (reachOf k (length blanks)) k v m
+unfolding nearTo
+near-alike k blanks u v long same m =
+    ap (λ d. leb d (reachOf k (length blanks)))
+    (differing-comm (unblankedBy blanks) places (encodeOf k m) u ∙ differing-open (unblankedBy blanks) places u v (encodeOf k m) long same
+    ∙ differing-comm (unblankedBy blanks) places v (encodeOf k m))
+
+pub near-open : (k : ℕ) (blanks u v : List ℕ) → length u ≡ length v → ((p : ℕ) → p < places → unblankedBy blanks p ≡ true → getD u p 0 ≡ getD v p 0)
+    → nearBy k blanks u ≡ nearBy k blanks v
+near-open k blanks u v long same =
+    answers-unique (answers-iff both (word-answers m16 (unblankedBy blanks) (reachOf k (length blanks)) k u))
+    (word-answers m16 (unblankedBy blanks) (reachOf k (length blanks)) k v)
+  where
+    test : (m : List ℕ) → nearTo m16 (unblankedBy blanks) (reachOf k (length blanks)) k u m ≡ nearTo m16 (unblankedBy blanks) (reachOf k (length blanks)) k v m
+    test m = near-alike k blanks u v long same m
+
+    both : (m : List ℕ) → Found width k (nearTo m16 (unblankedBy blanks) (reachOf k (length blanks)) k u) m
+        ↔ Found width k (nearTo m16 (unblankedBy blanks) (reachOf k (length blanks)) k v) m
+    both m = (
+      λ f. record { word = f .word; passed = subst T (test m) (f .passed) },
+      λ f. record { word = f .word; passed = subst T (sym (test m)) (f .passed) },
+    )

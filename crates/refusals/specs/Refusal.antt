@@ -15,6 +15,7 @@
 --   wrongLength      11: size or length wrong
 --   tooBlank         12: more blank places than the rate allows
 --   notTaken         13: a place that is not taken
+--   wrongSuperframe  14: a superframe that has not 516 bytes, or a wrong version or length
 use Prim.Native.Nat.{ℕ}
 
 abbrev pub accepted : ℕ
@@ -58,3 +59,6 @@ tooBlank = 12
 
 abbrev pub notTaken : ℕ
 notTaken = 13
+
+abbrev pub wrongSuperframe : ℕ
+wrongSuperframe = 14

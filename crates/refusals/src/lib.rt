@@ -33,6 +33,8 @@ pub const TOO_BLANK: u8 = 12;
 pub const WRONG_VERSION: u8 = 10;
 // 11: size or length wrong.
 pub const WRONG_LENGTH: u8 = 11;
+// 14: a superframe that has not 516 bytes, or a wrong version or length.
+pub const WRONG_SUPERFRAME: u8 = 14;
 
 // The equaliser.
 // 13: the place is not taken.

@@ -1,0 +1,48 @@
+-- What engine and tree find together, as one function calls them.
+--
+--   BothAgree …       the engine answers as its contract says; and where its checks pass, the costs are 1,024, their blank columns are those of the list, and
+--                     the word has their best symbol at every place that is not blank, the two agree
+--   both-agree        so it is with whatever meets the contracts of `engine::eliminate` and of `chase::nearest`
+use mathlib.Core.Path.{_≡_, sym, subst}
+use mathlib.Core.List.{List}
+use Prim.Native.Nat.{ℕ, _*_, _<_}
+use native.Mathlib.Omega.{arith}
+use lib.ListN.{length, getD}
+use Rattle.soft.specs.Column.{symbols, columnOf}
+use Rattle.soft.specs.Blank.{openAt}
+use Rattle.soft.specs.TestWord.{bestAt}
+use Rattle.near.specs.Tree.{places-nil}
+use Rattle.answers.specs.declared.Found.{Found}
+use Rattle.chase.specs.Call.{Asked, nearestOf}
+use Rattle.book.specs.Here.{places}
+use Rattle.book.specs.Engine.{Eliminated, eliminated, engineOf, unblankedBy}
+use Rattle.book.specs.EngineLaws.{EnginePassed}
+use Rattle.book.specs.Single.{BlankAt, same-number}
+use Rattle.agreement.specs.Agreement.{Agrees, engine-nearest}
+use Rattle.agreement.specs.declared.Both.{Both}
+use mathlib.Core.Bool.{true}
+
+pub record BothAgree (rate : ℕ) (costs word blanks codeword q : List ℕ) (r : Both) (codeword′ q′ : List ℕ) : Type 0 where
+  pub answers : eliminated (r .number) codeword′ q′ ≡ engineOf rate word blanks codeword q
+  pub agree : EnginePassed rate word blanks (length codeword) (length q) → length costs ≡ places * symbols → BlankAt blanks (columnOf symbols costs)
+      → ((p : ℕ) → p < places → unblankedBy blanks p ≡ true → getD word p 0 ≡ bestAt (columnOf symbols costs) p)
+      → Agrees (eliminated (r .number) codeword′ q′) (r .found)
+
+pub both-agree : (rate : ℕ) (costs word blanks codeword q : List ℕ) (r : Both) (codeword′ q′ doubtful : List ℕ)
+    → eliminated (r .number) codeword′ q′ ≡ engineOf rate word blanks codeword q → r .found ≡ nearestOf rate costs doubtful 0
+    → BothAgree rate costs word blanks codeword q r codeword′ q′
+both-agree rate costs word blanks codeword q r codeword′ q′ doubtful e f =
+    record {
+      answers = e;
+      agree = λ P size blank best.
+          subst (λ c. Agrees c (r .found)) (sym e)
+          (engine-nearest rate word blanks codeword q P costs blank best doubtful
+          (record {
+            known = P .known;
+            size = size;
+            few = omega arith;
+            fit = places-nil;
+            few-blank = omega (arith, P .few, same-number blanks (P .fit) (columnOf symbols costs) blank);
+          })
+          f);
+    }

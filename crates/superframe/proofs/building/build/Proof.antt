@@ -1,0 +1,71 @@
+-- Each return is the answer that the checks before it lead to.
+use mathlib.Core.Bool.{true}
+use mathlib.Core.Path.{_≡_, sym, _∙_}
+use native.Mathlib.Omega.{arith}
+use borrow.Author.Tests.{not-true, not-false}
+use Rattle.code.specs.Rates.{known-bounds}
+use Rattle.superframe.proofs.Built.{build-rate, build-messages, build-frame, build-symbol, build-done}
+use borrow.Author.Needs.{needs}
+use Rattle.superframe.proofs.building.build.Statement.{statement}
+use Rattle.superframe.proofs.building.build.Tie as tie
+
+known-rate-requires : tie.Need-known-rate-requires
+known-rate-requires c κs = search needs
+
+returns : tie.Need-returns
+returns c = build-rate _ _ _ (sym (c .before .known-rate .ensures) ∙ not-true _ (c .if1 .taken))
+
+mul-if2 : tie.Need-mul-if2
+mul-if2 c = omega (arith, known-bounds _ (sym (c .before .known-rate .ensures) ∙ not-false _ (c .if1 .left)))
+
+returns-2 : tie.Need-returns-2
+returns-2 c = build-messages _ _ _ (sym (c .before .before .known-rate .ensures) ∙ not-false _ (c .before .if1 .left)) (c .if2 .taken)
+
+returns-3 : tie.Need-returns-3
+returns-3 c = build-frame _ _ _ (sym (c .before .before .before .known-rate .ensures) ∙ not-false _ (c .before .before .if1 .left)) (c .before .if2 .left) (c .if3 .taken)
+
+symbols-only-requires : tie.Need-symbols-only-requires
+symbols-only-requires c κs = search needs
+
+returns-4 : tie.Need-returns-4
+returns-4 c = build-symbol _ _ _ (sym (c .before .before .before .before .before .known-rate .ensures) ∙ not-false _ (c .before .before .before .before .if1 .left)) (c .before .before .before .if2 .left) (c .before .before .if3 .left) (sym (c .before .symbols-only .ensures) ∙ not-true _ (c .if4 .taken))
+
+codewords-requires : tie.Need-codewords-requires
+codewords-requires c κs = (sym (c .before .before .before .before .before .known-rate .ensures) ∙ not-false _ (c .before .before .before .before .if1 .left), c .before .before .before .if2 .left)
+
+cast-bytes-of : tie.Need-cast-bytes-of
+cast-bytes-of c = omega (arith, known-bounds _ (sym (c .before .before .before .before .before .before .known-rate .ensures) ∙ not-false _ (c .before .before .before .before .before .if1 .left)))
+
+bytes-of-requires : tie.Need-bytes-of-requires
+bytes-of-requires c κs = search needs
+
+slice-aggregate-copy : tie.Need-slice-aggregate-copy
+slice-aggregate-copy c = search needs
+
+copy-requires : tie.Need-copy-requires
+copy-requires c κs = search needs
+
+same-length : tie.Need-same-length
+same-length c = search needs
+
+returns-5 : tie.Need-returns-5
+returns-5 c = build-done _ _ _ (sym (c .before .before .before .before .before .before .before .before .before .before .before .before .before .known-rate .ensures) ∙ not-false _ (c .before .before .before .before .before .before .before .before .before .before .before .before .if1 .left)) (c .before .before .before .before .before .before .before .before .before .before .before .if2 .left) (c .before .before .before .before .before .before .before .before .before .before .if3 .left) (sym (c .before .before .before .before .before .before .before .before .before .symbols-only .ensures) ∙ not-false _ (c .before .before .before .before .before .before .before .before .if4 .left)) (c .before .before .before .before .before .before .before .codewords .ensures) (c .before .before .before .before .before .bytes-of .ensures) (c .before .before .copy .ensures)
+
+pub build-spec : {M : Type 1} → statement M
+build-spec =
+    tie.close
+    (tie.spec
+    known-rate-requires
+    returns
+    mul-if2
+    returns-2
+    returns-3
+    symbols-only-requires
+    returns-4
+    codewords-requires
+    cast-bytes-of
+    bytes-of-requires
+    slice-aggregate-copy
+    copy-requires
+    same-length
+    returns-5)

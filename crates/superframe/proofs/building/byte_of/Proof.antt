@@ -1,0 +1,47 @@
+-- One of the head, or a symbol of the words.
+use native.Mathlib.Omega.{arith}
+use Rattle.superframe.proofs.Built.{byte-version, byte-high, byte-low, byte-rate, byte-symbol}
+use borrow.Author.Needs.{needs}
+use Rattle.superframe.proofs.building.byte_of.Statement.{statement}
+use Rattle.superframe.proofs.building.byte_of.Tie as tie
+
+returns : tie.Need-returns
+returns c = byte-version _ _ (c .if1 .taken)
+
+returns-2 : tie.Need-returns-2
+returns-2 c = byte-high _ _ (c .if2 .taken)
+
+returns-3 : tie.Need-returns-3
+returns-3 c = byte-low _ _ (c .if3 .taken)
+
+returns-4 : tie.Need-returns-4
+returns-4 c = byte-rate _ _ (c .if4 .taken)
+
+sub-symbol : tie.Need-sub-symbol
+sub-symbol c = search needs
+
+mul-word : tie.Need-mul-word
+mul-word c = search needs
+
+element-copy-out-word : tie.Need-element-copy-out-word
+element-copy-out-word c = search needs
+
+array-read-result : tie.Need-array-read-result
+array-read-result c = search needs
+
+returns-5 : tie.Need-returns-5
+returns-5 c = byte-symbol _ _ _ (search needs) (c .before .before .before .before .before .pre .1)
+
+pub byte-of-spec : {M : Type 1} → statement M
+byte-of-spec =
+    tie.close
+    (tie.spec
+    returns
+    returns-2
+    returns-3
+    returns-4
+    sub-symbol
+    mul-word
+    element-copy-out-word
+    array-read-result
+    returns-5)

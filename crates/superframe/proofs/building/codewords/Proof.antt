@@ -1,0 +1,79 @@
+-- The codewords of the messages passed are stored.
+use mathlib.Core.List.{[]}
+use mathlib.Core.Path.{refl, _∙_}
+use Prim.Native.Nat.{_-_}
+use native.Mathlib.Omega.{arith}
+use lib.ListN.{replicate}
+use Rattle.lists.specs.Block.{row-end}
+use Rattle.lists.specs.Filled.{Filled, filled-start, filled-turn, filled-end}
+use Rattle.code.specs.Rates.{known-bounds}
+use Rattle.superframe.specs.Superframe.{words, sentWord}
+use Rattle.superframe.proofs.Built.{part-encoded}
+use borrow.Author.Needs.{needs}
+use Rattle.superframe.proofs.building.codewords.Statement.{statement}
+use Rattle.superframe.proofs.building.codewords.Tie as tie
+
+abbrev Inv-loop : tie.InvT-loop
+Inv-loop rate messages out₀ v₀ out v = Filled (replicate words (replicate 64 0)) (sentWord rate messages) v out
+
+abbrev μ-loop : tie.MeasureT-loop
+μ-loop rate messages out₀ v₀ out v = words - v
+
+loop-holds : tie.Need-loop-holds Inv-loop μ-loop
+loop-holds c = filled-start _ _
+
+mul-at : tie.Need-mul-at Inv-loop μ-loop
+mul-at c = omega (arith, row-end (c .before .before .before .args .rate) (c .before .loop .v) words (c .loop-test .taken), known-bounds _ (c .before .before .before .pre .0))
+
+add-end : tie.Need-add-end Inv-loop μ-loop
+add-end c = omega (arith, row-end (c .before .before .before .args .rate) (c .before .loop .v) words (c .loop-test .taken), known-bounds _ (c .before .before .before .pre .0))
+
+sub-codeword-of : tie.Need-sub-codeword-of Inv-loop μ-loop
+sub-codeword-of c = search needs
+
+part-codeword-of-start : tie.Need-part-codeword-of-start Inv-loop μ-loop
+part-codeword-of-start c = search needs
+
+part-codeword-of-end : tie.Need-part-codeword-of-end Inv-loop μ-loop
+part-codeword-of-end c = omega (arith, row-end (c .before .before .before .args .rate) (c .before .loop .v) words (c .loop-test .taken), c .before .before .before .pre .1)
+
+codeword-of-requires : tie.Need-codeword-of-requires Inv-loop μ-loop
+codeword-of-requires c κs = search needs
+
+mul-out : tie.Need-mul-out Inv-loop μ-loop
+mul-out c = search needs
+
+array-set-from-out : tie.Need-array-set-from-out Inv-loop μ-loop
+array-set-from-out c = search needs
+
+add-v : tie.Need-add-v Inv-loop μ-loop
+add-v c = search needs
+
+loop-less : tie.Need-loop-less Inv-loop μ-loop
+loop-less c = search needs
+
+loop-again : tie.Need-loop-again Inv-loop μ-loop
+loop-again c = filled-turn [] (c .before .before .before .loop .inv) _ (search needs) (c .codeword-of .ensures ∙ part-encoded _ _ _ (c .before .before .before .before .before .pre .0))
+
+returns : tie.Need-returns Inv-loop μ-loop
+returns c = filled-end [] (c .before .loop .inv) words refl (c .loop-test .left)
+
+pub codewords-spec : {M : Type 1} → statement M
+codewords-spec =
+    tie.close
+    (tie.spec
+    Inv-loop
+    μ-loop
+    loop-holds
+    mul-at
+    add-end
+    sub-codeword-of
+    part-codeword-of-start
+    part-codeword-of-end
+    codeword-of-requires
+    mul-out
+    array-set-from-out
+    add-v
+    loop-less
+    loop-again
+    returns)

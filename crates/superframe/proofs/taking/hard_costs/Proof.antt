@@ -1,0 +1,60 @@
+-- The costs passed are stored.
+use mathlib.Core.Path.{refl}
+use Prim.Native.Nat.{_-_, _*_, _/_, _%_}
+use lib.ListN.{getD, replicate}
+use Rattle.lists.specs.Filled.{Filled, filled-start, filled-turn, filled-end}
+use Rattle.soft.specs.Column.{places, symbols}
+use Rattle.superframe.specs.Superframe.{hardCost, hardCosts}
+use borrow.Author.Needs.{needs}
+use Rattle.superframe.proofs.taking.hard_costs.Statement.{statement}
+use Rattle.superframe.proofs.taking.hard_costs.Tie as tie
+
+abbrev Inv-loop : tie.InvT-loop
+Inv-loop word out₀ i₀ out i = Filled (replicate (places * symbols) 0) (λ j. hardCost (getD word (j / symbols) 0) (j % symbols)) i out
+
+abbrev μ-loop : tie.MeasureT-loop
+μ-loop word out₀ i₀ out i = places * symbols - i
+
+loop-holds : tie.Need-loop-holds Inv-loop μ-loop
+loop-holds c = filled-start _ _
+
+array-read-hard-cost : tie.Need-array-read-hard-cost Inv-loop μ-loop
+array-read-hard-cost c = search needs
+
+hard-cost-requires : tie.Need-hard-cost-requires Inv-loop μ-loop
+hard-cost-requires c κs = search needs
+
+mul-out : tie.Need-mul-out Inv-loop μ-loop
+mul-out c = search needs
+
+array-write-out : tie.Need-array-write-out Inv-loop μ-loop
+array-write-out c = search needs
+
+add-i : tie.Need-add-i Inv-loop μ-loop
+add-i c = search needs
+
+loop-less : tie.Need-loop-less Inv-loop μ-loop
+loop-less c = search needs
+
+loop-again : tie.Need-loop-again Inv-loop μ-loop
+loop-again c = filled-turn 0 (c .before .before .loop .inv) _ (search needs) (c .hard-cost .ensures)
+
+returns : tie.Need-returns Inv-loop μ-loop
+unfolding hardCosts
+returns c = filled-end 0 (c .before .loop .inv) (places * symbols) refl (c .loop-test .left)
+
+pub hard-costs-spec : {M : Type 1} → statement M
+hard-costs-spec =
+    tie.close
+    (tie.spec
+    Inv-loop
+    μ-loop
+    loop-holds
+    array-read-hard-cost
+    hard-cost-requires
+    mul-out
+    array-write-out
+    add-i
+    loop-less
+    loop-again
+    returns)

@@ -1,0 +1,66 @@
+-- The symbols passed are stored.
+use mathlib.Core.Path.{refl}
+use Prim.Native.Nat.{_+_, _*_, _-_}
+use native.Mathlib.Omega.{arith}
+use lib.ListN.{replicate}
+use Rattle.lists.specs.Filled.{Filled, filled-start, filled-turn, filled-end}
+use Rattle.soft.specs.Column.{places}
+use Rattle.superframe.specs.Superframe.{words, symbolIn, wordIn}
+use borrow.Author.Needs.{needs}
+use Rattle.superframe.proofs.taking.word_in.Statement.{statement}
+use Rattle.superframe.proofs.taking.word_in.Tie as tie
+
+abbrev Inv-loop : tie.InvT-loop
+Inv-loop frame v out₀ place₀ out place = Filled (replicate places 0) (λ p. symbolIn frame (words * p + v)) place out
+
+abbrev μ-loop : tie.MeasureT-loop
+μ-loop frame v out₀ place₀ out place = places - place
+
+loop-holds : tie.Need-loop-holds Inv-loop μ-loop
+loop-holds c = filled-start _ _
+
+mul-out : tie.Need-mul-out Inv-loop μ-loop
+mul-out c = search needs
+
+add-out : tie.Need-add-out Inv-loop μ-loop
+add-out c = search needs
+
+add-out-2 : tie.Need-add-out-2 Inv-loop μ-loop
+add-out-2 c = search needs
+
+shared-slice-read-out : tie.Need-shared-slice-read-out Inv-loop μ-loop
+shared-slice-read-out c = search needs
+
+array-write-out : tie.Need-array-write-out Inv-loop μ-loop
+array-write-out c = search needs
+
+add-place : tie.Need-add-place Inv-loop μ-loop
+add-place c = search needs
+
+loop-less : tie.Need-loop-less Inv-loop μ-loop
+loop-less c = search needs
+
+loop-again : tie.Need-loop-again Inv-loop μ-loop
+unfolding symbolIn
+loop-again c = filled-turn 0 (c .before .before .loop .inv) _ (search needs) refl
+
+returns : tie.Need-returns Inv-loop μ-loop
+unfolding wordIn
+returns c = filled-end 0 (c .before .loop .inv) places refl (c .loop-test .left)
+
+pub word-in-spec : {M : Type 1} → statement M
+word-in-spec =
+    tie.close
+    (tie.spec
+    Inv-loop
+    μ-loop
+    loop-holds
+    mul-out
+    add-out
+    add-out-2
+    shared-slice-read-out
+    array-write-out
+    add-place
+    loop-less
+    loop-again
+    returns)

@@ -1,0 +1,199 @@
+-- The columns of a word that was received, cost 0 for the symbol received and 1 for the others, and what decoding by them without doubt answers.
+--
+--   hard-length, hard-own, hard-other   the column of one symbol: how long it is, what the symbol costs, and what another does
+--   hard-column            the columns of a word, place by place
+--   hard-open, hard-blank  none of them is blank
+--   hard-best, hard-word   the best symbol is the one received, so the word of best symbols is the word received
+--   hard-answer            so the answer is the codeword within T of the word, if there is one
+--   hard-none, hard-some   decoding says 'none near' and leaves both buffers as they were, or gives the message
+--   hard-long              what it leaves in a part of k symbols has k symbols, whatever the columns
+--   none-blank, fit-none   without blank places all places count, and the empty list is fit
+--   within-near, near-within   the codeword within T, if there is one: whichever is within T is it, and it is within T
+use mathlib.Core.Bool.{Bool, true, false, not, _&&_}
+use mathlib.Core.Path.{_≡_, refl, sym, ap, ap₂, _∙_, subst}
+use mathlib.Core.List.{List, [], _∷_}
+use mathlib.Core.Logic.{_≢_}
+use mathlib.Core.Option.{some, none}
+use Prim.Native.Nat.{ℕ, _+_, _-_, _*_, _/_, _%_, _<_, _≤_}
+use native.Mathlib.Decide.{ℕ-discrete}
+use native.Mathlib.Omega.{arith}
+use lib.Dec.{le→leb, leb→le}
+use lib.ListN.{length, getD}
+use borrow.Author.Tests.{eq-eqb, ne-eqb, lt-ltb}
+use Rattle.lists.specs.Count.{bit}
+use Rattle.lists.specs.Distinct.{among, below}
+use Rattle.lists.specs.Every.{true-T, T-true}
+use Rattle.lists.specs.Listed.{listed-length, listed-at, listed-ext, listed-by}
+use Rattle.lists.specs.Words.{allBelow, allBelow-at}
+use Rattle.lists.specs.Answers.{Answers, Found, free, answers-some}
+use Rattle.refusals.specs.Refusal.{accepted, noneNear}
+use Rattle.soft.specs.Column.{places, symbols, costOf, costAt, columnOf, bestOf, isBlank}
+use Rattle.soft.specs.ColumnLaws.{best-below, best-least}
+use Rattle.soft.specs.Blank.{openAt}
+use Rattle.soft.specs.BlankLaws.{blank-same, unblanked-nil}
+use Rattle.soft.specs.TestWord.{bestAt, bestWord, expand, testWords}
+use Rattle.soft.specs.TestWordLaws.{expand-nil}
+use Rattle.family.specs.Member.{m16}
+use Rattle.code.specs.Encoding.{knownRate}
+use Rattle.near.specs.Near.{nearTo}
+use Rattle.near.specs.Laws.{word-answers}
+use Rattle.near.specs.Codeword.{near-one}
+use Rattle.near.specs.Governing.{only-near}
+use Rattle.near.specs.Here.{reachOf, blankLimit, blanksIn, answerOf}
+use Rattle.book.specs.Model.{modem64}
+use Rattle.book.specs.Opening as Opening
+use Rattle.book.specs.OpeningLaws.{known-rate, rate-workable}
+use Rattle.book.specs.Closing.{Closed, refusedClosing}
+use Rattle.book.specs.ClosingLaws.{decode-none, decode-some, decode-sized}
+use Rattle.book.specs.Here.{width, fitPlaces, reportLength, decodeOf}
+use Rattle.book.specs.Engine.{unblankedBy, nearBy}
+use Rattle.book.specs.EngineLaws.{IsWithin, unblanked-repairs}
+use Rattle.book.specs.Single.{BlankAt, same-number, answer-one}
+use Rattle.superframe.specs.Superframe.{hardCost, hardColumn, hardCosts}
+
+-- ---- one column
+
+pub hard-length : (s : ℕ) → length (hardColumn s) ≡ symbols
+unfolding hardColumn
+hard-length s = listed-length symbols (hardCost s)
+
+pub hard-own : (s : ℕ) → s < symbols → costOf (hardColumn s) s ≡ 0
+unfolding hardColumn
+hard-own s l = listed-at symbols s (hardCost s) 0 l ∙ ap (λ b. bit (not b)) (eq-eqb s s refl)
+
+pub hard-other : (s t : ℕ) → t < symbols → s ≢ t → costOf (hardColumn s) t ≡ 1
+unfolding hardColumn
+hard-other s t l d = listed-at symbols t (hardCost s) 0 l ∙ ap (λ b. bit (not b)) (ne-eqb s t d)
+
+pub hard-best : (s : ℕ) → s < symbols → bestOf (hardColumn s) ≡ s
+hard-best s l = go (ℕ-discrete (bestOf (hardColumn s)) s)
+  where
+    two : 1 < length (hardColumn s)
+    two = omega (arith, hard-length s)
+
+    go : Dec (bestOf (hardColumn s) ≡ s) → bestOf (hardColumn s) ≡ s
+    go (yes e) = e
+    go (no d) =
+        absurd
+        (omega (
+          arith,
+          hard-own s l,
+          hard-other s (bestOf (hardColumn s)) (omega (arith, best-below (hardColumn s) two, hard-length s)) (λ e. d (sym e)),
+          best-least (hardColumn s) two s (omega (arith, hard-length s)),
+        ))
+
+-- the symbols s and 1 − s differ
+hard-open-column : (s : ℕ) → s < symbols → isBlank (hardColumn s) ≡ false
+hard-open-column s l = go (isBlank (hardColumn s)) refl
+  where
+    go : (b : Bool) → isBlank (hardColumn s) ≡ b → b ≡ false
+    go true e =
+        absurd
+        (omega (
+          arith,
+          blank-same (hardColumn s) .0 e s (1 - s) (omega (arith, hard-length s)) (omega (arith, hard-length s)),
+          hard-own s l,
+          hard-other s (1 - s) (omega arith) (omega arith),
+        ))
+    go false e = refl
+
+-- ---- the columns of a word
+
+pub hard-column : (word : List ℕ) (p : ℕ) → p < places → columnOf symbols (hardCosts word) p ≡ hardColumn (getD word p 0)
+unfolding columnOf hardCosts hardColumn
+hard-column word p h = listed-ext symbols (costAt symbols (hardCosts word) p) (hardCost (getD word p 0)) (λ s l. at s l)
+  where
+    at : (s : ℕ) → s < symbols → getD (hardCosts word) (p * symbols + s) 0 ≡ hardCost (getD word p 0) s
+    at s l =
+        let q : (p * symbols + s) / symbols ≡ p = omega arith in
+        let r : (p * symbols + s) % symbols ≡ s = omega arith in
+        listed-at (places * symbols) (p * symbols + s) (λ i. hardCost (getD word (i / symbols) 0) (i % symbols)) 0 (omega arith)
+        ∙ ap₂ (λ i t. hardCost (getD word i 0) t) q r
+
+pub hard-open : (word : List ℕ) (p : ℕ) → p < places → getD word p 0 < symbols → openAt (columnOf symbols (hardCosts word)) p ≡ true
+hard-open word p h l = ap (λ (c : List ℕ). not (isBlank c)) (hard-column word p h) ∙ ap not (hard-open-column (getD word p 0) l)
+
+-- ---- no place is blank
+
+pub none-blank : (p : ℕ) → p < places → unblankedBy [] p ≡ true
+unfolding unblankedBy among
+none-blank p h = ap (λ b. b && true) (lt-ltb p places h)
+
+pub fit-none : fitPlaces [] ≡ true
+unfolding Opening.fitPlaces Opening.rising Opening.risingFrom below
+fit-none = refl
+
+-- the one test word where nothing is doubtful
+one-test : (columns : ℕ → List ℕ) → testWords places columns [] ≡ bestWord places columns ∷ []
+unfolding testWords
+one-test columns = ap (expand columns (bestWord places columns)) (unblanked-nil (openAt columns)) ∙ expand-nil columns (bestWord places columns)
+
+pub hard-long : (k : ℕ) (columns : ℕ → List ℕ) (doubtful part report : List ℕ) → length part ≡ k → length report ≡ reportLength
+    → length (decodeOf k columns doubtful part report .message) ≡ k
+hard-long k columns doubtful part report long whole = decode-sized modem64 k columns doubtful part report long whole .message-sized ∙ long
+
+-- ---- the answer
+
+module _ (word : List ℕ) (long : length word ≡ places) (small : allBelow symbols word ≡ true) where
+  abbrev columns : ℕ → List ℕ
+  columns = columnOf symbols (hardCosts word)
+
+  symbol-at : (p : ℕ) → p < places → getD word p 0 < symbols
+  symbol-at p h = allBelow-at symbols word (true-T (allBelow symbols word) small) p (omega arith)
+
+  pub hard-blank : BlankAt [] columns
+  hard-blank p h = hard-open word p h (symbol-at p h) ∙ sym (none-blank p h)
+
+  pub hard-word : bestWord places columns ≡ word
+  unfolding bestWord
+  hard-word =
+      sym
+      (listed-by 0 places word (bestAt columns) long
+      (λ p h. sym (ap bestOf (hard-column word p h) ∙ hard-best (getD word p 0) (symbol-at p h))))
+
+  few-blank : (k : ℕ) → blanksIn columns ≤ blankLimit k
+  few-blank k = omega (arith, same-number [] fit-none columns hard-blank)
+
+  module _ (k : ℕ) (known : knownRate k ≡ true) where
+    pub hard-answer : answerOf k columns (testWords places columns []) ≡ nearBy k [] word
+    hard-answer =
+        ap (answerOf k columns) (one-test columns ∙ ap (λ t. t ∷ []) hard-word)
+        ∙ answer-one [] fit-none columns hard-blank k word known (omega arith)
+
+    module _ (part report : List ℕ) where
+      pub hard-none : nearBy k [] word ≡ none → decodeOf k columns [] part report ≡ refusedClosing noneNear part report
+      hard-none e = decode-none modem64 k columns [] part report (few-blank k) (hard-answer ∙ e)
+
+      pub hard-some : {m : List ℕ} → nearBy k [] word ≡ some m
+          → (decodeOf k columns [] part report .number ≡ accepted) × (decodeOf k columns [] part report .message ≡ m)
+      hard-some e =
+          let c = decode-some modem64 k columns [] part report (few-blank k) (hard-answer ∙ e) in
+          (ap (λ (d : Closed). d .number) c, ap (λ (d : Closed). d .message) c)
+
+-- ---- the codeword within T
+
+module _ (k : ℕ) (word : List ℕ) where
+  abbrev IsFound : List ℕ → Type 0
+  IsFound = Found width k (nearTo m16 (unblankedBy []) (reachOf k 0) k word)
+
+  answers : Answers free IsFound (nearBy k [] word)
+  answers = word-answers m16 (unblankedBy []) (reachOf k 0) k word
+
+  found : {m : List ℕ} → IsWithin k [] word m → IsFound m
+  unfolding nearTo
+  found h = record { word = h .message; passed = le→leb _ (reachOf k 0) (h .close) }
+
+  within : {m : List ℕ} → IsFound m → IsWithin k [] word m
+  unfolding nearTo
+  within f = record { message = f .word; close = leb→le _ (reachOf k 0) (f .passed) }
+
+  pub within-near : knownRate k ≡ true → {m : List ℕ} → IsWithin k [] word m → nearBy k [] word ≡ some m
+  within-near known h =
+      let f = found h in
+      let w = rate-workable (known-rate k known) in
+      only-near m16 (unblankedBy []) (reachOf k 0) w (f .word) word
+      (λ n g. near-one m16 (unblankedBy []) (reachOf k 0) w word (unblanked-repairs k [] known fit-none (omega arith)) g f)
+      (T-true _ (f .passed))
+
+  pub near-within : {m : List ℕ} → nearBy k [] word ≡ some m → IsWithin k [] word m
+  near-within e = within (answers-some (subst (Answers free IsFound) e answers))

@@ -1,0 +1,22 @@
+-- What the functions that take a superframe apart leave, word by word.
+--
+--   TakesWord k frame v before number after   decoding word v answers with the number, and leaves so much of its part
+--   TakesWords k frame before status after    the status byte and the parts of all words
+--   takenBy r messages     what the call returns and leaves, as one record
+use mathlib.Core.Path.{_≡_}
+use mathlib.Core.List.{List}
+use Prim.Native.Nat.{ℕ}
+use Rattle.superframe.specs.Superframe as Superframe
+use Rattle.superframe.specs.Superframe.{words, answerAt, noneNearIn, statusOf, messagesOf}
+use Rattle.superframe.specs.declared.taking.Taken.{Taken}
+
+pub record TakesWord (k : ℕ) (frame : List ℕ) (v : ℕ) (before : List ℕ) (number : ℕ) (after : List ℕ) : Type 0 where
+  pub answers : number ≡ answerAt k frame before v .number
+  pub leaves : after ≡ answerAt k frame before v .message
+
+pub record TakesWords (k : ℕ) (frame before : List ℕ) (status : ℕ) (after : List ℕ) : Type 0 where
+  pub names : status ≡ statusOf words (noneNearIn k frame before)
+  pub leaves : after ≡ messagesOf words k frame before
+
+abbrev pub takenBy : Taken → List ℕ → Superframe.Taken
+takenBy r messages = Superframe.taken (r .refusal) (r .status) messages
