@@ -18,10 +18,8 @@ use lib.ListN.{length, getD, take, set}
 use Rattle.refusals.specs.Refusal.{accepted, noneNear}
 use Rattle.code.specs.Rates.{known-bounds}
 use Rattle.soft.specs.Column.{symbols, columnOf}
-use Rattle.soft.specs.Blank.{openAt}
-use Rattle.soft.specs.BlankLaws.{unblanked-nil}
-use Rattle.soft.specs.TestWord.{expand, bestAt, bestWord, testWords}
-use Rattle.soft.specs.TestWordLaws.{expand-nil, bestWord-length, bestWord-at}
+use Rattle.soft.specs.TestWord.{bestAt, bestWord, testWords}
+use Rattle.soft.specs.TestWordLaws.{expand-nil, testWords-none, bestWord-length, bestWord-at}
 use Rattle.near.specs.Here.{answerOf, Places}
 use Rattle.near.specs.Tree.{places-nil}
 use Rattle.answers.specs.declared.Answer.{Answer}
@@ -98,10 +96,6 @@ module _ (k : ℕ) (word blanks codeword q : List ℕ) (P : EnginePassed k word 
       S
 
 -- nothing is doubtful: the one test word is the word of best symbols
-no-doubt : (columns : ℕ → List ℕ) → testWords places columns [] ≡ bestWord places columns ∷ []
-unfolding testWords
-no-doubt columns = ap (expand columns (bestWord places columns)) (unblanked-nil (openAt columns)) ∙ expand-nil columns (bestWord places columns)
-
 module _ (k : ℕ) (word blanks codeword q : List ℕ) (P : EnginePassed k word blanks (length codeword) (length q)) (costs : List ℕ)
     (blank : BlankAt blanks (columnOf symbols costs)) (is-best : (p : ℕ) → p < places → unblankedBy blanks p ≡ true → getD word p 0 ≡ bestAt (columnOf symbols costs) p)
   where
@@ -119,6 +113,6 @@ module _ (k : ℕ) (word blanks codeword q : List ℕ) (P : EnginePassed k word 
         → Agrees (engineOf k word blanks codeword q) f
     engine-nearest doubtful asked {f} e =
         agrees-by k word blanks codeword q P (columnOf symbols costs) best same-best
-        (subst (λ ts. Nearest k (columnOf symbols costs) ts f) (no-doubt (columnOf symbols costs)) (nearest-call k costs doubtful 0 f e .asked asked))
+        (subst (λ ts. Nearest k (columnOf symbols costs) ts f) (testWords-none (columnOf symbols costs) places) (nearest-call k costs doubtful 0 f e .asked asked))
         (subst (Sound k (columnOf symbols costs)) (sym (e ∙ nearest-asked k costs doubtful 0 asked))
         (found-sound k (columnOf symbols costs) (testWords places (columnOf symbols costs) (take 0 doubtful)) (known-bounds k (asked .known) .1)))

@@ -6,6 +6,7 @@
 --   unblanked-count       the unblanked places and the blank ones are all
 --   unblanked-repairs     so T wrong ones of the unblanked places can be repaired
 --   IsWithin rate blanks word m   m is a message, and its codeword differs from the word in at most T unblanked places
+--   within-found, found-within   so is the message that is searched for
 --   engine-finds          'the codeword within T, if there is one': where there is one it is found,
 --   engine-within         what is found is one,
 --   engine-nobody         and where the call says 'none near' there is none; both buffers are as they were
@@ -158,12 +159,12 @@ pub record IsWithin (rate : ℕ) (blanks word m : List ℕ) : Type 0 where
   pub message : Word width rate m
   pub close : differingIn (unblankedBy blanks) places (encodeOf rate m) word ≤ reachOf rate (length blanks)
 
-within-found : {rate : ℕ} {blanks word m : List ℕ} → IsWithin rate blanks word m
+pub within-found : {rate : ℕ} {blanks word m : List ℕ} → IsWithin rate blanks word m
     → Found width rate (nearTo m16 (unblankedBy blanks) (reachOf rate (length blanks)) rate word) m
 unfolding nearTo
 within-found {rate} {blanks} h = record { word = h .message; passed = le→leb _ (reachOf rate (length blanks)) (h .close) }
 
-found-within : {rate : ℕ} {blanks word m : List ℕ} → Found width rate (nearTo m16 (unblankedBy blanks) (reachOf rate (length blanks)) rate word) m
+pub found-within : {rate : ℕ} {blanks word m : List ℕ} → Found width rate (nearTo m16 (unblankedBy blanks) (reachOf rate (length blanks)) rate word) m
     → IsWithin rate blanks word m
 unfolding nearTo
 found-within {rate} {blanks} f = record { message = f .word; close = leb→le _ (reachOf rate (length blanks)) (f .passed) }

@@ -47,10 +47,9 @@ use Rattle.lists.specs.Distinct.{among, among-member, below, below-append, belo
 use Rattle.lists.specs.Listed.{listed, listed-nil, listed-suc, listed-length}
 use Rattle.lists.specs.Words.{Word, Lex, lex-or, lex-asym}
 use Rattle.lists.specs.Answers.{Found}
-use Rattle.soft.specs.Blank.{openAt, blanksOf, unblanked}
-use Rattle.soft.specs.BlankLaws.{unblanked-nil}
-use Rattle.soft.specs.TestWord.{bestAt, Offered, bestWord, expand, testWords}
-use Rattle.soft.specs.TestWordLaws.{expand-nil, testWords-length, testWords-settled, chosen-test}
+use Rattle.soft.specs.Blank.{openAt, blanksOf}
+use Rattle.soft.specs.TestWord.{bestAt, Offered, bestWord, testWords}
+use Rattle.soft.specs.TestWordLaws.{testWords-none, testWords-length, testWords-settled, chosen-test}
 use Rattle.soft.specs.Total.{symbolAt, changedAt, changedOf, totalOf, differAt, differingIn}
 use Rattle.soft.specs.TotalLaws.{agree-true, changed-differing, differing-comm, differing-triangle}
 use Rattle.soft.specs.DoubtLaws.{doubtful-none}
@@ -221,11 +220,8 @@ module _ (𝓓 : Model) where
 
   -- where no place is doubtful, the word of best symbols is the only test word
   one-test : (book : Book) → book .doubtful ≡ [] → testsOf 𝓓 book ≡ bestIn book ∷ []
-  unfolding testsOf testWords
-  one-test book none =
-      ap (expand (columnsOf 𝓓 (book .row)) (bestIn book))
-      (ap (unblanked (openAt (columnsOf 𝓓 (book .row)))) none ∙ unblanked-nil (openAt (columnsOf 𝓓 (book .row))))
-      ∙ expand-nil (columnsOf 𝓓 (book .row)) (bestIn book)
+  unfolding testsOf
+  one-test book none = ap (testWords (places 𝓓) (columnsOf 𝓓 (book .row))) none ∙ testWords-none (columnsOf 𝓓 (book .row)) (places 𝓓)
 
   module _ {book : Book} {c : Closed} (sentences : Closes 𝓓 book c) (full : (p : ℕ) → Missing 𝓓 (book .row) p → ⊥) {T : ℕ}
       (reach : Reach member (book .rate) (blanksIn 𝓓 book) T) where

@@ -1,6 +1,7 @@
 -- Laws of the test words.
 --
 --   expand-nil, expand-cons   the definition step by step
+--   testWords-none         where nothing is doubtful the word of best symbols is the only test word
 --   expand-count, testWords-count     d doubtful places that are not blank make 2 ^ d test words
 --   expand-length, testWords-length   each has as many places as the word that it is made of
 --   testWords-kept         each carries the best symbol at every place that is not doubled; testWords-settled: at every place that is not in the list,
@@ -25,7 +26,7 @@ use Rattle.lists.specs.Listed.{listed-length, listed-at, listed-ext}
 use Rattle.lists.specs.Different.{Different, different-nil, different-cons, different-append}
 use Rattle.soft.specs.Column.{bestOf, secondOf, isBlank}
 use Rattle.soft.specs.Blank.{openAt, unblanked}
-use Rattle.soft.specs.BlankLaws.{unblanked-member, member-unblanked, unblanked-different, unblanked-ext}
+use Rattle.soft.specs.BlankLaws.{unblanked-nil, unblanked-member, member-unblanked, unblanked-different, unblanked-ext}
 use Rattle.soft.specs.TestWord.{bestAt, secondAt, Offered, bestWord, expand, testWords}
 use Rattle.soft.specs.ColumnLaws.{second-other}
 
@@ -33,6 +34,10 @@ module _ (columns : ℕ → List ℕ) where
   pub expand-nil : (word : List ℕ) → expand columns word [] ≡ word ∷ []
   unfolding expand
   expand-nil word = refl
+
+  pub testWords-none : (n : ℕ) → testWords n columns [] ≡ bestWord n columns ∷ []
+  unfolding testWords
+  testWords-none n = ap (expand columns (bestWord n columns)) (unblanked-nil (openAt columns)) ∙ expand-nil (bestWord n columns)
 
   pub expand-cons : (word : List ℕ) (p : ℕ) (ps : List ℕ)
       → expand columns word (p ∷ ps) ≡ expand columns (set word p (bestAt columns p)) ps ++ expand columns (set word p (secondAt columns p)) ps

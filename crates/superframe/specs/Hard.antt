@@ -17,7 +17,6 @@ use mathlib.Core.Option.{some, none}
 use Prim.Native.Nat.{ℕ, _+_, _-_, _*_, _/_, _%_, _<_, _≤_}
 use native.Mathlib.Decide.{ℕ-discrete}
 use native.Mathlib.Omega.{arith}
-use lib.Dec.{le→leb, leb→le}
 use lib.ListN.{length, getD}
 use borrow.Author.Tests.{eq-eqb, ne-eqb, lt-ltb}
 use Rattle.lists.specs.Count.{bit}
@@ -30,9 +29,9 @@ use Rattle.refusals.specs.Refusal.{accepted, noneNear}
 use Rattle.soft.specs.Column.{places, symbols, costOf, costAt, columnOf, bestOf, isBlank}
 use Rattle.soft.specs.ColumnLaws.{best-below, best-least}
 use Rattle.soft.specs.Blank.{openAt}
-use Rattle.soft.specs.BlankLaws.{blank-same, unblanked-nil}
-use Rattle.soft.specs.TestWord.{bestAt, bestWord, expand, testWords}
-use Rattle.soft.specs.TestWordLaws.{expand-nil}
+use Rattle.soft.specs.BlankLaws.{blank-same}
+use Rattle.soft.specs.TestWord.{bestAt, bestWord, testWords}
+use Rattle.soft.specs.TestWordLaws.{testWords-none}
 use Rattle.family.specs.Member.{m16}
 use Rattle.code.specs.Encoding.{knownRate}
 use Rattle.near.specs.Near.{nearTo}
@@ -47,7 +46,7 @@ use Rattle.book.specs.Closing.{Closed, refusedClosing}
 use Rattle.book.specs.ClosingLaws.{decode-none, decode-some, decode-sized}
 use Rattle.book.specs.Here.{width, fitPlaces, reportLength, decodeOf}
 use Rattle.book.specs.Engine.{unblankedBy, nearBy}
-use Rattle.book.specs.EngineLaws.{IsWithin, unblanked-repairs}
+use Rattle.book.specs.EngineLaws.{IsWithin, within-found, found-within, unblanked-repairs}
 use Rattle.book.specs.Single.{BlankAt, same-number, answer-one}
 use Rattle.superframe.specs.Superframe.{hardCost, hardColumn, hardCosts}
 
@@ -123,11 +122,6 @@ pub fit-none : fitPlaces [] ≡ true
 unfolding Opening.fitPlaces Opening.rising Opening.risingFrom below
 fit-none = refl
 
--- the one test word where nothing is doubtful
-one-test : (columns : ℕ → List ℕ) → testWords places columns [] ≡ bestWord places columns ∷ []
-unfolding testWords
-one-test columns = ap (expand columns (bestWord places columns)) (unblanked-nil (openAt columns)) ∙ expand-nil columns (bestWord places columns)
-
 pub hard-long : (k : ℕ) (columns : ℕ → List ℕ) (doubtful part report : List ℕ) → length part ≡ k → length report ≡ reportLength
     → length (decodeOf k columns doubtful part report .message) ≡ k
 hard-long k columns doubtful part report long whole = decode-sized modem64 k columns doubtful part report long whole .message-sized ∙ long
@@ -157,7 +151,7 @@ module _ (word : List ℕ) (long : length word ≡ places) (small : allBelow sym
   module _ (k : ℕ) (known : knownRate k ≡ true) where
     pub hard-answer : answerOf k columns (testWords places columns []) ≡ nearBy k [] word
     hard-answer =
-        ap (answerOf k columns) (one-test columns ∙ ap (λ t. t ∷ []) hard-word)
+        ap (answerOf k columns) (testWords-none columns places ∙ ap (λ t. t ∷ []) hard-word)
         ∙ answer-one [] fit-none columns hard-blank k word known (omega arith)
 
     module _ (part report : List ℕ) where
@@ -179,21 +173,13 @@ module _ (k : ℕ) (word : List ℕ) where
   answers : Answers free IsFound (nearBy k [] word)
   answers = word-answers m16 (unblankedBy []) (reachOf k 0) k word
 
-  found : {m : List ℕ} → IsWithin k [] word m → IsFound m
-  unfolding nearTo
-  found h = record { word = h .message; passed = le→leb _ (reachOf k 0) (h .close) }
-
-  within : {m : List ℕ} → IsFound m → IsWithin k [] word m
-  unfolding nearTo
-  within f = record { message = f .word; close = leb→le _ (reachOf k 0) (f .passed) }
-
   pub within-near : knownRate k ≡ true → {m : List ℕ} → IsWithin k [] word m → nearBy k [] word ≡ some m
   within-near known h =
-      let f = found h in
+      let f = within-found h in
       let w = rate-workable (known-rate k known) in
       only-near m16 (unblankedBy []) (reachOf k 0) w (f .word) word
       (λ n g. near-one m16 (unblankedBy []) (reachOf k 0) w word (unblanked-repairs k [] known fit-none (omega arith)) g f)
       (T-true _ (f .passed))
 
   pub near-within : {m : List ℕ} → nearBy k [] word ≡ some m → IsWithin k [] word m
-  near-within e = within (answers-some (subst (Answers free IsFound) e answers))
+  near-within e = found-within (answers-some (subst (Answers free IsFound) e answers))
