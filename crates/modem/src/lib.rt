@@ -4,6 +4,7 @@ ghost use Rattle.family.specs.Calls.{outcome};
 ghost use Rattle.code.specs.Calls.{encodeCall, readBackCall};
 ghost use Rattle.book.specs.Table.{closed};
 ghost use Rattle.book.specs.Here.{tableOf, bitsOf, tableBelowOf};
+ghost use Rattle.superframe.specs.Superframe.{buildOf, taken, takenOf};
 
 #[no_mangle]
 pub extern "C" fn hermitian_encode(
@@ -63,4 +64,25 @@ pub extern "C" fn hermitian_decode_table_below(
     ensures { λ r. ⌜ closed r (now (message .exit)) (now (report .exit)) ≡ tableBelowOf rate (now (table .entry)) threshold most (now (message .entry)) (now (report .entry)) ⌝ }
 {
     threshold_decoding::decode_table_below(rate, table, threshold, most, message, report)
+}
+
+#[no_mangle]
+pub extern "C" fn hermitian_build_superframe(rate: usize, messages: &[u8], frame: &mut [u8]) -> u8
+    ensures { λ r. ⌜ outcome r (now (frame .exit)) ≡ buildOf rate (now (messages .entry)) (now (frame .entry)) ⌝ }
+{
+    superframe::building::build(rate, messages, frame)
+}
+
+// The status is written in any case, 0 where the call is refused.
+#[no_mangle]
+pub extern "C" fn hermitian_take_superframe_apart(
+    frame: &[u8],
+    messages: &mut [u8],
+    status: &mut u8,
+) -> u8
+    ensures { λ r. ⌜ taken r (now (status .exit)) (now (messages .exit)) ≡ takenOf (now (frame .entry)) (now (messages .entry)) ⌝ }
+{
+    let answer = superframe::taking::take_apart(frame, messages);
+    *status = answer.status;
+    answer.refusal
 }
