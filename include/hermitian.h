@@ -1,10 +1,11 @@
 /* What the modem's firmware calls: encoding, reading back, table decoding by doubt or by
  * threshold and decoding from bit values for the Hermitian code y^4 + y = x^5 over GF(16), 64
- * places. Link libmodem.a (rt staticlib modem).
+ * places, and superframes of eight codewords. Link libmodem.a (rt staticlib modem).
  *
  * A call returns 0, or the number of its refusal. A refused call leaves every buffer as
- * it was. The library keeps no state, allocates nothing and calls nothing back: any two
- * calls on different buffers may run at once.
+ * it was; the status byte of a superframe is no such buffer, and then becomes 0. The library
+ * keeps no state, allocates nothing and calls nothing back: any two calls on different buffers
+ * may run at once.
  *
  * Lengths. Every buffer is a pointer and the true number of bytes behind it. A buffer that
  * is not of the size that a call asks for is refused. k is the rate, 6 to 52.
@@ -22,6 +23,10 @@
  *             another codeword is near too, else 0 (1), and the margin: the least total of
  *             such another one minus the answer's, 0 where there is none (4); the mark, 1
  *             or 0 (1)
+ *   messages  exactly 8k bytes: eight messages, that of word 0 first
+ *   superframe
+ *             exactly 516 bytes: the version, 1; the length, 513, as 2 and 1; the rate; then
+ *             512 symbols: place p of word v is byte 4 + 8p + v
  *
  * The rate. A codeword holds the values of a function of order at most M = k + 5. With b blank
  * places T is the largest number with 2T + b < 58 - M; a codeword that differs from some test
@@ -37,14 +42,15 @@
  * with pinned places the mark speaks of the sums as they stand, and not of true costs.
  *
  * Stack: table decoding touches some 14 kB of it without doubt, some 50 kB with eight
- * doubtful places and some 67 kB with twelve (bench/stack).
+ * doubtful places and some 67 kB with twelve (bench/stack); taking a superframe apart some
+ * 14 kB (bench/superframes).
  *
  * What C cannot check and the caller must see to:
  *   - a pointer is not null, also where its length is 0, and its bytes may be read, or
  *     written where the parameter is not const, for the length given;
  *   - no buffer is longer than PTRDIFF_MAX;
- *   - aliasing: the buffers of a call do not overlap, and nobody else writes any of them,
- *     or reads one that is not const, until the call returns.
+ *   - aliasing: the buffers of a call, the status byte among them, do not overlap, and nobody
+ *     else writes any of them, or reads one that is not const, until the call returns.
  */
 #ifndef HERMITIAN_H
 #define HERMITIAN_H
@@ -63,6 +69,8 @@ extern "C" {
 #define HERMITIAN_LEAST_RATE 6
 #define HERMITIAN_MOST_RATE 52
 #define HERMITIAN_MOST_DOUBT 12
+#define HERMITIAN_SUPERFRAME_BYTES 516
+#define HERMITIAN_SUPERFRAME_WORDS 8
 
 enum hermitian_refusal {
     HERMITIAN_ACCEPTED = 0,
@@ -72,7 +80,8 @@ enum hermitian_refusal {
     HERMITIAN_WRONG_DOUBT = 4,  /* a doubt above 12, or a maximum of 0 or above 12 */
     HERMITIAN_NO_CODEWORD = 8,  /* the word is not a codeword */
     HERMITIAN_NONE_NEAR = 9,    /* no codeword is near */
-    HERMITIAN_TOO_BLANK = 12    /* more than 52 - k blank places at rate k */
+    HERMITIAN_TOO_BLANK = 12,   /* more than 52 - k blank places at rate k */
+    HERMITIAN_WRONG_SUPERFRAME = 14 /* a superframe not of 516 bytes, or its version or length wrong */
 };
 
 /* Writes the codeword of the message into frame[start] to frame[start + 63]; the other
@@ -129,6 +138,26 @@ uint8_t hermitian_decode_bits(size_t rate,
                               size_t doubt,
                               uint8_t *message, size_t message_length,
                               uint8_t *report, size_t report_length);
+
+/* Writes the superframe of eight messages.
+ * Checks, in this order: rate; messages of 8k and superframe of 516 bytes; symbols.
+ * Refusals: 1, 2, 3. */
+uint8_t hermitian_build_superframe(size_t rate,
+                                   const uint8_t *messages, size_t messages_length,
+                                   uint8_t *superframe, size_t superframe_length);
+
+/* Decodes the eight words of a superframe, each as hermitian_decode_table does without doubt where
+ * the symbol received costs 0 and every other one 1. The message of word v is written into bytes
+ * kv to kv + k - 1 of messages; k is the rate that the superframe names. A word with none near
+ * leaves these bytes as they were, and is named in *status, where word v counts 2^v: 0 if all
+ * eight came back, 255 if none did. Such a call is accepted.
+ * Where up to 8T consecutive symbols are altered, 48 at rate 39, and each is still 0 to 15, all
+ * eight messages come back; T is that of no blank place, (52 - k)/2 rounded down.
+ * Checks, in this order: superframe of 516 bytes, version, length; rate; messages of 8k bytes; all
+ * 512 symbols. Refusals: 14, 1, 2, 3. */
+uint8_t hermitian_take_superframe_apart(const uint8_t *superframe, size_t superframe_length,
+                                        uint8_t *messages, size_t messages_length,
+                                        uint8_t *status);
 
 #ifdef __cplusplus
 }
