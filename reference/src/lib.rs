@@ -18,7 +18,8 @@
 //!   the sixteen symbols' bits ([`bits`]);
 //! - a session keeps the row of the book, as its places arrived, and computes each answer from it; a
 //!   withdrawal takes an entry out of the row ([`session`]); a capture is written from the row sorted
-//!   by place ([`capture`]).
+//!   by place ([`capture`]);
+//! - a superframe is a matrix of 64 rows of eight symbols, transposed to words ([`superframe`]).
 //!
 //! One frame from opening to closing, with a wrong symbol at place 7:
 //!
@@ -137,6 +138,7 @@ pub mod slips;
 pub mod soft;
 pub mod steps;
 pub mod streams;
+pub mod superframe;
 pub mod trials;
 pub mod version_counts;
 pub mod versions;

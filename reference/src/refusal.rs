@@ -1,6 +1,6 @@
 //! "Refusals, by who can cause them."
 //!
-//! - [`Refusal`]: the thirteen refusals; [`Refusal::number`] is the number that documents 01 and 02
+//! - [`Refusal`]: the fourteen refusals; [`Refusal::number`] is the number that documents 01 and 02
 //!   give them.
 //! - [`number`]: the number a call returns, 0 where it is accepted.
 
@@ -34,6 +34,8 @@ pub enum Refusal {
     TooBlank = 12,
     /// "13: the place is not taken", which a withdrawal asks for.
     NotTaken = 13,
+    /// "14: total not 516 bytes, or version or length wrong", of a superframe.
+    Superframe = 14,
 }
 
 impl Refusal {
