@@ -57,10 +57,14 @@
 //! [`below_counts`], [`bit_counts`], [`rate_counts`], [`mark_counts`], [`engine_counts`]). That a marked
 //! answer costs least is tried at small rates by a search through all codewords ([`cheapest`]).
 //!
+//! [`superframe_calls`] makes superframes with bursts, words beyond repair and faults of every kind, those of
+//! [`superframe_turns`]; they are counted, with what wrong rules would answer ([`superframe_counts`],
+//! [`superframe_slips`]).
+//!
 //! Calls that cross as numbers and byte slices are linked: with the feature `proved`, and with
 //! `MODEM_LIB_DIR` naming the folder of `libmodem.a`, `compare code`, `compare tables`, `compare below`,
-//! `compare bits`, `compare fades`, `compare rates` and `compare marks` run the trials of [`trials`] on both
-//! libraries.
+//! `compare bits`, `compare fades`, `compare rates`, `compare marks` and `compare superframes` run the trials
+//! of [`trials`] on both libraries.
 //!
 //! Sessions and captures are compared by stream: a program reads calls on its standard input and writes
 //! answers on its standard output, laid out as in [`calls`]; `compare run` starts it on the lists of
@@ -139,6 +143,10 @@ pub mod soft;
 pub mod steps;
 pub mod streams;
 pub mod superframe;
+pub mod superframe_calls;
+pub mod superframe_counts;
+pub mod superframe_slips;
+pub mod superframe_turns;
 pub mod trials;
 pub mod version_counts;
 pub mod versions;

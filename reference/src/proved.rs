@@ -3,8 +3,9 @@
 //! - [`PROVED`]: encoding and reading back.
 //! - [`PROVED_TABLE`]: table decoding; [`PROVED_BELOW`]: with a threshold; [`PROVED_BITS`]: decoding
 //!   from bit values.
+//! - [`PROVED_SUPERFRAMES`]: building superframes and taking them apart.
 
-use crate::trials::{Coding, DecodeBelow, DecodeBits, DecodeTable};
+use crate::trials::{Coding, DecodeBelow, DecodeBits, DecodeTable, Superframes};
 
 extern "C" {
     fn hermitian_encode(
@@ -56,6 +57,22 @@ extern "C" {
         message_length: usize,
         report: *mut u8,
         report_length: usize,
+    ) -> u8;
+
+    fn hermitian_build_superframe(
+        rate: usize,
+        messages: *const u8,
+        messages_length: usize,
+        superframe: *mut u8,
+        superframe_length: usize,
+    ) -> u8;
+
+    fn hermitian_take_superframe_apart(
+        superframe: *const u8,
+        superframe_length: usize,
+        messages: *mut u8,
+        messages_length: usize,
+        status: *mut u8,
     ) -> u8;
 }
 
@@ -120,4 +137,16 @@ pub const PROVED_BITS: DecodeBits = |rate, values, doubt, message, report| unsaf
         report.as_mut_ptr(),
         report.len(),
     )
+};
+
+/// The proved library's superframes.
+pub const PROVED_SUPERFRAMES: Superframes = Superframes {
+    build: |rate, messages, frame| unsafe {
+        let (to, room) = (frame.as_mut_ptr(), frame.len());
+        hermitian_build_superframe(rate as usize, messages.as_ptr(), messages.len(), to, room)
+    },
+    take_apart: |frame, messages, status| unsafe {
+        let (to, room) = (messages.as_mut_ptr(), messages.len());
+        hermitian_take_superframe_apart(frame.as_ptr(), frame.len(), to, room, status)
+    },
 };

@@ -1,15 +1,17 @@
-//! The five calls of the firmware, and random trials that compare two libraries on them.
+//! The seven calls of the firmware, and random trials that compare two libraries on them.
 //!
 //! - [`Coding`]: encoding and reading back; [`DecodeTable`], [`DecodeBelow`], [`DecodeBits`]: decoding
-//!   a table by doubt, by threshold and maximum, and from bit values; each returns the refusal or 0.
-//!   [`REFERENCE`], [`REFERENCE_TABLE`], [`REFERENCE_BELOW`] and [`REFERENCE_BITS`] are this package's.
+//!   a table by doubt, by threshold and maximum, and from bit values; [`Superframes`]: building superframes
+//!   and taking them apart; each returns the refusal or 0. [`REFERENCE`], [`REFERENCE_TABLE`],
+//!   [`REFERENCE_BELOW`], [`REFERENCE_BITS`] and [`REFERENCE_SUPERFRAMES`] are this package's.
 //! - [`encode_trial`], [`read_back_trial`], [`table_trial`], [`fade_trial`], [`below_trial`],
 //!   [`bits_trial`]: one numbered call, right or damaged, on a library; the [`Outcome`] is its number and
 //!   every byte of its buffers. [`rate_table_trial`], [`rate_below_trial`], [`rate_bits_trial`]: those of
-//!   frames at every rate; [`mark_table_trial`], [`mark_below_trial`]: those of frames for the mark.
+//!   frames at every rate; [`mark_table_trial`], [`mark_below_trial`]: those of frames for the mark;
+//!   [`superframe_trial`]: those of superframes.
 //! - [`compare`]: many trials on two libraries; the [`Tally`] of numbers, margins, marks, blank places,
-//!   doubtful ones, doubts and sorts of fades, of thresholds, of bit values, of rates and of frames for the
-//!   mark, or a [`Difference`].
+//!   doubtful ones, doubts and sorts of fades, of thresholds, of bit values, of rates, of frames for the mark
+//!   and of superframes, or a [`Difference`].
 
 use std::sync::atomic::{AtomicBool, Ordering};
 use std::thread;
@@ -37,6 +39,9 @@ use crate::rate_counts::{Part, RateCounts};
 use crate::rates::RateFrame;
 use crate::refusal::number;
 use crate::soft::DOUBT_LIMIT;
+use crate::superframe::{build, take_apart};
+use crate::superframe_calls::{SuperAnswer, SuperCall};
+use crate::superframe_counts::SuperCounts;
 
 /// Encoding and reading back, as the firmware calls them: "these return the refusal, or 0."
 pub struct Coding {
@@ -55,6 +60,14 @@ pub type DecodeBelow = fn(u64, &[u8], u16, u64, &mut [u8], &mut [u8]) -> u8;
 
 /// Decoding from bit values, as the firmware calls it: rate, values, doubt, message, report.
 pub type DecodeBits = fn(u64, &[i8], u64, &mut [u8], &mut [u8]) -> u8;
+
+/// Building superframes and taking them apart, as the firmware calls them.
+pub struct Superframes {
+    /// Rate, messages, frame.
+    pub build: fn(u64, &[u8], &mut [u8]) -> u8,
+    /// Frame, messages, status.
+    pub take_apart: fn(&[u8], &mut [u8], &mut u8) -> u8,
+}
 
 /// This package's encoding and reading back.
 pub const REFERENCE: Coding = Coding {
@@ -77,6 +90,16 @@ pub const REFERENCE_BELOW: DecodeBelow = |rate, table, threshold, most, message,
 /// This package's decoding from bit values.
 pub const REFERENCE_BITS: DecodeBits = |rate, values, doubt, message, report| {
     number(&decode_bits(rate, values, doubt, message, report))
+};
+
+/// This package's superframes. The status of a refused call is 0.
+pub const REFERENCE_SUPERFRAMES: Superframes = Superframes {
+    build: |rate, messages, frame| number(&build(rate, messages, frame)),
+    take_apart: |frame, messages, status| {
+        let taken = take_apart(frame, messages);
+        *status = taken.unwrap_or(0);
+        number(&taken)
+    },
 };
 
 /// What a call returned, and every byte of its lent buffers afterwards.
@@ -106,10 +129,12 @@ pub struct Outcome {
     pub rated: Option<(Part, RateFrame)>,
     /// The frame, where it is one of those for the mark.
     pub marked: Option<MarkFrame>,
+    /// The call and what came of it, its buffer too, where it is one of superframes.
+    pub superframe: Option<(SuperCall, SuperAnswer)>,
 }
 
 /// The numbers that these calls return are below this.
-const NUMBERS: usize = 13;
+const NUMBERS: usize = 15;
 
 /// A trial whose outcomes differ.
 #[derive(Clone, Debug)]
@@ -122,8 +147,8 @@ pub struct Difference {
 pub type Trial<L> = fn(&L, u64, u64) -> Outcome;
 
 /// How often each number was returned, the margins and marks of the reports, the blank and the doubtful
-/// places of the tables and the sorts of fades, of thresholds, of bit values, of rates and of frames for the
-/// mark.
+/// places of the tables and the sorts of fades, of thresholds, of bit values, of rates, of frames for the
+/// mark and of superframes.
 #[derive(Clone, Debug, Default)]
 pub struct Tally {
     pub numbers: [u64; NUMBERS],
@@ -137,6 +162,7 @@ pub struct Tally {
     pub bits: BitCounts,
     pub rates: RateCounts,
     pub mark_sorts: MarkCounts,
+    pub superframes: SuperCounts,
 }
 
 impl Tally {
@@ -187,6 +213,9 @@ impl Tally {
             let number = outcome.number;
             self.mark_sorts.count(frame, number, message, report);
         }
+        if let Some((call, answer)) = &outcome.superframe {
+            self.superframes.count(call, answer);
+        }
     }
 
     fn add(&mut self, other: Tally) {
@@ -203,6 +232,7 @@ impl Tally {
         self.bits.add(other.bits);
         self.rates.add(other.rates);
         self.mark_sorts.add(other.mark_sorts);
+        self.superframes.add(other.superframes);
     }
 }
 
@@ -450,6 +480,18 @@ pub fn mark_below_trial(decode_below: &DecodeBelow, seed: u64, number: u64) -> O
     Outcome {
         marked: Some(frame),
         ..outcome
+    }
+}
+
+/// One of the numbered calls of superframes.
+pub fn superframe_trial(library: &Superframes, seed: u64, number: u64) -> Outcome {
+    let call = SuperCall::numbered(seed, number);
+    let answer = call.answer(library);
+    Outcome {
+        number: answer.number,
+        rate: call.turn.rate(),
+        superframe: Some((call, answer)),
+        ..Outcome::default()
     }
 }
 

@@ -45,6 +45,7 @@ compare rates SEED REPLAY SHOW              the proved decoding at every rate (f
                                             each frame and one on its capture
 compare marks SEED PROGRAM ..               the proved decoding on both sides of the mark (feature proved), by
                                             doubt and by threshold, and a program on a session for each frame
+compare superframes SEED                    the proved building and taking apart of superframes (feature proved)
 LETTERS are those of the calls wanted, of OCDRWXLU.
 The count of frames with a margin is printed; fewer than one in six are a failure.
 The counts of frames with blank places are printed, by kind, by rate and number of these places, and
@@ -74,6 +75,9 @@ The counts of what is tried at each rate are printed, encoded and read back, nea
 places, and in sessions read with each number of settled places, written, opened and looked up, with the
 wrong rules that would lead elsewhere; one that is missing is a failure, and so is a frame that is near
 against the rule, or a reading at rate 39 or 49 with a byte above 81 that is not zero.
+The counts of superframes are printed, built and taken apart, with bursts, words beyond repair and faults,
+with the wrong rules that would answer otherwise; one that is missing is a failure, and so is a call that
+does not come to what it is made for.
 The counts of marked and of unmarked answers are printed; fewer than one in 25 frames of either are a
 failure. Those of frames for the mark are printed, at each rate with the excess one below the slack, equal
 to it and one above, with blank places, pinned ones and pinned seconds, with another codeword that costs as
@@ -179,6 +183,8 @@ fn run(arguments: &[String]) -> Result<(), String> {
         ["rates", seed, replay, show] => proved::rates(number(seed)?, replay, show),
         #[cfg(feature = "proved")]
         ["marks", seed, _, ..] => proved::marks(number(seed)?, &arguments[2..]),
+        #[cfg(feature = "proved")]
+        ["superframes", seed] => proved::superframes(number(seed)?),
         _ => Err(USAGE.to_string()),
     }
 }
@@ -260,15 +266,16 @@ mod proved {
     use reference::code::RATE_COUNT;
     use reference::mark_counts::MarkCounts;
     use reference::mark_frames::{FEW_MARK_TURNS, MARK_TURNS};
-    use reference::proved::{PROVED, PROVED_BELOW, PROVED_BITS, PROVED_TABLE};
+    use reference::proved::{PROVED, PROVED_BELOW, PROVED_BITS, PROVED_SUPERFRAMES, PROVED_TABLE};
     use reference::rate_counts::{Part, RateCounts};
     use reference::rates::{FEW_TURNS, TURNS};
     use reference::streams::{compare_fades, compare_marks, compare_rate_shows, compare_rates};
+    use reference::superframe_turns::turns;
     use reference::trials::{
         below_trial, bits_trial, compare, encode_trial, fade_trial, mark_below_trial,
         mark_table_trial, rate_below_trial, rate_bits_trial, rate_table_trial, read_back_trial,
-        table_trial, Difference, Tally, Trial, REFERENCE, REFERENCE_BELOW, REFERENCE_BITS,
-        REFERENCE_TABLE,
+        superframe_trial, table_trial, Difference, Tally, Trial, REFERENCE, REFERENCE_BELOW,
+        REFERENCE_BITS, REFERENCE_SUPERFRAMES, REFERENCE_TABLE,
     };
 
     pub fn code(seed: u64, count: u64) -> Result<(), String> {
@@ -323,6 +330,15 @@ mod proved {
         marked(name, &tally.mark_sorts)?;
         let counts = compare_marks(program, seed, few)?;
         marked(&format!("{few} sessions alike"), &counts)
+    }
+
+    /// Superframes built and taken apart, each turn once.
+    pub fn superframes(seed: u64) -> Result<(), String> {
+        let both = [&REFERENCE_SUPERFRAMES, &PROVED_SUPERFRAMES];
+        let count = turns().len() as u64;
+        let tally = report("superframes", superframe_trial, both, seed, count)?;
+        super::output(format!("superframes: {}\n", tally.superframes).as_bytes())?;
+        tally.superframes.check()
     }
 
     pub fn tables(seed: u64, count: u64) -> Result<(), String> {
