@@ -272,23 +272,22 @@ module _ (𝓓 : Model) where
         tie (inr (inr r)) q = inr (r .1)
 
     module _ (rate : Known 𝓓 (book .rate)) (none-doubtful : book .doubtful ≡ []) where
-      -- near the only test word
+      -- near the only test word, which is that of best symbols
+      near-few : (n : List ℕ) → IsNear 𝓓 book T n → notBest (book .rate) (columnsOf 𝓓 (book .row)) n ≤ T
+      near-few n near =
+          let e : near .test ≡ bestIn book = List·Memᴰ·eq-of-singleton (subst (List·Memᴰ (near .test)) (one-test book none-doubtful) (near .tested)) in
+          omega (arith, near .few, ap (differingIn (openAt (columnsOf 𝓓 (book .row))) (places 𝓓) (encodeOf member (book .rate) n)) e)
+
       near-best : (n : List ℕ) → IsNear 𝓓 book T n
           → Found (width 𝓓) (book .rate)
           (nearTo member (openAt (columnsOf 𝓓 (book .row))) (reachIn member (book .rate) (columnsOf 𝓓 (book .row))) (book .rate) (bestIn book)) n
       unfolding nearTo
       near-best n near =
-          let e : near .test ≡ bestIn book = List·Memᴰ·eq-of-singleton (subst (List·Memᴰ (near .test)) (one-test book none-doubtful) (near .tested)) in
           record {
             word = near .word;
             passed =
                 le→leb (notBest (book .rate) (columnsOf 𝓓 (book .row)) n) (reachIn member (book .rate) (columnsOf 𝓓 (book .row)))
-                (omega (
-                  arith,
-                  near .few,
-                  ap (differingIn (openAt (columnsOf 𝓓 (book .row))) (places 𝓓) (encodeOf member (book .rate) n)) e,
-                  reach-only member reach,
-                ));
+                (omega (arith, near-few n near, reach-only member reach));
           }
 
       pub closes-repaired : (m : List ℕ) → Word (width 𝓓) (book .rate) m → notBest (book .rate) (columnsOf 𝓓 (book .row)) m ≤ T → RepairedIn book m c
@@ -305,12 +304,6 @@ module _ (𝓓 : Model) where
           (λ n other.
           near-one member (openAt (columnsOf 𝓓 (book .row))) (reachIn member (book .rate) (columnsOf 𝓓 (book .row))) can (bestIn book)
           (repairs-open member can (columnsOf 𝓓 (book .row)) (reach-within member reach)) (near-best n other) (near-best m near))
-
-      -- near the word of best symbols
-      near-few : (n : List ℕ) → IsNear 𝓓 book T n → notBest (book .rate) (columnsOf 𝓓 (book .row)) n ≤ T
-      near-few n near =
-          let e : near .test ≡ bestIn book = List·Memᴰ·eq-of-singleton (subst (List·Memᴰ (near .test)) (one-test book none-doubtful) (near .tested)) in
-          omega (arith, near .few, ap (differingIn (openAt (columnsOf 𝓓 (book .row))) (places 𝓓) (encodeOf member (book .rate) n)) e)
 
       pub closes-refused : (m : List ℕ) → TooFar (book .rate) (columnsOf 𝓓 (book .row)) T m → c .number ≡ noneNear
       closes-refused m far = sentences .none-near full reach .1 (λ n near. go n near (equal-or n m))

@@ -25,6 +25,7 @@ use Rattle.elimination.specs.declared.solving.Solved.{Solved}
 use Rattle.elimination.specs.Terms.{TermRow}
 use Rattle.elimination.specs.Reducing.{pivotValues, Reduces}
 use Rattle.elimination.specs.Solving.{Tries, Keeps, SolvedOf}
+use Rattle.elimination.proofs.Monomials.{term-begins}
 open Field K16 using (𝟘)
 
 -- ---- one term
@@ -33,12 +34,12 @@ pub absent-tries : (key M : ℕ) (symbols : List ℕ) (pivots : List (List ℕ))
 absent-tries key M symbols pivots flags l n =
     record { absent = λ h. n; reduced = λ h. absurd (omega arith); stops = λ h. absurd (omega arith) }
 
-pub term-tries : (key M : ℕ) (symbols : List ℕ) (pivots : List (List ℕ)) (flags row : List ℕ) {r : Reduced} → TermRow M key symbols row → Reduces row pivots flags r
-    → Tries key M symbols pivots flags r
-term-tries key M symbols pivots flags row T R =
+pub term-tries : (key M : ℕ) (symbols : List ℕ) (pivots : List (List ℕ)) (flags row : List ℕ) {r : Reduced} → IsKey (m16 .w) M key → TermRow M key symbols row
+    → Reduces row pivots flags r → Tries key M symbols pivots flags r
+term-tries key M symbols pivots flags row term T R =
     record {
       absent = λ h. absurd (omega (arith, R .within));
-      reduced = λ h word carried P. R .reduced M key word P (T .begins word flags carried);
+      reduced = λ h word carried P. R .reduced M key word P (term-begins M key symbols term row T word flags carried);
       stops = R .stops;
     }
 

@@ -5,6 +5,7 @@ use mathlib.Core.List.{List}
 use mathlib.Core.Logic.{_≢_}
 use Prim.Native.Nat.{ℕ, _+_, _-_, _*_, _/_, _%_, _<_, _≤_}
 use native.Mathlib.Numerals.{add-one}
+use native.Mathlib.Decide.{ℕ-discrete}
 use native.Mathlib.Omega.{arith}
 use lib.Dec.{leb}
 use borrow.Author.Tests.{le-leb, leb-true}
@@ -15,7 +16,7 @@ use Rattle.hermitian.specs.Present.{Present}
 use Rattle.hermitian.specs.Value.{monomial}
 use Rattle.hermitian.specs.Keys.{IsKey, key-even, key-odd, even-key, odd-key}
 use Rattle.family.specs.Member.{m16, places, px, py}
-use Rattle.planes.specs.Arrays.{elementAt, Carries, spreadOf, spread-carries, productOf, product-element}
+use Rattle.planes.specs.Arrays.{elementAt, Carries, symbolsOf, spreadOf, spread-carries, productOf, product-element}
 use Rattle.planes.specs.Rows.{valueAt, joinedOf, whole-joined, slope-joined}
 use Rattle.values.specs.Eliminating.{Reduced, reduced-plain, reduced-z}
 use Rattle.interpolation.specs.Parts.{valuesOf}
@@ -70,31 +71,44 @@ module _ (key m : ℕ) where
   odd-tests z l t = record { holds = λ e. odd-key z l (t .holds e); fails = λ e k. t .fails e (key-odd z k .1) }
 
 -- ---- rows
-module _ (M key : ℕ) (term : IsKey 4 M key) (symbols : List ℕ) where
+module _ (M key : ℕ) (symbols : List ℕ) where
   pub term-plain : (values : List ℕ) {zeros row : List ℕ} → key % 2 ≡ 0 → Carries (monomialAt (key / 2)) values → zeros ≡ spreadOf 0 → row ≡ joinedOf values zeros
       → TermRow M key symbols row
-  unfolding valuesOf
   term-plain values {zeros} {row} even C z e =
       record {
-        begins = λ word flags carried.
-            subst (λ k. Reduced m16 M word flags k 0 (valuesOf row)) (omega (arith, even))
-            (reduced-plain m16 M word flags (key / 2) (key-even even term)
-            (λ p l. ap (λ v. valueAt 0 v p) e ∙ whole-joined values zeros p ∙ C .lanes p l)
-            (λ p l.
-            ap (λ v. valueAt 1 v p) e ∙ slope-joined values zeros p ∙ ap (λ v. elementAt v p) z ∙ spread-carries 0 .lanes p l ∙ toF-zero));
+        plain-whole = λ t p l. ap (λ v. valueAt 0 v p) e ∙ whole-joined values zeros p ∙ C .lanes p l;
+        plain-slope = λ t p l.
+            ap (λ v. valueAt 1 v p) e ∙ slope-joined values zeros p ∙ ap (λ v. elementAt v p) z ∙ spread-carries 0 .lanes p l ∙ toF-zero;
+        z-whole = λ t. absurd (t even);
+        z-slope = λ t. absurd (t even);
       }
 
   pub term-z : (values : List ℕ) {product row : List ℕ} → key % 2 ≢ 0 → Carries (monomialAt (key / 2 - M)) values → product ≡ productOf symbols values
       → row ≡ joinedOf product values → TermRow M key symbols row
-  unfolding valuesOf
   term-z values {product} {row} odd C ep e =
-      let o = key-odd odd term in
       record {
-        begins = λ word flags carried.
-            subst (λ k. Reduced m16 M word flags k 0 (valuesOf row)) (omega (arith, odd, o .0))
-            (reduced-z m16 M word flags (key / 2 - M) (o .1)
-            (λ p l.
+        plain-whole = λ t. absurd (odd t);
+        plain-slope = λ t. absurd (odd t);
+        z-whole = λ t p l.
             ap (λ v. valueAt 0 v p) e ∙ whole-joined product values p ∙ ap (λ v. elementAt v p) ep ∙ product-element symbols values p
-            ∙ ap₂ (λ a b. a ⊗ b) (carried .lanes p l) (C .lanes p l))
-            (λ p l. ap (λ v. valueAt 1 v p) e ∙ slope-joined product values p ∙ C .lanes p l));
+            ∙ ap (λ b. elementAt symbols p ⊗ b) (C .lanes p l);
+        z-slope = λ t p l. ap (λ v. valueAt 1 v p) e ∙ slope-joined product values p ∙ C .lanes p l;
       }
+
+  -- elimination begins with it, where the symbols are a word's
+  pub term-begins : IsKey 4 M key → (row : List ℕ) → TermRow M key symbols row → (word flags : List ℕ) → Carries (symbolsOf word) symbols
+      → Reduced m16 M word flags key 0 (valuesOf row)
+  unfolding valuesOf
+  term-begins term row T word flags carried = go (ℕ-discrete (key % 2) 0)
+    where
+      go : Dec (key % 2 ≡ 0) → Reduced m16 M word flags key 0 (valuesOf row)
+      go (yes z) =
+          let e : 2 * (key / 2) ≡ key = omega arith in
+          subst (λ k. Reduced m16 M word flags k 0 (valuesOf row)) e
+          (reduced-plain m16 M word flags (key / 2) (key-even z term) (T .plain-whole z) (T .plain-slope z))
+      go (no z) =
+          let o = key-odd z term in
+          let e : 2 * (key / 2 - M + M) + 1 ≡ key = omega (arith, o .0) in
+          subst (λ k. Reduced m16 M word flags k 0 (valuesOf row)) e
+          (reduced-z m16 M word flags (key / 2 - M) (o .1)
+          (λ p l. T .z-whole z p l ∙ ap (λ a. a ⊗ monomialAt (key / 2 - M) p) (carried .lanes p l)) (T .z-slope z))

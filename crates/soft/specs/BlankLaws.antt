@@ -2,6 +2,7 @@
 --
 --   blank-same             a column is blank exactly if any two of its costs are equal
 --   ceiling-blank          a column whose best cost is at the ceiling is blank: no cost is larger
+--   count-both             those that pass a test and those that do not are all
 --   open-count             the places that are not blank and the blank ones are all
 --   bit-flag, flag-listed, flags-listed   the flags of a test say what it says, and nowhere behind the n
 --   flags-length, flags-at  a flag for each place says whether it is not blank,
@@ -58,17 +59,13 @@ opposite : (b : Bool) → bit (not b) + bit b ≡ 1
 opposite true = refl
 opposite false = refl
 
+pub count-both : (n : ℕ) (f : ℕ → Bool) → count n f + count n (λ p. not (f p)) ≡ n
+count-both zero f = omega (arith, count-nil f, count-nil (λ p. not (f p)))
+count-both (suc n) f = omega (arith, count-both n f, count-suc n f, count-suc n (λ p. not (f p)), opposite (f n))
+
 pub open-count : (n : ℕ) (columns : ℕ → List ℕ) → count n (openAt columns) + blanksOf n columns ≡ n
 unfolding blanksOf
-open-count zero columns = omega (arith, count-nil (openAt columns), count-nil (blankAt columns))
-open-count (suc n) columns =
-    omega (
-      arith,
-      open-count n columns,
-      count-suc n (openAt columns),
-      count-suc n (blankAt columns),
-      opposite (blankAt columns n),
-    )
+open-count n columns = omega (arith, count-both n (blankAt columns))
 
 pub bit-flag : (b : Bool) → eqb (bit b) 1 ≡ b
 bit-flag true = refl

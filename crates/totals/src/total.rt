@@ -1,5 +1,6 @@
 // What a word costs over 64 places, and where it differs.
 use columns::bit::bit;
+use columns::blank::blanks;
 use columns::blank::is_open;
 use columns::column::best;
 use columns::costs::CEILING;
@@ -60,11 +61,7 @@ pub fn changed_places(costs: &[u16], word: &[u8]) -> [u8; PLACES]
 pub fn changed(flags: [u8; PLACES]) -> u8
     ensures { λ r. ⌜ r ≡ count places (flagAt flags) ⌝ }
 {
-    let mut n = 0u16;
-    for place in 0..PLACES {
-        n += bit(flags[place] == 1);
-    }
-    n as u8
+    (PLACES - blanks(flags)) as u8
 }
 
 // Two words have an entry at a place, and it is the same.

@@ -19,7 +19,7 @@ reduce-requires : tie.Need-reduce-requires
 reduce-requires c κs = search needs
 
 returns-2 : tie.Need-returns-2
-returns-2 c = term-tries _ _ _ _ _ _ (c .before .term .ensures) (c .reduce .ensures)
+returns-2 c = term-tries _ _ _ _ _ _ (c .before .before .before .is-term .ensures .holds (not-false _ (c .before .before .if1 .left))) (c .before .term .ensures) (c .reduce .ensures)
 
 pub tried-spec : {M : Type 1} → statement M
 tried-spec = tie.close (tie.spec is-term-requires returns term-requires reduce-requires returns-2)

@@ -15,7 +15,7 @@ joined-requires : tie.Need-joined-requires
 joined-requires c κs = search needs
 
 returns : tie.Need-returns
-returns c = term-plain _ _ (c .before .before .before .before .pre) _ _ (c .before .before .before .if1 .taken) (c .before .before .monomial .ensures) (c .before .spread .ensures) (c .joined .ensures)
+returns c = term-plain _ _ _ _ (c .before .before .before .if1 .taken) (c .before .before .monomial .ensures) (c .before .spread .ensures) (c .joined .ensures)
 
 sub-monomial : tie.Need-sub-monomial
 sub-monomial c = key-odd (c .if1 .left) (c .before .pre) .0
@@ -30,7 +30,7 @@ joined-requires-2 : tie.Need-joined-requires-2
 joined-requires-2 c κs = search needs
 
 returns-2 : tie.Need-returns-2
-returns-2 c = term-z _ _ (c .before .before .before .before .pre) _ _ (c .before .before .before .if1 .left) (c .before .before .monomial2 .ensures) (c .before .times .ensures) (c .joined2 .ensures)
+returns-2 c = term-z _ _ _ _ (c .before .before .before .if1 .left) (c .before .before .monomial2 .ensures) (c .before .times .ensures) (c .joined2 .ensures)
 
 pub term-spec : {M : Type 1} → statement M
 term-spec =
