@@ -20,6 +20,8 @@ use Rattle.soft.specs.Column as Column
 use Rattle.soft.specs.Doubt.{mostDoubt}
 use Rattle.soft.specs.TestWord.{testWords}
 use Rattle.soft.specs.Bits.{bits}
+use Rattle.family.specs.Member.{m16}
+use Rattle.near.specs.Rivals as Rivals
 use Rattle.book.specs.Model.{modem64}
 use Rattle.book.specs.Model as Models
 use Rattle.book.specs.Book as Books
@@ -162,6 +164,21 @@ NoDearer k columns doubtful m c = Repairs.NoDearer modem64 k columns doubtful m 
 
 abbrev pub TooFar : ℕ → (ℕ → List ℕ) → ℕ → List ℕ → Type 0
 TooFar k columns T m = Repairs.TooFar modem64 k columns T m
+
+abbrev pub FewDoubtful : ℕ → (ℕ → List ℕ) → List ℕ → ℕ → Type 0
+FewDoubtful k columns doubtful T = Rivals.FewDoubtful m16 k columns doubtful T
+
+abbrev pub Alone : ℕ → (ℕ → List ℕ) → List ℕ → ℕ → List ℕ → Type 0
+Alone k columns doubtful T m = Repairs.Alone modem64 k columns doubtful T m
+
+abbrev pub Sure : ℕ → (ℕ → List ℕ) → List ℕ → List ℕ → Closed → Type 0
+Sure k columns doubtful m c = Repairs.Sure modem64 k columns doubtful m c
+
+abbrev pub RefusedAs : ℕ → List ℕ → List ℕ → Closed → Type 0
+RefusedAs n message report c = Repairs.RefusedAs modem64 n message report c
+
+abbrev pub Never : ℕ → (ℕ → List ℕ) → List ℕ → List ℕ → List ℕ → List ℕ → Closed → Type 0
+Never k columns doubtful m message report c = Repairs.Never modem64 k columns doubtful m message report c
 
 -- ---- the report
 

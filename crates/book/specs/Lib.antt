@@ -22,6 +22,7 @@ pub mod WithdrawalLaws
 pub mod Report
 pub mod Marked
 pub mod Repairs
+pub mod TableRepairs
 pub mod Here
 pub mod Capture
 pub mod Writing

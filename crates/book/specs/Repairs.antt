@@ -1,16 +1,26 @@
--- What closing and table decoding make of a message that was sent: when they give it back, when they give nothing dearer, and when they refuse.
+-- What closing makes of a message that was sent: when it gives it back, when it gives nothing dearer, when it gives nothing else, and when it refuses.
 --
 --   wrongOf n columns doubtful word   the wrong places: settled ones, of n, that are not blank and at which the word's symbol is not the best symbol
+--   differing-doubted    of the places that are not blank a word differs from any test word in no more than the wrong ones and the doubtful ones
 --   FewWrong k columns doubtful T m   m is a message; at each doubtful place that is not blank its codeword has the best or the second symbol, and at
 --                        most T settled places are wrong
 --   few-near             so its codeword is near
 --   notBest k columns m  at how many places that are not blank the codeword of m has not the best symbol; not-best-changed: the changed places of its
 --                        report; none-wrong: 0 where it has the best symbol at all of them
 --   Repaired k columns doubtful m c   the call accepts and gives the message m with its report
+--   Sure k columns doubtful m c   so it does, and there is no margin: the report says that no other codeword is near
 --   NoDearer k columns doubtful m c   the call accepts; the total of what it gives is at most that of m, and where the totals are equal the message
 --                        given is m or smaller
+--   RefusedAs n message report c   the call is refused with the number n, and the buffers are as they were
+--   Never k columns doubtful m message report c   the call gives the message m with its report, or says 'none near' and leaves the buffers as they were
+--   Alone k columns doubtful T m   m is a message; with e wrong places, d doubtful ones that are not blank and b blank ones, e + d + T + b < n − M
+--   alone-near           so no codeword is near but that of m, whatever it has at the doubtful places
 --   near-answered, near-dearer   where a codeword is near there is an answer, and the codeword is the answer's or dearer
 --   only-near            the only near codeword: closing gives its message
+--   always-sure          few wrong places, and so few doubtful ones that d + 2T + b < n − M (`near` FewDoubtful): closing gives the message sent, and
+--                        there is no margin
+--   always-absent        with so few doubtful places there is no margin, whatever the answer
+--   never-another        the message sent is alone (Alone): closing gives it or says 'none near', and nothing else is taken for it
 --   always-repaired      no doubtful places, and at most T places that are not blank and at which the sent symbol is not the best symbol: closing gives the
 --                        message sent
 --   faded-repaired       so it does where no more places are blank than the limit says and at most T of the others are wrong
@@ -21,56 +31,53 @@
 --                        they were
 --   refused-at-52        so at rate 52 with 1 to 6 wrong symbols and none blank
 --   always-found         few wrong places: closing never says 'none near', and gives the message sent or one that is no dearer
---   table-repaired       table decoding with doubt 0 gives the message sent where at most T of its symbols, blank places left out, are not the best symbols
---   table-faded          so where no more places are blank than the limit says and none of the others is wrong
---   table-refused        so does table decoding with doubt 0 refuse
---   table-found          with no larger doubt than the largest it never says 'none near' where few places are wrong by the doubtful places picked
 --
--- T is always the one that the blank places leave (Reach): there is none if they are too many.
+-- T is always the one that the blank places leave (Reach): there is none if they are too many. Of tables and bit values TableRepairs says the same.
 --
 -- From here to the code: the contract of `close` is `Closing` in `session`, whose number, message and report are those of `closeOf` of the session's
--- book; the contract of `decode_table` is `tableOf`. `closes-only`, `closes-repaired` and `closes-found` are the same of whatever answers as closing
--- does (`Closes`), so also of closing after any list of calls.
+-- book. `closes-only`, `closes-sure`, `closes-never`, `closes-absent`, `closes-repaired`, `closes-refused` and `closes-found` are the same of whatever
+-- answers as closing does (`Closes`), so also of closing after any list of calls.
 use mathlib.Core.Bool.{Bool, true, false, not, _&&_, _||_, true≢false, false≢true}
 use mathlib.Core.Path.{_≡_, refl, sym, ap, _∙_, subst, subst₂}
-use mathlib.Core.List.{List, [], _∷_, List·Memᴰ, List·Memᴰ·head, List·Memᴰ·tail, List·Memᴰ·eq-of-singleton}
+use mathlib.Core.List.{List, [], _∷_, List·Memᴰ, List·Memᴰ·head, List·Memᴰ·tail, List·Memᴰ·not-nil, List·Memᴰ·eq-of-singleton}
 use mathlib.Core.Logic.{_≢_, _⊎_, inl, inr, ⊎-elim}
-use Prim.Native.Nat.{ℕ, zero, suc, _+_, _<_, _≤_}
+use mathlib.Core.Option.{none}
+use Prim.Native.Nat.{ℕ, _+_, _-_, _<_, _≤_}
+use native.Mathlib.Decide.{ℕ-discrete}
 use native.Mathlib.Omega.{arith}
-use lib.Dec.{T as Holds, eqb, le→leb}
+use lib.Dec.{T as Holds, eqb}
 use lib.ListN.{length, getD}
 use borrow.Author.Tests.{eqb-true, eq-eqb}
 use Rattle.refusals.specs.Refusal.{accepted, noneNear}
-use Rattle.lists.specs.Count.{count, count-mono, count-none}
+use Rattle.lists.specs.Count.{count, count-mono, count-none, count-split}
+use Rattle.lists.specs.Different.{count-among}
 use Rattle.lists.specs.Every.{both-left, both-right, both-intro, T-true}
-use Rattle.lists.specs.Distinct.{among, among-member, below, below-append, below-one, below-nil, below-among, distinct, distinct-nil, distinct-snoc, and-both}
-use Rattle.lists.specs.Listed.{listed, listed-nil, listed-suc, listed-length}
+use Rattle.lists.specs.Distinct.{among, among-member}
 use Rattle.lists.specs.Words.{Word, Lex, lex-or, lex-asym}
-use Rattle.lists.specs.Answers.{Found}
 use Rattle.soft.specs.Blank.{openAt, blanksOf}
+use Rattle.soft.specs.BlankLaws.{member-unblanked, unblanked-length}
 use Rattle.soft.specs.TestWord.{bestAt, Offered, bestWord, testWords}
 use Rattle.soft.specs.TestWordLaws.{testWords-none, testWords-length, testWords-settled, chosen-test}
 use Rattle.soft.specs.Total.{symbolAt, changedAt, changedOf, totalOf, differAt, differingIn}
 use Rattle.soft.specs.TotalLaws.{agree-true, changed-differing, differing-comm, differing-triangle}
-use Rattle.soft.specs.DoubtLaws.{doubtful-none}
 use Rattle.family.specs.Member.{m16}
 use Rattle.family.specs.Encoding.{encodeOf}
 use Rattle.family.specs.Evaluation.{encode-length}
-use Rattle.near.specs.Near.{mOf, blankLimit, reachOf, nearTo}
-use Rattle.near.specs.Reach.{Workable, Reach, reach-is, reach-only, reach-within, reachIn, repairs-open}
-use Rattle.near.specs.Codeword.{near-one}
+use Rattle.near.specs.Near.{mOf, blankLimit, reachOf}
+use Rattle.near.specs.Reach.{Reach, reach-is, reach-only, reach-within}
 use Rattle.near.specs.Distance.{open-apart}
+use Rattle.near.specs.Rivals.{doubled, FewDoubtful, genus-few, no-second}
 use Rattle.near.specs.Here as Near
 use Rattle.code.specs.Encoding.{knownRate}
 use Rattle.book.specs.Model.{Model, places, width, modem64}
-use Rattle.book.specs.Book.{Entry, Book}
+use Rattle.book.specs.Book.{Book}
 use Rattle.book.specs.Columns.{columnsOf}
-use Rattle.book.specs.Entries.{Missing, missing-none}
-use Rattle.book.specs.Closing.{reportLength, Closed, reportFor, closeOf}
+use Rattle.book.specs.Entries.{Missing}
+use Rattle.book.specs.Closing.{reportLength, Closed, marginFor, reportFor, closeOf}
 use Rattle.book.specs.ClosingLaws.{Kept, close-kept}
 use Rattle.book.specs.OpeningLaws.{Known, rate-39, rate-52, rate-known, rate-blanks}
-use Rattle.book.specs.Sentences.{testsOf, totalFor, blanksIn, IsNear, Dearer, IsAnswer, Closes, closes}
-use Rattle.book.specs.Table.{tableLength, tableColumns, pickedOf, tableOf, Delivered, delivered-columns, delivered-none-missing, table-as-session, entriesOf, order-delivered}
+use Rattle.book.specs.Report.{markIn, markOf, mark-none, margin-byte}
+use Rattle.book.specs.Sentences.{testsOf, totalFor, blanksIn, IsNear, near-found, Dearer, IsAnswer, Closes, closes}
 
 abbrev pub wrongAt : (ℕ → List ℕ) → List ℕ → List ℕ → ℕ → Bool
 wrongAt columns doubtful word p = not (among p doubtful) && changedAt columns word p
@@ -87,11 +94,11 @@ among-there p (x ∷ l) a = go (eqb x p) refl a (among-there p l)
     go true e f ih = List·Memᴰ·head (sym (eqb-true x p e))
     go false e f ih = List·Memᴰ·tail (ih f)
 
--- a test word with the word's symbols at the doubtful places that are not blank differs from it, of the places that are not blank, at wrong ones only
-module _ (n : ℕ) (columns : ℕ → List ℕ) (doubtful word t : List ℕ) (size : length word ≡ n) (m : List·Memᴰ t (testWords n columns doubtful))
-    (chosen : (p : ℕ) → p < n → List·Memᴰ p doubtful → openAt columns p ≡ true → getD t p 0 ≡ symbolAt word p) where
-  differ-wrong : (p : ℕ) → p < n → Holds (openAt columns p && differAt word t p) → Holds (wrongAt columns doubtful word p)
-  differ-wrong p l d = go (among p doubtful) refl (eqb (symbolAt word p) (bestAt columns p)) refl
+-- where a test word has the word's symbol if the place is doubtful and not blank, it differs from it, of the places that are not blank, at wrong ones only
+module _ (n : ℕ) (columns : ℕ → List ℕ) (doubtful word t : List ℕ) (size : length word ≡ n) (m : List·Memᴰ t (testWords n columns doubtful)) where
+  differ-wrong : (p : ℕ) → p < n → (List·Memᴰ p doubtful → openAt columns p ≡ true → getD t p 0 ≡ symbolAt word p)
+      → Holds (openAt columns p && differAt word t p) → Holds (wrongAt columns doubtful word p)
+  differ-wrong p l chosen d = go (among p doubtful) refl (eqb (symbolAt word p) (bestAt columns p)) refl
     where
       counts : Holds (openAt columns p)
       counts = both-left (openAt columns p) (differAt word t p) d
@@ -105,14 +112,43 @@ module _ (n : ℕ) (columns : ℕ → List ℕ) (doubtful word t : List ℕ) (si
       settled e i = true≢false (sym (among-member i) ∙ e)
 
       go : (a : Bool) → among p doubtful ≡ a → (b : Bool) → eqb (symbolAt word p) (bestAt columns p) ≡ b → Holds (not a && (openAt columns p && not b))
-      go true e b f = absurd (same (sym (chosen p l (among-there p doubtful e) (T-true (openAt columns p) counts))))
+      go true e b f = absurd (same (sym (chosen (among-there p doubtful e) (T-true (openAt columns p) counts))))
       go false e true f =
           absurd (same (eqb-true (symbolAt word p) (bestAt columns p) f ∙ sym (testWords-settled n columns doubtful t m p l (settled e))))
       go false e false f = both-intro (openAt columns p) true counts tt
 
-  differing-wrong : differingIn (openAt columns) n word t ≤ wrongOf n columns doubtful word
+  differing-wrong : ((p : ℕ) → p < n → List·Memᴰ p doubtful → openAt columns p ≡ true → getD t p 0 ≡ symbolAt word p)
+      → differingIn (openAt columns) n word t ≤ wrongOf n columns doubtful word
   unfolding differingIn wrongOf
-  differing-wrong = count-mono n (λ p. openAt columns p && differAt word t p) (wrongAt columns doubtful word) differ-wrong
+  differing-wrong chosen =
+      count-mono n (λ p. openAt columns p && differAt word t p) (wrongAt columns doubtful word) (λ p l. differ-wrong p l (chosen p l))
+
+  -- whatever the word has at the doubtful places
+  pub differing-doubted : differingIn (openAt columns) n word t ≤ wrongOf n columns doubtful word + length (doubled columns doubtful)
+  unfolding differingIn wrongOf
+  differing-doubted =
+      omega (
+        arith,
+        count-split n differs chosen,
+        count-among (doubled columns doubtful) n (λ p. differs p && chosen p) (λ p l x. T-true (chosen p) (both-right (differs p) (chosen p) x)),
+        count-mono n (λ p. differs p && not (chosen p)) (wrongAt columns doubtful word)
+            (λ p l x. differ-wrong p l (λ i o. out p (both-right (differs p) (not (chosen p)) x) i o) (both-left (differs p) (not (chosen p)) x)),
+      )
+    where
+      differs : ℕ → Bool
+      differs p = openAt columns p && differAt word t p
+
+      chosen : ℕ → Bool
+      chosen p = among p (doubled columns doubtful)
+
+      out : (p : ℕ) → Holds (not (chosen p)) → List·Memᴰ p doubtful → openAt columns p ≡ true → getD t p 0 ≡ symbolAt word p
+      out p x i o = absurd (subst (λ b. Holds (not b)) (among-member (member-unblanked (openAt columns) doubtful p i o)) x)
+
+-- no more places are wrong than have not the best symbol
+wrong-le : (n : ℕ) (columns : ℕ → List ℕ) (doubtful word : List ℕ) → wrongOf n columns doubtful word ≤ changedOf n columns word
+unfolding wrongOf changedOf
+wrong-le n columns doubtful word =
+    count-mono n (wrongAt columns doubtful word) (changedAt columns word) (λ p l. both-right (not (among p doubtful)) (changedAt columns word p))
 
 -- two messages are equal or not
 equal-or : (m n : List ℕ) → (m ≡ n) ⊎ (n ≢ m)
@@ -120,25 +156,6 @@ equal-or m n =
     ⊎-elim (λ l. inr (λ e. lex-asym m m (subst (Lex m) e l) (subst (Lex m) e l)))
     (⊎-elim (λ e. inl (sym e)) (λ l. inr (λ e. lex-asym m m (subst (λ x. Lex x m) e l) (subst (λ x. Lex x m) e l))))
     (lex-or m n)
-
--- the first n numbers in their order
-upTo : ℕ → List ℕ
-upTo n = listed n (λ p. p)
-
-up-to : (n m : ℕ) → n ≤ m → (distinct (upTo n) ≡ true) × (below m (upTo n) ≡ true)
-unfolding upTo
-up-to zero m h = (ap distinct (listed-nil (λ p. p)) ∙ distinct-nil, ap (below m) (listed-nil (λ p. p)) ∙ below-nil m)
-up-to (suc n) m h =
-    let r = up-to n m (omega arith) in
-    let s = up-to n n (omega arith) in (
-      ap distinct (listed-suc n (λ p. p)) ∙ distinct-snoc (upTo n) n (s .0) (fresh (among n (upTo n)) refl (s .1)),
-      ap (below m) (listed-suc n (λ p. p)) ∙ below-append m (upTo n) (n ∷ [])
-          ∙ and-both (below m (upTo n)) (below m (n ∷ [])) (r .1) (below-one m n (omega arith)),
-    )
-  where
-    fresh : (b : Bool) → among n (upTo n) ≡ b → below n (upTo n) ≡ true → among n (upTo n) ≡ false
-    fresh true e small = absurd (omega (arith, below-among n (upTo n) n small e))
-    fresh false e small = e
 
 module _ (𝓓 : Model) where
   open Model 𝓓 using (member, workable, mostDoubt)
@@ -209,11 +226,64 @@ module _ (𝓓 : Model) where
     pub number : c .number ≡ n
     pub kept : Kept message report c
 
+  pub record Alone (k : ℕ) (columns : ℕ → List ℕ) (doubtful : List ℕ) (T : ℕ) (m : List ℕ) : Type 0 where
+    pub word : Word (width 𝓓) k m
+    pub alone : wrongOf (places 𝓓) columns doubtful (encodeOf member k m) + length (doubled columns doubtful) + T + blanksOf (places 𝓓) columns
+        < places 𝓓 - mOf member k
+
+  pub record Sure (k : ℕ) (columns : ℕ → List ℕ) (doubtful m : List ℕ) (c : Closed) : Type 0 where
+    pub repaired : Repaired k columns doubtful m c
+    pub absent : marginFor 𝓓 k columns doubtful m ≡ none
+    pub absent-byte : markIn 𝓓 (c .report) ≡ 0
+
+  abbrev pub Never : ℕ → (ℕ → List ℕ) → List ℕ → List ℕ → List ℕ → List ℕ → Closed → Type 0
+  Never k columns doubtful m message report c = Repaired k columns doubtful m c ⊎ RefusedAs noneNear message report c
+
   abbrev pub RepairedIn : Book → List ℕ → Closed → Type 0
   RepairedIn book = Repaired (book .rate) (columnsOf 𝓓 (book .row)) (book .doubtful)
 
   abbrev pub NoDearerIn : Book → List ℕ → Closed → Type 0
   NoDearerIn book = NoDearer (book .rate) (columnsOf 𝓓 (book .row)) (book .doubtful)
+
+  abbrev pub AloneIn : Book → ℕ → List ℕ → Type 0
+  AloneIn book = Alone (book .rate) (columnsOf 𝓓 (book .row)) (book .doubtful)
+
+  abbrev pub SureIn : Book → List ℕ → Closed → Type 0
+  SureIn book = Sure (book .rate) (columnsOf 𝓓 (book .row)) (book .doubtful)
+
+  abbrev pub NeverIn : Book → List ℕ → List ℕ → List ℕ → Closed → Type 0
+  NeverIn book = Never (book .rate) (columnsOf 𝓓 (book .row)) (book .doubtful)
+
+  abbrev pub FewDoubtfulIn : Book → ℕ → Type 0
+  FewDoubtfulIn book = FewDoubtful member (book .rate) (columnsOf 𝓓 (book .row)) (book .doubtful)
+
+  -- so few doubtful places, and few wrong ones
+  few-alone : {k : ℕ} {columns : ℕ → List ℕ} {doubtful : List ℕ} {T : ℕ} {m : List ℕ} → FewDoubtful member k columns doubtful T
+      → FewWrong k columns doubtful T m → Alone k columns doubtful T m
+  few-alone doubt few = record { word = few .word; alone = omega (arith, doubt, few .at-settled) }
+
+  -- no codeword is near but that of the message
+  pub alone-near : {book : Book} {T : ℕ} {m : List ℕ} → Known 𝓓 (book .rate) → AloneIn book T m → (n : List ℕ) → IsNear 𝓓 book T n → n ≡ m
+  unfolding testsOf
+  alone-near {book} {T} {m} rate alone n near = ⊎-elim (λ e. e) (λ d. absurd (apart d)) (equal-or n m)
+    where
+      columns : ℕ → List ℕ
+      columns = columnsOf 𝓓 (book .row)
+
+      codeword : List ℕ → List ℕ
+      codeword = encodeOf member (book .rate)
+
+      apart : m ≢ n → ⊥
+      apart d =
+          omega (
+            arith,
+            near .few,
+            alone .alone,
+            open-apart member columns (workable (book .rate) rate) (near .word) (alone .word) (λ e. d (sym e)),
+            differing-triangle (openAt columns) (places 𝓓) (codeword n) (near .test) (codeword m),
+            differing-comm (openAt columns) (places 𝓓) (near .test) (codeword m),
+            differing-doubted (places 𝓓) columns (book .doubtful) (codeword m) (near .test) (encode-length member (book .rate) m) (near .tested),
+          )
 
   abbrev bestIn : Book → List ℕ
   bestIn book = bestWord (places 𝓓) (columnsOf 𝓓 (book .row))
@@ -221,7 +291,7 @@ module _ (𝓓 : Model) where
   -- where no place is doubtful, the word of best symbols is the only test word
   one-test : (book : Book) → book .doubtful ≡ [] → testsOf 𝓓 book ≡ bestIn book ∷ []
   unfolding testsOf
-  one-test book none = ap (testWords (places 𝓓) (columnsOf 𝓓 (book .row))) none ∙ testWords-none (columnsOf 𝓓 (book .row)) (places 𝓓)
+  one-test book empty = ap (testWords (places 𝓓) (columnsOf 𝓓 (book .row))) empty ∙ testWords-none (columnsOf 𝓓 (book .row)) (places 𝓓)
 
   module _ {book : Book} {c : Closed} (sentences : Closes 𝓓 book c) (full : (p : ℕ) → Missing 𝓓 (book .row) p → ⊥) {T : ℕ}
       (reach : Reach member (book .rate) (blanksIn 𝓓 book) T) where
@@ -233,15 +303,17 @@ module _ (𝓓 : Model) where
     pub near-dearer : (m : List ℕ) → IsNear 𝓓 book T m → (c .message ≡ m) ⊎ Dearer 𝓓 book (c .message) m
     near-dearer m near = ⊎-elim (λ e. inl e) (λ d. inr (near-answered m near .others m near d)) (equal-or (c .message) m)
 
-    pub closes-only : (m : List ℕ) → IsNear 𝓓 book T m → ((n : List ℕ) → IsNear 𝓓 book T n → n ≡ m) → RepairedIn book m c
-    closes-only m near only =
-        let a = near-answered m near in
-        let e : c .message ≡ m = only (c .message) (a .near) in
+    -- an answer that is the message's
+    answer-only : {m : List ℕ} → IsAnswer 𝓓 book T c → c .message ≡ m → RepairedIn book m c
+    answer-only a e =
         record {
           number = a .number;
           message = e;
           report = a .report ∙ ap (reportFor 𝓓 (book .rate) (columnsOf 𝓓 (book .row)) (book .doubtful)) e;
         }
+
+    pub closes-only : (m : List ℕ) → IsNear 𝓓 book T m → ((n : List ℕ) → IsNear 𝓓 book T n → n ≡ m) → RepairedIn book m c
+    closes-only m near only = let a = near-answered m near in answer-only a (only (c .message) (a .near))
 
     pub closes-found : (m : List ℕ) → FewWrongIn book T m → NoDearerIn book m c
     unfolding totalFor
@@ -271,61 +343,77 @@ module _ (𝓓 : Model) where
         tie (inr (inl l)) q = absurd (omega arith)
         tie (inr (inr r)) q = inr (r .1)
 
-    module _ (rate : Known 𝓓 (book .rate)) (none-doubtful : book .doubtful ≡ []) where
-      -- near the only test word, which is that of best symbols
-      near-few : (n : List ℕ) → IsNear 𝓓 book T n → notBest (book .rate) (columnsOf 𝓓 (book .row)) n ≤ T
-      near-few n near =
-          let e : near .test ≡ bestIn book = List·Memᴰ·eq-of-singleton (subst (List·Memᴰ (near .test)) (one-test book none-doubtful) (near .tested)) in
-          omega (arith, near .few, ap (differingIn (openAt (columnsOf 𝓓 (book .row))) (places 𝓓) (encodeOf member (book .rate) n)) e)
+    module _ (rate : Known 𝓓 (book .rate)) where
+      pub closes-never : {m : List ℕ} → AloneIn book T m → RepairedIn book m c ⊎ (c .number ≡ noneNear)
+      closes-never {m} alone = go (ℕ-discrete (c .number) noneNear)
+        where
+          go : Dec (c .number ≡ noneNear) → RepairedIn book m c ⊎ (c .number ≡ noneNear)
+          go (yes e) = inr e
+          go (no d) = inl (answer-only (sentences .otherwise full reach d) (alone-near rate alone (c .message) (sentences .otherwise full reach d .near)))
 
-      near-best : (n : List ℕ) → IsNear 𝓓 book T n
-          → Found (width 𝓓) (book .rate)
-          (nearTo member (openAt (columnsOf 𝓓 (book .row))) (reachIn member (book .rate) (columnsOf 𝓓 (book .row))) (book .rate) (bestIn book)) n
-      unfolding nearTo
-      near-best n near =
+      pub closes-absent : FewDoubtfulIn book T → IsAnswer 𝓓 book T c
+          → marginFor 𝓓 (book .rate) (columnsOf 𝓓 (book .row)) (book .doubtful) (c .message) ≡ none
+      unfolding testsOf
+      closes-absent doubt a =
+          a .margin-there ∙ a .absent .1 (λ n near. ⊎-elim (λ e. e) (λ d. absurd (apart near d)) (equal-or n (c .message)))
+        where
+          apart : {n : List ℕ} → IsNear 𝓓 book T n → c .message ≢ n → ⊥
+          apart near =
+              no-second member (workable (book .rate) rate) (columnsOf 𝓓 (book .row)) (reach-within member reach) (book .doubtful)
+              (subst (FewDoubtfulIn book) (reach-only member reach) doubt)
+              (near-found 𝓓 book reach (a .near)) (near-found 𝓓 book reach near)
+
+      pub closes-sure : {m : List ℕ} → FewDoubtfulIn book T → FewWrongIn book T m → SureIn book m c
+      closes-sure {m} doubt few =
+          let near = few-near book T m few in
+          let a = near-answered m near in
+          let e = alone-near rate (few-alone doubt few) (c .message) (a .near) in
+          let absent = ap (marginFor 𝓓 (book .rate) (columnsOf 𝓓 (book .row)) (book .doubtful)) (sym e) ∙ closes-absent doubt a in
+          let r = answer-only a e in
           record {
-            word = near .word;
-            passed =
-                le→leb (notBest (book .rate) (columnsOf 𝓓 (book .row)) n) (reachIn member (book .rate) (columnsOf 𝓓 (book .row)))
-                (omega (arith, near-few n near, reach-only member reach));
+            repaired = r;
+            absent = absent;
+            absent-byte =
+                ap (markIn 𝓓) (r .report) ∙ margin-byte 𝓓 (book .rate) (columnsOf 𝓓 (book .row)) (book .doubtful) m ∙ ap markOf absent ∙ mark-none;
           }
 
-      pub closes-repaired : (m : List ℕ) → Word (width 𝓓) (book .rate) m → notBest (book .rate) (columnsOf 𝓓 (book .row)) m ≤ T → RepairedIn book m c
-      closes-repaired m word few =
-          let near : IsNear 𝓓 book T m =
-          record {
-            word = word;
-            test = bestIn book;
-            tested = subst (List·Memᴰ (bestIn book)) (sym (one-test book none-doubtful)) (List·Memᴰ·head refl);
-            few = few;
-          } in
-          let can : Workable member (book .rate) = workable (book .rate) rate in
-          closes-only m near
-          (λ n other.
-          near-one member (openAt (columnsOf 𝓓 (book .row))) (reachIn member (book .rate) (columnsOf 𝓓 (book .row))) can (bestIn book)
-          (repairs-open member can (columnsOf 𝓓 (book .row)) (reach-within member reach)) (near-best n other) (near-best m near))
+      -- with no doubtful place
+      module _ (none-doubtful : book .doubtful ≡ []) where
+        none-doubled : length (doubled (columnsOf 𝓓 (book .row)) (book .doubtful)) ≡ 0
+        none-doubled =
+            omega (arith, unblanked-length (openAt (columnsOf 𝓓 (book .row))) (book .doubtful), ap (λ (l : List ℕ). length l) none-doubtful)
 
-      pub closes-refused : (m : List ℕ) → TooFar (book .rate) (columnsOf 𝓓 (book .row)) T m → c .number ≡ noneNear
-      closes-refused m far = sentences .none-near full reach .1 (λ n near. go n near (equal-or n m))
-        where
-          columns : ℕ → List ℕ
-          columns = columnsOf 𝓓 (book .row)
+        few-wrong : (m : List ℕ)
+            → wrongOf (places 𝓓) (columnsOf 𝓓 (book .row)) (book .doubtful) (encodeOf member (book .rate) m) ≤ notBest (book .rate) (columnsOf 𝓓 (book .row)) m
+        few-wrong m =
+            omega (
+              arith,
+              wrong-le (places 𝓓) (columnsOf 𝓓 (book .row)) (book .doubtful) (encodeOf member (book .rate) m),
+              not-best-changed (book .rate) (columnsOf 𝓓 (book .row)) m,
+            )
 
-          codeword : List ℕ → List ℕ
-          codeword = encodeOf member (book .rate)
+        pub closes-repaired : (m : List ℕ) → Word (width 𝓓) (book .rate) m → notBest (book .rate) (columnsOf 𝓓 (book .row)) m ≤ T → RepairedIn book m c
+        closes-repaired m word few =
+            closes-sure (genus-few member (columnsOf 𝓓 (book .row)) reach (book .doubtful) (omega (arith, none-doubled)))
+            (record {
+              word = word;
+              at-doubtful = λ p i. absurd (List·Memᴰ·not-nil (subst (List·Memᴰ p) none-doubtful i));
+              at-settled = omega (arith, few, few-wrong m);
+            }) .repaired
 
-          -- the sent one is too far, and another one too near to it
-          go : (n : List ℕ) → IsNear 𝓓 book T n → (n ≡ m) ⊎ (m ≢ n) → ⊥
-          go n near (inl e) = omega (arith, near-few n near, far .far, ap (notBest (book .rate) columns) e)
-          go n near (inr d) =
-              omega (
-                arith,
-                near-few n near,
-                far .alone,
-                open-apart member columns (workable (book .rate) rate) (near .word) (far .word) (λ e. d (sym e)),
-                differing-triangle (openAt columns) (places 𝓓) (codeword n) (bestIn book) (codeword m),
-                differing-comm (openAt columns) (places 𝓓) (bestIn book) (codeword m),
-              )
+        -- near the only test word, which is that of best symbols
+        near-few : (n : List ℕ) → IsNear 𝓓 book T n → notBest (book .rate) (columnsOf 𝓓 (book .row)) n ≤ T
+        near-few n near =
+            let e : near .test ≡ bestIn book = List·Memᴰ·eq-of-singleton (subst (List·Memᴰ (near .test)) (one-test book none-doubtful) (near .tested)) in
+            omega (arith, near .few, ap (differingIn (openAt (columnsOf 𝓓 (book .row))) (places 𝓓) (encodeOf member (book .rate) n)) e)
+
+        -- the sent one is too far, and no other one is near
+        pub closes-refused : (m : List ℕ) → TooFar (book .rate) (columnsOf 𝓓 (book .row)) T m → c .number ≡ noneNear
+        closes-refused m far =
+            sentences .none-near full reach .1
+            (λ n near.
+            let e = alone-near rate (record { word = far .word; alone = omega (arith, far .alone, none-doubled, few-wrong m) }) n near in
+            omega (arith, near-few n near, far .far, ap (notBest (book .rate) (columnsOf 𝓓 (book .row))) e))
 
   -- ---- closing
 
@@ -339,11 +427,25 @@ module _ (𝓓 : Model) where
           → notBest (book .rate) (columnsOf 𝓓 (book .row)) m ≤ T → RepairedIn book m (closeOf 𝓓 book message report)
       always-repaired rate none-doubtful = closes-repaired (closes 𝓓 message report long whole-report) full reach rate none-doubtful m
 
+      refused : closeOf 𝓓 book message report .number ≡ noneNear → RefusedAs noneNear message report (closeOf 𝓓 book message report)
+      refused e = record { number = e; kept = close-kept 𝓓 book message report (λ a. absurd (omega (arith, e, a))) }
+
       pub always-refused : Known 𝓓 (book .rate) → book .doubtful ≡ [] → TooFar (book .rate) (columnsOf 𝓓 (book .row)) T m
           → RefusedAs noneNear message report (closeOf 𝓓 book message report)
-      always-refused rate none-doubtful far =
-          let e = closes-refused (closes 𝓓 message report long whole-report) full reach rate none-doubtful m far in
-          record { number = e; kept = close-kept 𝓓 book message report (λ a. absurd (omega (arith, e, a))) }
+      always-refused rate none-doubtful far = refused (closes-refused (closes 𝓓 message report long whole-report) full reach rate none-doubtful m far)
+
+      pub always-sure : Known 𝓓 (book .rate) → FewDoubtfulIn book T → FewWrongIn book T m → SureIn book m (closeOf 𝓓 book message report)
+      always-sure rate = closes-sure (closes 𝓓 message report long whole-report) full reach rate
+
+      pub never-another : Known 𝓓 (book .rate) → AloneIn book T m → NeverIn book m message report (closeOf 𝓓 book message report)
+      never-another rate alone =
+          ⊎-elim (λ r. inl r) (λ e. inr (refused e)) (closes-never (closes 𝓓 message report long whole-report) full reach rate alone)
+
+      pub always-absent : Known 𝓓 (book .rate) → FewDoubtfulIn book T → closeOf 𝓓 book message report .number ≡ accepted
+          → marginFor 𝓓 (book .rate) (columnsOf 𝓓 (book .row)) (book .doubtful) (closeOf 𝓓 book message report .message) ≡ none
+      always-absent rate doubt number =
+          let all = closes 𝓓 message report long whole-report in
+          closes-absent all full reach rate doubt (all .otherwise full reach (λ e. omega (arith, e, number)))
 
       pub always-found : FewWrongIn book T m → NoDearerIn book m (closeOf 𝓓 book message report)
       always-found = closes-found (closes 𝓓 message report long whole-report) full reach m
@@ -359,70 +461,6 @@ module _ (𝓓 : Model) where
       pub faded-right : ((p : ℕ) → p < places 𝓓 → openAt (columnsOf 𝓓 (book .row)) p ≡ true
           → symbolAt (encodeOf member (book .rate) m) p ≡ bestAt (columnsOf 𝓓 (book .row)) p) → RepairedIn book m (closeOf 𝓓 book message report)
       faded-right right = faded-repaired (omega (arith, none-wrong (book .rate) (columnsOf 𝓓 (book .row)) m right))
-
-  -- ---- table decoding
-
-  -- the table's columns delivered in the order of their places
-  inOrder : List ℕ → List Entry
-  inOrder table = entriesOf (tableColumns 𝓓 table) (upTo (places 𝓓))
-
-  in-order : (table : List ℕ) → Delivered 𝓓 table (inOrder table)
-  unfolding inOrder upTo
-  in-order table =
-      let u = up-to (places 𝓓) (places 𝓓) (omega arith) in order-delivered 𝓓 table (upTo (places 𝓓)) (u .0) (u .1) (listed-length (places 𝓓) (λ p. p))
-
-  none-picked : (table : List ℕ) → pickedOf 𝓓 table 0 ≡ []
-  unfolding pickedOf
-  none-picked table = doubtful-none (places 𝓓) (tableColumns 𝓓 table)
-
-  module _ {rate T : ℕ} (rated : Known 𝓓 rate) (table : List ℕ) (reach : Reach member rate (blanksOf (places 𝓓) (tableColumns 𝓓 table)) T)
-      (whole : length table ≡ tableLength 𝓓) (message report : List ℕ) (long : length message ≡ rate) (whole-report : length report ≡ reportLength 𝓓)
-      (m : List ℕ) where
-    full : (p : ℕ) → Missing 𝓓 (inOrder table) p → ⊥
-    full = missing-none 𝓓 (inOrder table) (delivered-none-missing 𝓓 table (inOrder table) (in-order table))
-
-    columns : columnsOf 𝓓 (inOrder table) ≡ tableColumns 𝓓 table
-    columns = delivered-columns 𝓓 table (inOrder table) (in-order table)
-
-    row-reach : Reach member rate (blanksOf (places 𝓓) (columnsOf 𝓓 (inOrder table))) T
-    row-reach = subst (λ c. Reach member rate (blanksOf (places 𝓓) c) T) (sym columns) reach
-
-    session : (doubt : ℕ) → doubt ≤ mostDoubt
-        → closeOf 𝓓 (record { rate = rate; doubtful = pickedOf 𝓓 table doubt; row = inOrder table }) message report ≡ tableOf 𝓓 rate table doubt message report
-    session doubt few = sym (table-as-session 𝓓 rate table doubt rated whole few (inOrder table) (in-order table) message report)
-
-    pub table-repaired : Word (width 𝓓) rate m → notBest rate (tableColumns 𝓓 table) m ≤ T
-        → Repaired rate (tableColumns 𝓓 table) [] m (tableOf 𝓓 rate table 0 message report)
-    table-repaired word few =
-        subst (λ list. Repaired rate (tableColumns 𝓓 table) list m (tableOf 𝓓 rate table 0 message report)) (none-picked table)
-        (subst (λ c. Repaired rate c (pickedOf 𝓓 table 0) m (tableOf 𝓓 rate table 0 message report)) columns
-        (subst (Repaired rate (columnsOf 𝓓 (inOrder table)) (pickedOf 𝓓 table 0) m) (session 0 (omega arith))
-        (always-repaired (record { rate = rate; doubtful = pickedOf 𝓓 table 0; row = inOrder table }) full message report long whole-report m row-reach
-        rated (none-picked table) word
-        (subst (λ c. notBest rate c m ≤ T) (sym columns) few))))
-
-    pub table-refused : TooFar rate (tableColumns 𝓓 table) T m → RefusedAs noneNear message report (tableOf 𝓓 rate table 0 message report)
-    table-refused far =
-        subst (RefusedAs noneNear message report) (session 0 (omega arith))
-        (always-refused (record { rate = rate; doubtful = pickedOf 𝓓 table 0; row = inOrder table }) full message report long whole-report m row-reach
-        rated (none-picked table) (subst (λ c. TooFar rate c T m) (sym columns) far))
-
-    pub table-found : (doubt : ℕ) → doubt ≤ mostDoubt → FewWrong rate (tableColumns 𝓓 table) (pickedOf 𝓓 table doubt) T m
-        → NoDearer rate (tableColumns 𝓓 table) (pickedOf 𝓓 table doubt) m (tableOf 𝓓 rate table doubt message report)
-    table-found doubt most few =
-        subst (λ c. NoDearer rate c (pickedOf 𝓓 table doubt) m (tableOf 𝓓 rate table doubt message report)) columns
-        (subst (NoDearer rate (columnsOf 𝓓 (inOrder table)) (pickedOf 𝓓 table doubt) m) (session doubt most)
-        (always-found (record { rate = rate; doubtful = pickedOf 𝓓 table doubt; row = inOrder table }) full message report long whole-report m row-reach
-        (subst (λ c. FewWrong rate c (pickedOf 𝓓 table doubt) T m) (sym columns) few)))
-
-  pub table-faded : {rate : ℕ} → Known 𝓓 rate → (table : List ℕ) → blanksOf (places 𝓓) (tableColumns 𝓓 table) ≤ blankLimit member rate
-      → length table ≡ tableLength 𝓓 → (message report : List ℕ) → length message ≡ rate → length report ≡ reportLength 𝓓
-      → (m : List ℕ) → Word (width 𝓓) rate m
-      → ((p : ℕ) → p < places 𝓓 → openAt (tableColumns 𝓓 table) p ≡ true → symbolAt (encodeOf member rate m) p ≡ bestAt (tableColumns 𝓓 table) p)
-      → Repaired rate (tableColumns 𝓓 table) [] m (tableOf 𝓓 rate table 0 message report)
-  table-faded {rate} rated table few-blank whole message report long whole-report m word right =
-      table-repaired rated table (reach-is member (workable rate rated) few-blank) whole message report long whole-report m word
-      (omega (arith, none-wrong rate (tableColumns 𝓓 table) m right))
 
 -- ---- the modem of 64 places
 

@@ -4,7 +4,8 @@
 --
 --   numberIn n i bytes     the number in n bytes from byte i on, high byte first
 --   totalIn, testsIn, pinnedIn, changedIn, markIn, marginIn, cheapestIn   the numbers that a report's bytes hold
---   markOf margin, amountOf margin   1 and the margin where there is one; 0 and 0 where there is none
+--   markOf margin, amountOf margin   1 and the margin where there is one; 0 and 0 where there is none (mark-none)
+--   margin-byte            the report's byte for that, of any columns
 --   Shows report total tests pinned changed margin cheapest   the report has its length in bytes, and they hold these numbers: none of them is cut
 --   reads-back             numbers that fit their bytes are read off the report that is made of them
 --   test-words-few, test-count-fits   with no more doubtful places than the largest doubt there are at most 2 to the power of it test words, and the number
@@ -94,6 +95,10 @@ markOf (some d) = 1
 unfoldable pub amountOf : Option ℕ → ℕ
 amountOf none = 0
 amountOf (some d) = d
+
+pub mark-none : markOf none ≡ 0
+unfolding markOf
+mark-none = refl
 
 mark-small : (margin : Option ℕ) → markOf margin < 256 ^ 1
 unfolding markOf
@@ -214,6 +219,10 @@ module _ (𝓓 : Model) where
         ∙ both-below (bytesOf 1 (markOf margin)) _ (bytes-below 1 (markOf margin)) (bytes-below 4 (amountOf margin)))
         (bytes-below 1 cheapest)))))
 
+    mark-read : markIn whole ≡ markOf margin
+    mark-read =
+        ap (numberIn 1 (6 + wide + wide)) from-mark ∙ number-there 1 (6 + wide + wide) (markOf margin) counts _ counts-length (mark-small margin)
+
     pub reads-back : total < 256 ^ 4 → tests < 256 ^ 2 → pinned < 256 ^ wide → changed < 256 ^ wide → amountOf margin < 256 ^ 4
         → cheapest < 256 ^ 1 → Shows (reportOf wide total tests pinned changed margin cheapest) total tests pinned changed margin cheapest
     unfolding whole reportOf bytesOf
@@ -227,8 +236,7 @@ module _ (𝓓 : Model) where
           tests-there = omega arith;
           pinned-there = ap (numberIn wide 6) from-pinned ∙ number-there wide 6 pinned front _ front-length c;
           changed-there = ap (numberIn wide (6 + wide)) from-changed ∙ number-there wide (6 + wide) changed (front ++ bytesOf wide pinned) _ pinned-length d;
-          mark-there =
-              ap (numberIn 1 (6 + wide + wide)) from-mark ∙ number-there 1 (6 + wide + wide) (markOf margin) counts _ counts-length (mark-small margin);
+          mark-there = mark-read;
           margin-there =
               ap (numberIn 4 (7 + wide + wide)) from-margin
               ∙ number-there 4 (7 + wide + wide) (amountOf margin) (counts ++ bytesOf 1 (markOf margin)) last mark-length e;
@@ -255,6 +263,13 @@ module _ (𝓓 : Model) where
       Shows report (totalOf (places 𝓓) columns (encodeOf member k m)) (testsFor 𝓓 k columns doubtful)
       (pinnedOf (places 𝓓) columns (encodeOf member k m)) (changedOf (places 𝓓) columns (encodeOf member k m)) (marginFor 𝓓 k columns doubtful m)
       (bit (markedOf member k columns m))
+
+  -- whether there is a margin, of all columns
+  pub margin-byte : (k : ℕ) (columns : ℕ → List ℕ) (doubtful m : List ℕ) → markIn (reportFor 𝓓 k columns doubtful m) ≡ markOf (marginFor 𝓓 k columns doubtful m)
+  unfolding reportFor whole
+  margin-byte k columns doubtful m =
+      mark-read (totalOf (places 𝓓) columns (encodeOf member k m)) (testsFor 𝓓 k columns doubtful) (pinnedOf (places 𝓓) columns (encodeOf member k m))
+      (changedOf (places 𝓓) columns (encodeOf member k m)) (marginFor 𝓓 k columns doubtful m) (bit (markedOf member k columns m))
 
   pub report-shows : {columns : ℕ → List ℕ} → AreColumns 𝓓 columns → (k : ℕ) (doubtful m : List ℕ) → length doubtful ≤ mostDoubt
       → ShowsFor k columns doubtful m (reportFor 𝓓 k columns doubtful m)

@@ -6,6 +6,7 @@
 --   testsOf book, tests-different   the test words; no two are equal, in every book that opening, deliveries and withdrawals lead to
 --   blanksIn book        b, how many places are blank, where none is missing: a missing place reads as a column of zeros and would count
 --   IsNear book T m      the codeword of the message m is near: of the places that are not blank it differs from some test word in at most T
+--   near-found           so it is found among those near some test word, by the T of the columns
 --   Dearer book m n      the codeword of n has a larger total than that of m, or an equal total and n is the larger message
 --   HasMargin book T m d   a runner-up: a near codeword other than that of m, of the least total among these, and its total is that of m and d
 --   IsAnswer book T c    the message of a near codeword, every other near codeword is dearer; a margin, absent exactly if no other codeword is near, and d
@@ -147,7 +148,7 @@ module _ (𝓓 : Model) where
   answerIn book = answerOf member (openAt (columnsOf 𝓓 (book .row))) (reachFor book) (book .rate) (columnsOf 𝓓 (book .row)) (testsOf book)
 
   module _ (book : Book) {T : ℕ} (reach : Reach member (book .rate) (blanksIn book) T) where
-    near-found : {m : List ℕ} → IsNear book T m → Found (width 𝓓) (book .rate) (nearIn book) m
+    pub near-found : {m : List ℕ} → IsNear book T m → Found (width 𝓓) (book .rate) (nearIn book) m
     unfolding nearTo
     near-found {m} n =
         record {

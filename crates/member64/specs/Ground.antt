@@ -8,28 +8,34 @@
 --   apart-512      the codewords of different messages differ in at least 512 − M places
 --   read-512       reading back gives the message of every codeword, at every rate up to 484
 --   near-512       at most one message has its codeword within T of a word, over the places that are not blank
+--   no-second-512  with at most 12 doubtful places no two different messages have their codewords near
 use mathlib.Core.Path.{_≡_, refl}
 use mathlib.Core.List.{List}
+use mathlib.Core.Logic.{_≢_}
 use mathlib.Core.Option.{some}
 use Prim.Native.Nat.{ℕ, _+_, _<_, _≤_}
 use native.Mathlib.Omega.{arith}
 use lib.Dec.{T}
+use lib.ListN.{length}
 use Rattle.lists.specs.Words.{Word}
 use Rattle.lists.specs.Answers.{Found}
 use Rattle.galois.specs.BinaryField.{K}
 use Rattle.hermitian.specs.Present.{genus}
 use Rattle.hermitian.specs.Points.{Points}
 use Rattle.soft.specs.Blank.{openAt, blanksOf}
+use Rattle.soft.specs.BlankLaws.{unblanked-length}
+use Rattle.soft.specs.TestWord.{testWords}
 use Rattle.soft.specs.Total.{everywhere, differing}
 use Rattle.family.specs.Curve.{isOnCurve, xOf, yOf}
 use Rattle.family.specs.Member.{px, py}
 use Rattle.family.specs.Points.{points, every-point}
 use Rattle.family.specs.Encoding.{encodeOf, readBackOf}
 use Rattle.family.specs.Laws.{read-encoded}
-use Rattle.near.specs.Near.{mOf, blankLimit, reachOf, nearTo}
-use Rattle.near.specs.Reach.{Workable, count-everywhere, reachIn, repairs-open}
+use Rattle.near.specs.Near.{mOf, blankLimit, reachOf, nearTo, near}
+use Rattle.near.specs.Reach.{Workable, count-everywhere, reach-is, reachIn, repairs-open}
 use Rattle.near.specs.Distance.{codewords-apart}
 use Rattle.near.specs.Codeword.{near-one}
+use Rattle.near.specs.Rivals.{genus-few, no-second}
 use Rattle.member64.specs.Member64.{gf64, m64}
 
 pub genus-8 : genus 8 ≡ 28
@@ -64,3 +70,12 @@ pub near-512 : {k : ℕ} → Workable m64 k → (columns : ℕ → List ℕ) →
     → Found 64 k (nearTo m64 (openAt columns) (reachIn m64 k columns) k word) m → Found 64 k (nearTo m64 (openAt columns) (reachIn m64 k columns) k word) n
     → m ≡ n
 near-512 {k} rate columns few word = near-one m64 (openAt columns) (reachIn m64 k columns) rate word (repairs-open m64 rate columns few)
+
+-- as many as document 02's limit: no more than g, so at every rate and with every number of blank places within the limit
+pub no-second-512 : {k : ℕ} → Workable m64 k → (columns : ℕ → List ℕ) → blanksOf 512 columns ≤ blankLimit m64 k → (doubtful : List ℕ)
+    → length doubtful ≤ 12 → {m n : List ℕ}
+    → Found 64 k (near m64 (openAt columns) (reachIn m64 k columns) k (testWords 512 columns doubtful)) m
+    → Found 64 k (near m64 (openAt columns) (reachIn m64 k columns) k (testWords 512 columns doubtful)) n → m ≢ n → ⊥
+no-second-512 {k} rate columns few doubtful most =
+    no-second m64 rate columns few doubtful
+    (genus-few m64 columns (reach-is m64 rate few) doubtful (omega (arith, most, genus-8, unblanked-length (openAt columns) doubtful)))

@@ -13,11 +13,13 @@
 --   repairable                T wrong places of those that are not blank can be repaired
 --   Places ps, Decided columns word ps ns   different places below 64, and the nodes of a word at all other places that are not blank
 --   no-third-here             with at most ten doubtful places no three codewords are near
+--   no-second-six             with at most six no two are near; no-second-seven: nor with seven at rates 39 and 49, where no place is blank
+--   FewDoubtful k columns doubtful T   so few doubtful places that no two codewords are near, as the family has it
 use mathlib.Core.Bool.{Bool}
 use mathlib.Core.Path.{_≡_, refl, subst}
 use mathlib.Core.List.{List}
 use mathlib.Core.Option.{Option}
-use Prim.Native.Nat.{ℕ, _+_, _-_, _*_, _/_, _<_, _≤_}
+use Prim.Native.Nat.{ℕ, _+_, _-_, _*_, _/_, _%_, _<_, _≤_}
 use native.Mathlib.Omega.{arith}
 use Rattle.hermitian.specs.Present.{genus}
 use Rattle.soft.specs.BlankLaws.{unblanked-length}
@@ -28,7 +30,7 @@ use Rattle.lists.specs.Answers.{Found}
 use Rattle.lists.specs.Words.{Word}
 use lib.Dec.{T}
 use lib.ListN.{length}
-use mathlib.Core.Logic.{_≢_, _↔_}
+use mathlib.Core.Logic.{_≢_, _↔_, _⊎_, inl, inr}
 use Rattle.family.specs.Member.{m16}
 use Rattle.family.specs.Nodes.{Node}
 use Rattle.near.specs.Near as Near
@@ -155,3 +157,36 @@ pub no-third-here : {k : ℕ} → Workable k → (columns : ℕ → List ℕ) �
     → Found 16 k (near k columns (testWords 64 columns doubtful)) q → m ≢ o → o ≢ q → m ≢ q → ⊥
 no-third-here rate columns within doubtful few =
     Rivals.no-third m16 rate columns within doubtful (omega (arith, genus-4, unblanked-length (openAt columns) doubtful))
+
+abbrev pub FewDoubtful : ℕ → (ℕ → List ℕ) → List ℕ → ℕ → Type 0
+FewDoubtful k columns doubtful T = Rivals.FewDoubtful m16 k columns doubtful T
+
+-- with at most six no two codewords are near, at whatever rate and with whatever blank places within the limit
+pub no-second-six : {k : ℕ} → Workable k → (columns : ℕ → List ℕ) → blanksIn columns ≤ blankLimit k → (doubtful : List ℕ) → length doubtful ≤ 6
+    → {m o : List ℕ} → Found 16 k (near k columns (testWords 64 columns doubtful)) m → Found 16 k (near k columns (testWords 64 columns doubtful)) o
+    → m ≢ o → ⊥
+no-second-six rate columns within doubtful few =
+    Rivals.no-second m16 rate columns within doubtful
+    (Rivals.genus-few m16 columns (Reach.reach-is m16 rate within) doubtful (omega (arith, few, genus-4, unblanked-length (openAt columns) doubtful)))
+
+-- and with seven at rates 39 and 49, where no place is blank
+pub no-second-seven : {k : ℕ} → (k ≡ 39) ⊎ (k ≡ 49) → (columns : ℕ → List ℕ) → blanksIn columns ≡ 0 → (doubtful : List ℕ) → length doubtful ≤ 7
+    → {m o : List ℕ} → Found 16 k (near k columns (testWords 64 columns doubtful)) m → Found 16 k (near k columns (testWords 64 columns doubtful)) o
+    → m ≢ o → ⊥
+no-second-seven {k} rate columns none doubtful few =
+    Rivals.no-second m16 can columns within doubtful
+    (Rivals.genus-odd m16 columns (Reach.reach-is m16 can within) doubtful (odd rate) (omega (arith, few, genus-4, unblanked-length (openAt columns) doubtful)))
+  where
+    can : Workable k
+    can = go rate
+      where
+        go : (k ≡ 39) ⊎ (k ≡ 49) → Workable k
+        go (inl e) = workable (omega arith) (omega arith)
+        go (inr e) = workable (omega arith) (omega arith)
+
+    within : blanksIn columns ≤ blankLimit k
+    within = omega (arith, none)
+
+    odd : (k ≡ 39) ⊎ (k ≡ 49) → (blankLimit k - blanksIn columns) % 2 ≡ 1
+    odd (inl e) = omega (arith, none, blank-limit-is k, m-is k)
+    odd (inr e) = omega (arith, none, blank-limit-is k, m-is k)

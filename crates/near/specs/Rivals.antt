@@ -1,14 +1,21 @@
--- How many codewords can be near: with few doubtful places never three. For every member, where T is that of the rate and of the blank places.
+-- How many codewords can be near: with few doubtful places never three, and with fewer never two. For every member, where T is that of the rate and of the
+-- blank places.
 --
 --   tests-apart       three test words differ, pair by pair, in no more than twice as many places together as are doubled: two of them agree
 --                     at each doubled place, which has two symbols, and all of them at each other place
---   no-third          where 2d < 3g + 3 and d doubtful places are not blank no three different messages have their codewords near: two codewords differ in n − M − b places
+--   doubled columns doubtful   the doubtful places that are not blank; there are d of them
+--   tests-two         so two test words differ in at most d places
+--   no-third          where 2d < 3g + 3 no three different messages have their codewords near: two codewords differ in n − M − b places
 --                     at least that are not blank, 2T of which can be wrong settled ones
+--   FewDoubtful k columns doubtful T   d + 2T + b < n − M, where b places are blank
+--   genus-few         so it is where d is at most g, at every rate and with every number of blank places within the limit
+--   genus-odd         and where d is at most g + 1, if n − M − g − 1 − b is odd
+--   no-second         then no two different messages have their codewords near
 use mathlib.Core.Bool.{Bool, true, false, not, true≢false}
 use mathlib.Core.Path.{_≡_, refl, sym, ap, _∙_}
 use mathlib.Core.List.{List, List·Memᴰ}
 use mathlib.Core.Logic.{_≢_, _⊎_, inl, inr}
-use Prim.Native.Nat.{ℕ, _+_, _*_, _<_, _≤_}
+use Prim.Native.Nat.{ℕ, suc, _+_, _-_, _*_, _%_, _<_, _≤_}
 use native.Mathlib.Omega.{arith}
 use lib.Dec.{T, leb→le}
 use lib.ListN.{length, getD}
@@ -22,20 +29,23 @@ use Rattle.hermitian.specs.Present.{genus}
 use Rattle.soft.specs.TestWord.{testWords}
 use Rattle.soft.specs.TestWordLaws.{testWords-length, testWords-kept, testWords-symbol}
 use Rattle.soft.specs.Blank.{openAt, blanksOf, unblanked}
-use Rattle.soft.specs.Total.{differAt, differingIn, differing}
-use Rattle.soft.specs.TotalLaws.{agree-true, differing-comm, differing-triangle, differing-fewer}
+use Rattle.soft.specs.Total.{everywhere, differAt, differingIn, differing}
+use Rattle.soft.specs.TotalLaws.{agree-true, differing-comm, differing-self, differing-triangle, differing-fewer}
 use Rattle.family.specs.Member.{Member, symbols, places}
 use Rattle.family.specs.Encoding.{encodeOf}
-use Rattle.near.specs.Near.{mOf, blankLimit, nearTo, near}
-use Rattle.near.specs.Reach.{Workable, reach-is, reachIn}
+use Rattle.near.specs.Near.{mOf, blankLimit, reachOf, nearTo, near}
+use Rattle.near.specs.Reach.{Workable, Reach, reach-is, reach-only, reachIn}
 use Rattle.near.specs.Distance.{open-apart}
 use Rattle.near.specs.Laws.{near-member}
 
+-- the places that are doubled
+abbrev pub doubled : (ℕ → List ℕ) → List ℕ → List ℕ
+doubled columns doubtful = unblanked (openAt columns) doubtful
+
 module _ (n : ℕ) (columns : ℕ → List ℕ) (doubtful : List ℕ) {t u v : List ℕ} (a : List·Memᴰ t (testWords n columns doubtful))
     (b : List·Memᴰ u (testWords n columns doubtful)) (c : List·Memᴰ v (testWords n columns doubtful)) where
-  -- the places that are doubled
-  abbrev doubled : List ℕ
-  doubled = unblanked (openAt columns) doubtful
+  abbrev twice : List ℕ
+  twice = doubled columns doubtful
 
   -- words of n places that have one symbol at a place
   none : (x y : List ℕ) (p : ℕ) → p < n → length x ≡ n → length y ≡ n → getD x p 0 ≡ getD y p 0 → bit (differAt x y p) ≡ 0
@@ -75,7 +85,7 @@ module _ (n : ℕ) (columns : ℕ → List ℕ) (doubtful : List ℕ) {t u v : L
       go (inr d) (inl e) (inl f) = uv (e ∙ sym f)
       go (inr d) (inl e) (inr f) = tv (d ∙ sym f)
 
-  settled : (p : ℕ) → p < n → (List·Memᴰ p doubled → ⊥) → apart p ≡ 0
+  settled : (p : ℕ) → p < n → (List·Memᴰ p twice → ⊥) → apart p ≡ 0
   unfolding apart
   settled p h out =
       let x = testWords-kept n columns doubtful t a p h out in
@@ -83,27 +93,50 @@ module _ (n : ℕ) (columns : ℕ → List ℕ) (doubtful : List ℕ) {t u v : L
       let z = testWords-kept n columns doubtful v c p h out in
       omega (arith, none t u p h lt lu (x ∙ sym y), none u v p h lu lv (y ∙ sym z), none t v p h lt lv (x ∙ sym z))
 
-  place : (p : ℕ) → p < n → apart p ≤ bit (among p doubled) + bit (among p doubled)
-  place p h = go (among p doubled) refl
+  place : (p : ℕ) → p < n → apart p ≤ bit (among p twice) + bit (among p twice)
+  place p h = go (among p twice) refl
     where
-      go : (s : Bool) → among p doubled ≡ s → apart p ≤ bit s + bit s
+      go : (s : Bool) → among p twice ≡ s → apart p ≤ bit s + bit s
       go true e = at-most p h
       go false e = omega (arith, settled p h (λ m. true≢false (sym (among-member m) ∙ e)))
 
-  pub tests-apart : differing n t u + differing n u v + differing n t v ≤ 2 * length doubled
+  pub tests-apart : differing n t u + differing n u v + differing n t v ≤ 2 * length twice
   unfolding differingIn count apart
   tests-apart =
       omega (
         arith,
-        sumOf-mono n apart (λ p. bit (among p doubled) + bit (among p doubled)) place,
+        sumOf-mono n apart (λ p. bit (among p twice) + bit (among p twice)) place,
         sumOf-plus n (λ p. bit (differAt t u p) + bit (differAt u v p)) (λ p. bit (differAt t v p)),
         sumOf-plus n (λ p. bit (differAt t u p)) (λ p. bit (differAt u v p)),
-        sumOf-plus n (λ p. bit (among p doubled)) (λ p. bit (among p doubled)),
-        count-among doubled n (λ p. among p doubled) (λ p h x. T-true (among p doubled) x),
+        sumOf-plus n (λ p. bit (among p twice)) (λ p. bit (among p twice)),
+        count-among twice n (λ p. among p twice) (λ p h x. T-true (among p twice) x),
       )
 
-module _ (𝓜 : Member) {k : ℕ} (rate : Workable 𝓜 k) (columns : ℕ → List ℕ) (within : blanksOf (places 𝓜) columns ≤ blankLimit 𝓜 k) (doubtful : List ℕ)
-    (few : 2 * length (unblanked (openAt columns) doubtful) < 3 * genus (𝓜 .w) + 3) where
+pub tests-two : (n : ℕ) (columns : ℕ → List ℕ) (doubtful : List ℕ) {t u : List ℕ} → List·Memᴰ t (testWords n columns doubtful)
+    → List·Memᴰ u (testWords n columns doubtful) → differing n t u ≤ length (doubled columns doubtful)
+tests-two n columns doubtful {t} {u} a b =
+    omega (
+      arith,
+      tests-apart n columns doubtful a b a,
+      differing-comm everywhere n t u,
+      differing-self n t (omega (arith, testWords-length n columns doubtful t a)),
+    )
+
+module _ (𝓜 : Member) where
+  -- d + 2T + b < n − M
+  abbrev pub FewDoubtful : ℕ → (ℕ → List ℕ) → List ℕ → ℕ → Type 0
+  FewDoubtful k columns doubtful T = length (doubled columns doubtful) + 2 * T + blanksOf (places 𝓜) columns < places 𝓜 - mOf 𝓜 k
+
+  module _ {k T : ℕ} (columns : ℕ → List ℕ) (reach : Reach 𝓜 k (blanksOf (places 𝓜) columns) T) (doubtful : List ℕ) where
+    pub genus-few : length (doubled columns doubtful) ≤ genus (𝓜 .w) → FewDoubtful k columns doubtful T
+    genus-few few = omega (arith, few, reach .fits)
+
+    pub genus-odd : (blankLimit 𝓜 k - blanksOf (places 𝓜) columns) % 2 ≡ 1 → length (doubled columns doubtful) ≤ suc (genus (𝓜 .w))
+        → FewDoubtful k columns doubtful T
+    unfolding reachOf blankLimit
+    genus-odd odd few = omega (arith, few, odd, reach .fits, reach-only 𝓜 reach)
+
+module _ (𝓜 : Member) {k : ℕ} (rate : Workable 𝓜 k) (columns : ℕ → List ℕ) (within : blanksOf (places 𝓜) columns ≤ blankLimit 𝓜 k) (doubtful : List ℕ) where
   abbrev pub tests : List (List ℕ)
   tests = testWords (places 𝓜) columns doubtful
 
@@ -129,8 +162,9 @@ module _ (𝓜 : Member) {k : ℕ} (rate : Workable 𝓜 k) (columns : ℕ → L
         differing-fewer (openAt columns) (places 𝓜) t s,
       )
 
-  pub no-third : {m o q : List ℕ} → IsNear m → IsNear o → IsNear q → m ≢ o → o ≢ q → m ≢ q → ⊥
-  no-third {m} {o} {q} x y z mo oq mq =
+  pub no-third : 2 * length (doubled columns doubtful) < 3 * genus (𝓜 .w) + 3
+      → {m o q : List ℕ} → IsNear m → IsNear o → IsNear q → m ≢ o → o ≢ q → m ≢ q → ⊥
+  no-third few {m} {o} {q} x y z mo oq mq =
       let a = near-member 𝓜 (openAt columns) T₀ k tests m (x .passed) in
       let b = near-member 𝓜 (openAt columns) T₀ k tests o (y .passed) in
       let c = near-member 𝓜 (openAt columns) T₀ k tests q (z .passed) in
@@ -142,4 +176,15 @@ module _ (𝓜 : Member) {k : ℕ} (rate : Workable 𝓜 k) (columns : ℕ → L
         pair o q (b .0) (c .0) (y .word) (z .word) oq (b .2) (c .2),
         pair m q (a .0) (c .0) (x .word) (z .word) mq (a .2) (c .2),
         tests-apart (places 𝓜) columns doubtful (a .1) (b .1) (c .1),
+      )
+
+  pub no-second : FewDoubtful 𝓜 k columns doubtful T₀ → {m o : List ℕ} → IsNear m → IsNear o → m ≢ o → ⊥
+  no-second few {m} {o} x y mo =
+      let a = near-member 𝓜 (openAt columns) T₀ k tests m (x .passed) in
+      let b = near-member 𝓜 (openAt columns) T₀ k tests o (y .passed) in
+      omega (
+        arith,
+        few,
+        pair m o (a .0) (b .0) (x .word) (y .word) mo (a .2) (b .2),
+        tests-two (places 𝓜) columns doubtful (a .1) (b .1),
       )

@@ -5,6 +5,7 @@
 --                        and its book agrees with the book after the calls, and the calls determine it; closing after the calls, into buffers of the right
 --                        sizes, is early, 'too many blank', 'none near' or the answer as documents 01 and 02 say; and every list of calls has a run
 --   good-follows         a good session follows every book that agrees with its own
+--   closes-as            so closing after a run answers what closing the book after the calls answers
 --   blanksAfter book calls   b, how many places are blank by the columns held after the calls
 --   ReachAfter book calls T  T is document 02's with so many blank places: the largest number with 2T + b < 64 − M − 6 (`near` t-is)
 --   reach-after, limit-after   the rate of the book is that after the calls
@@ -32,7 +33,7 @@ use Rattle.book.specs.AnyCalls.{Answer}
 use Rattle.book.specs.Calls.{Call, closing, answer, answers, afterAll}
 use Rattle.book.specs.AlikeCalls.{answer-alike, answers-alike, afterAll-alike}
 use Rattle.book.specs.Sentences.{opening-accepts, opening-only, closes}
-use Rattle.book.specs.Here.{openOf, reportLength, DoubtfulList, blanksIn, Closes}
+use Rattle.book.specs.Here.{openOf, reportLength, DoubtfulList, blanksIn, Closes, closeOf}
 use Rattle.book.specs.CallLaws.{rate-held, AllFit}
 use Rattle.book.specs.Captured.{deliveries, capture-opens}
 use Rattle.session.specs.declared.Session.{Session}
@@ -77,6 +78,14 @@ module _ {s : Session} {book : Book} (good : Good s) (same : Agree (bookOf s) bo
         closed = λ {calls} run step long whole-report. closed-after run step (long ∙ sym (rate-held book calls)) whole-report;
         not-empty = λ fit. some-run fit s good;
       }
+
+pub closes-as : {s : Session} {book : Book} → Follows s book → {calls : List Call} {given : List Answer} {t : Session} → Run s calls given t
+    → {message report : List ℕ} {a : Answer} {u : Session} → Step t (closing message report) a u
+    → closeOf (afterAll book calls) message report ≡ closedBy a
+unfolding answer
+closes-as {s} {book} follows {calls} run {message} {report} step =
+    let left = follows .left run in
+    ap (λ (x : Answer). closedBy x) (sym (step .answered (left .0) ∙ answer-alike (left .1) (closing message report)))
 
 -- ---- blank places after the calls
 

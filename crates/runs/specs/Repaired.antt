@@ -1,14 +1,20 @@
 -- The message sent, after every list of calls: what `book` Repairs says of closing, said of the session that the calls left.
 --
---   follows-repaired, follows-refused, follows-found   of a session that follows a book: an opened one, or one opened by an accepted capture (Follows)
+--   follows-repaired, follows-refused, follows-found, follows-sure, follows-never   of a session that follows a book: an opened one, or one opened by
+--                          an accepted capture (Follows)
 --   Full rate list calls   no place is missing in the book that the calls leave, from one opened with that rate and list
 --   columnsAfter rate list calls   that book's columns by place
 --   run-repaired           opened with no doubtful places: if none is missing and at most T places have a best symbol that is not the sent one, closing
 --                          accepts and gives the message sent, with its report
 --   run-faded              so it does if places are blank, no more than the rate's limit, and at most T of the others are wrong
---   run-refused            opened with no doubtful places: if none is missing and the message sent is too far (`book` Repairs TooFar), closing says 'none near'
+--   run-refused            opened with no doubtful places: if none is missing and the message sent is too far (`book` Repairs TooFar), closing says 'none near' and
+--                          leaves the buffers as they were
 --   run-found              opened with any doubtful list: if none is missing and few places are wrong, closing accepts, and what it gives is the message
 --                          sent or no dearer
+--   run-sure               if moreover so few places are doubtful that no two codewords are near (FewDoubtful), it is the message sent, and there is no margin
+--   run-never              opened with any doubtful list: if none is missing and the message sent is alone (`book` Repairs Alone), closing gives it with its
+--                          report, or says 'none near' and leaves the buffers as they were
+--   capture-sure, capture-never   the same of a session opened by an accepted capture
 --
 -- T is the one that the blank places leave (ReachAfter), and they are none of the wrong ones.
 use mathlib.Core.Path.{_≡_, refl, sym, _∙_, subst, subst₂}
@@ -16,7 +22,7 @@ use mathlib.Core.List.{List, []}
 use Prim.Native.Nat.{ℕ, _≤_}
 use native.Mathlib.Omega.{arith}
 use lib.ListN.{length}
-use Rattle.refusals.specs.Refusal.{noneNear}
+use Rattle.refusals.specs.Refusal.{accepted, noneNear}
 use Rattle.lists.specs.Words.{Word}
 use Rattle.family.specs.Member.{m16}
 use Rattle.near.specs.Here.{blankLimit, reachOf}
@@ -25,45 +31,73 @@ use Rattle.book.specs.Book.{Book, newBook}
 use Rattle.book.specs.OpeningLaws.{Rate, rate-known, rate-reach}
 use Rattle.book.specs.AnyCalls.{Answer}
 use Rattle.book.specs.Calls.{Call, closing, afterAll}
-use Rattle.book.specs.Repairs.{closes-repaired, closes-refused, closes-found}
-use Rattle.book.specs.Here.{openOf, columnsOf, Missing, reportLength, DoubtfulList, FewWrong, notBest, TooFar, Repaired, NoDearer}
+use Rattle.book.specs.Closing.{Closed}
+use Rattle.book.specs.CaptureOpening.{openCaptureOf}
+use Rattle.book.specs.Repairs.{always-repaired, always-refused, always-found, always-sure, never-another}
+use Rattle.book.specs.Here.{openOf, columnsOf, closeOf, Missing, reportLength, DoubtfulList, FewWrong, FewDoubtful, Alone, notBest, TooFar, Repaired, NoDearer, Sure, RefusedAs, Never}
 use Rattle.book.specs.CallLaws.{rate-held, list-held}
 use Rattle.session.specs.declared.Session.{Session}
 use Rattle.session.specs.declared.Opened.{Opened}
 use Rattle.session.specs.Calls.{Opening}
 use Rattle.runs.specs.Step.{Step}
 use Rattle.runs.specs.Runs.{Run}
-use Rattle.runs.specs.Follows.{closedBy, Follows, blanksAfter, ReachAfter, reach-after, by-opening, start-follows}
+use Rattle.runs.specs.Follows.{closedBy, Follows, closes-as, blanksAfter, ReachAfter, reach-after, captureBook, by-opening, start-follows, start-rate, capture-starts}
 
 module _ {s : Session} {book : Book} (follows : Follows s book) {calls : List Call} {given : List Answer} {t : Session}
     (run : Run s calls given t) {message report : List ℕ} {a : Answer} {u : Session} (step : Step t (closing message report) a u)
     (long : length message ≡ book .rate) (whole-report : length report ≡ reportLength) (full : (p : ℕ) → Missing (afterAll book calls .row) p → ⊥)
     {T : ℕ} (reach : ReachAfter book calls T) (m : List ℕ) where
+  -- what holds of closing the book after the calls, by its rate and its list, holds of the answer, by those of the book
+  by-book : (P : ℕ → List ℕ → Closed → Type 0)
+      → P (afterAll book calls .rate) (afterAll book calls .doubtful) (closeOf (afterAll book calls) message report)
+      → P (book .rate) (book .doubtful) (closedBy a)
+  by-book P h =
+      subst (P (book .rate) (book .doubtful)) (closes-as follows run step)
+      (subst₂ (λ r l. P r l (closeOf (afterAll book calls) message report)) (rate-held book calls) (list-held book calls) h)
+
+  columns : ℕ → List ℕ
+  columns = columnsOf (afterAll book calls .row)
+
+  -- of closing the book after the calls
+  long-after : length message ≡ afterAll book calls .rate
+  long-after = long ∙ sym (rate-held book calls)
+
   pub follows-repaired : Rate (book .rate) → book .doubtful ≡ [] → Word 16 (book .rate) m
       → notBest (book .rate) (columnsOf (afterAll book calls .row)) m ≤ T
       → Repaired (book .rate) (columnsOf (afterAll book calls .row)) (book .doubtful) m (closedBy a)
-  follows-repaired rate none-doubtful word few =
-      let k = sym (rate-held book calls) in
-      subst₂ (λ r l. Repaired r (columnsOf (afterAll book calls .row)) l m (closedBy a))
-      (rate-held book calls) (list-held book calls)
-      (closes-repaired modem64 (follows .closed run step long whole-report) full (reach-after book calls reach) (rate-known (subst Rate k rate))
-      (list-held book calls ∙ none-doubtful) m
-      (subst (λ r. Word 16 r m) k word)
-      (subst (λ r. notBest r (columnsOf (afterAll book calls .row)) m ≤ T) k few))
+  unfolding columns
+  follows-repaired =
+      by-book (λ r l c. Rate r → l ≡ [] → Word 16 r m → notBest r columns m ≤ T → Repaired r columns l m c)
+      (λ rate. always-repaired modem64 (afterAll book calls) full message report long-after whole-report m (reach-after book calls reach) (rate-known rate))
 
-  pub follows-refused : Rate (book .rate) → book .doubtful ≡ [] → TooFar (book .rate) (columnsOf (afterAll book calls .row)) T m → a .number ≡ noneNear
-  follows-refused rate none-doubtful far =
-      let k = sym (rate-held book calls) in
-      closes-refused modem64 (follows .closed run step long whole-report) full (reach-after book calls reach) (rate-known (subst Rate k rate))
-      (list-held book calls ∙ none-doubtful) m (subst (λ r. TooFar r (columnsOf (afterAll book calls .row)) T m) k far)
+  pub follows-refused : Rate (book .rate) → book .doubtful ≡ [] → TooFar (book .rate) (columnsOf (afterAll book calls .row)) T m
+      → RefusedAs noneNear message report (closedBy a)
+  unfolding columns
+  follows-refused =
+      by-book (λ r l c. Rate r → l ≡ [] → TooFar r columns T m → RefusedAs noneNear message report c)
+      (λ rate. always-refused modem64 (afterAll book calls) full message report long-after whole-report m (reach-after book calls reach) (rate-known rate))
 
   pub follows-found : FewWrong (book .rate) (columnsOf (afterAll book calls .row)) (book .doubtful) T m
       → NoDearer (book .rate) (columnsOf (afterAll book calls .row)) (book .doubtful) m (closedBy a)
-  follows-found few =
-      subst₂ (λ r l. NoDearer r (columnsOf (afterAll book calls .row)) l m (closedBy a))
-      (rate-held book calls) (list-held book calls)
-      (closes-found modem64 (follows .closed run step long whole-report) full (reach-after book calls reach) m
-      (subst₂ (λ r l. FewWrong r (columnsOf (afterAll book calls .row)) l T m) (sym (rate-held book calls)) (sym (list-held book calls)) few))
+  unfolding columns
+  follows-found =
+      by-book (λ r l c. FewWrong r columns l T m → NoDearer r columns l m c)
+      (always-found modem64 (afterAll book calls) full message report long-after whole-report m (reach-after book calls reach))
+
+  pub follows-sure : Rate (book .rate) → FewDoubtful (book .rate) (columnsOf (afterAll book calls .row)) (book .doubtful) T
+      → FewWrong (book .rate) (columnsOf (afterAll book calls .row)) (book .doubtful) T m
+      → Sure (book .rate) (columnsOf (afterAll book calls .row)) (book .doubtful) m (closedBy a)
+  unfolding columns
+  follows-sure =
+      by-book (λ r l c. Rate r → FewDoubtful r columns l T → FewWrong r columns l T m → Sure r columns l m c)
+      (λ rate. always-sure modem64 (afterAll book calls) full message report long-after whole-report m (reach-after book calls reach) (rate-known rate))
+
+  pub follows-never : Rate (book .rate) → Alone (book .rate) (columnsOf (afterAll book calls .row)) (book .doubtful) T m
+      → Never (book .rate) (columnsOf (afterAll book calls .row)) (book .doubtful) m message report (closedBy a)
+  unfolding columns
+  follows-never =
+      by-book (λ r l c. Rate r → Alone r columns l T m → Never r columns l m message report c)
+      (λ rate. never-another modem64 (afterAll book calls) full message report long-after whole-report m (reach-after book calls reach) (rate-known rate))
 
 -- ---- an opened session
 
@@ -95,7 +129,8 @@ module _ {rate : ℕ} (known : Rate rate) {r : Opened} {calls : List Call} {give
       run-repaired opened run full (rate-reach known few-blank) word few
 
   pub run-refused : Opening (openOf rate []) r → Run (r .session) calls given t → Full rate [] calls
-      → {T : ℕ} → ReachAfter (newBook rate []) calls T → TooFar rate (columnsAfter rate [] calls) T m → a .number ≡ noneNear
+      → {T : ℕ} → ReachAfter (newBook rate []) calls T → TooFar rate (columnsAfter rate [] calls) T m
+      → RefusedAs noneNear message report (closedBy a)
   unfolding newBook
   run-refused opened run full reach far =
       follows-refused (start-follows (by-opening known no-places opened)) run step long whole-report full reach m known refl far
@@ -106,3 +141,36 @@ module _ {rate : ℕ} (known : Rate rate) {r : Opened} {calls : List Call} {give
   unfolding newBook
   run-found d opened run full reach few =
       follows-found (start-follows (by-opening known d opened)) run step long whole-report full reach m few
+
+  pub run-sure : {list : List ℕ} → DoubtfulList list → Opening (openOf rate list) r → Run (r .session) calls given t → Full rate list calls
+      → {T : ℕ} → ReachAfter (newBook rate list) calls T → FewDoubtful rate (columnsAfter rate list calls) list T
+      → FewWrong rate (columnsAfter rate list calls) list T m → Sure rate (columnsAfter rate list calls) list m (closedBy a)
+  unfolding newBook
+  run-sure d opened run full reach =
+      follows-sure (start-follows (by-opening known d opened)) run step long whole-report full reach m known
+
+  pub run-never : {list : List ℕ} → DoubtfulList list → Opening (openOf rate list) r → Run (r .session) calls given t → Full rate list calls
+      → {T : ℕ} → ReachAfter (newBook rate list) calls T → Alone rate (columnsAfter rate list calls) list T m
+      → Never rate (columnsAfter rate list calls) list m message report (closedBy a)
+  unfolding newBook
+  run-never d opened run full reach =
+      follows-never (start-follows (by-opening known d opened)) run step long whole-report full reach m known
+
+-- ---- a session opened by an accepted capture
+
+module _ (bytes : List ℕ) {r : Opened} (opened : Opening (openCaptureOf bytes) r) (taken : r .refusal ≡ accepted) {calls : List Call}
+    {given : List Answer} {t : Session} (run : Run (r .session) calls given t) {message report : List ℕ} {a : Answer} {u : Session}
+    (step : Step t (closing message report) a u) (long : length message ≡ captureBook bytes .rate) (whole-report : length report ≡ reportLength)
+    (full : (p : ℕ) → Missing (afterAll (captureBook bytes) calls .row) p → ⊥) {T : ℕ} (reach : ReachAfter (captureBook bytes) calls T) (m : List ℕ) where
+  pub capture-sure : FewDoubtful (captureBook bytes .rate) (columnsOf (afterAll (captureBook bytes) calls .row)) (captureBook bytes .doubtful) T
+      → FewWrong (captureBook bytes .rate) (columnsOf (afterAll (captureBook bytes) calls .row)) (captureBook bytes .doubtful) T m
+      → Sure (captureBook bytes .rate) (columnsOf (afterAll (captureBook bytes) calls .row)) (captureBook bytes .doubtful) m (closedBy a)
+  capture-sure =
+      let start = capture-starts {bytes = bytes} opened taken .start in
+      follows-sure (start-follows start) run step long whole-report full reach m (start-rate start)
+
+  pub capture-never : Alone (captureBook bytes .rate) (columnsOf (afterAll (captureBook bytes) calls .row)) (captureBook bytes .doubtful) T m
+      → Never (captureBook bytes .rate) (columnsOf (afterAll (captureBook bytes) calls .row)) (captureBook bytes .doubtful) m message report (closedBy a)
+  capture-never =
+      let start = capture-starts {bytes = bytes} opened taken .start in
+      follows-never (start-follows start) run step long whole-report full reach m (start-rate start)
