@@ -106,6 +106,11 @@ uint8_t hermitian_read_back(size_t rate,
  * cost minus best cost; where the second is 65535 and the best is lower, it counts as 65535.
  * A blank place is never doubtful, wrong or changed, but each two of them take one from the
  * wrong places that are repaired.
+ * With b blank and d doubtful places, and e others at which the symbol sent is not the best:
+ * where e + d + T + b < 64 - M no other message than the one sent is ever written; where
+ * also e <= T, and the symbol sent is best or second at each doubtful place, it is written
+ * always, and byte 8 of the report is 0. M is k + 5, and T the largest number with
+ * 2T + b < 58 - M. The second holds for every e <= T with up to six doubtful places.
  * Checks, in this order: rate; table of 2048, message buffer of k and report of 14 bytes;
  * doubt; blank places; nearness. Refusals: 1, 2, 4, 12, 9. */
 uint8_t hermitian_decode_table(size_t rate,

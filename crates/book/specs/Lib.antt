@@ -23,6 +23,7 @@ pub mod Report
 pub mod Marked
 pub mod Repairs
 pub mod TableRepairs
+pub mod Sharp
 pub mod Here
 pub mod Capture
 pub mod Writing

@@ -17,8 +17,9 @@
 --   alone-near           so no codeword is near but that of m, whatever it has at the doubtful places
 --   near-answered, near-dearer   where a codeword is near there is an answer, and the codeword is the answer's or dearer
 --   only-near            the only near codeword: closing gives its message
---   always-sure          few wrong places, and so few doubtful ones that d + 2T + b < n − M (`near` FewDoubtful): closing gives the message sent, and
---                        there is no margin
+--   few-alone            few wrong places, and so few doubtful ones that d + 2T + b < n − M (`near` FewDoubtful): the message is alone
+--   always-alone         few wrong places, and the message sent is alone: closing gives it, and there is no margin
+--   always-sure          so it does with few wrong places and so few doubtful ones
 --   always-absent        with so few doubtful places there is no margin, whatever the answer
 --   never-another        the message sent is alone (Alone): closing gives it or says 'none near', and nothing else is taken for it
 --   always-repaired      no doubtful places, and at most T places that are not blank and at which the sent symbol is not the best symbol: closing gives the
@@ -35,7 +36,7 @@
 -- T is always the one that the blank places leave (Reach): there is none if they are too many. Of tables and bit values TableRepairs says the same.
 --
 -- From here to the code: the contract of `close` is `Closing` in `session`, whose number, message and report are those of `closeOf` of the session's
--- book. `closes-only`, `closes-sure`, `closes-never`, `closes-absent`, `closes-repaired`, `closes-refused` and `closes-found` are the same of whatever
+-- book. `closes-only`, `closes-alone`, `closes-never`, `closes-absent`, `closes-repaired`, `closes-refused` and `closes-found` are the same of whatever
 -- answers as closing does (`Closes`), so also of closing after any list of calls.
 use mathlib.Core.Bool.{Bool, true, false, not, _&&_, _||_, true≢false, false≢true}
 use mathlib.Core.Path.{_≡_, refl, sym, ap, _∙_, subst, subst₂}
@@ -258,7 +259,7 @@ module _ (𝓓 : Model) where
   FewDoubtfulIn book = FewDoubtful member (book .rate) (columnsOf 𝓓 (book .row)) (book .doubtful)
 
   -- so few doubtful places, and few wrong ones
-  few-alone : {k : ℕ} {columns : ℕ → List ℕ} {doubtful : List ℕ} {T : ℕ} {m : List ℕ} → FewDoubtful member k columns doubtful T
+  pub few-alone : {k : ℕ} {columns : ℕ → List ℕ} {doubtful : List ℕ} {T : ℕ} {m : List ℕ} → FewDoubtful member k columns doubtful T
       → FewWrong k columns doubtful T m → Alone k columns doubtful T m
   few-alone doubt few = record { word = few .word; alone = omega (arith, doubt, few .at-settled) }
 
@@ -363,12 +364,13 @@ module _ (𝓓 : Model) where
               (subst (FewDoubtfulIn book) (reach-only member reach) doubt)
               (near-found 𝓓 book reach (a .near)) (near-found 𝓓 book reach near)
 
-      pub closes-sure : {m : List ℕ} → FewDoubtfulIn book T → FewWrongIn book T m → SureIn book m c
-      closes-sure {m} doubt few =
-          let near = few-near book T m few in
-          let a = near-answered m near in
-          let e = alone-near rate (few-alone doubt few) (c .message) (a .near) in
-          let absent = ap (marginFor 𝓓 (book .rate) (columnsOf 𝓓 (book .row)) (book .doubtful)) (sym e) ∙ closes-absent doubt a in
+      pub closes-alone : {m : List ℕ} → FewWrongIn book T m → AloneIn book T m → SureIn book m c
+      closes-alone {m} few alone =
+          let a = near-answered m (few-near book T m few) in
+          let e = alone-near rate alone (c .message) (a .near) in
+          let absent =
+          ap (marginFor 𝓓 (book .rate) (columnsOf 𝓓 (book .row)) (book .doubtful)) (sym e) ∙ a .margin-there
+          ∙ a .absent .1 (λ n near. alone-near rate alone n near ∙ sym e) in
           let r = answer-only a e in
           record {
             repaired = r;
@@ -394,12 +396,13 @@ module _ (𝓓 : Model) where
 
         pub closes-repaired : (m : List ℕ) → Word (width 𝓓) (book .rate) m → notBest (book .rate) (columnsOf 𝓓 (book .row)) m ≤ T → RepairedIn book m c
         closes-repaired m word few =
-            closes-sure (genus-few member (columnsOf 𝓓 (book .row)) reach (book .doubtful) (omega (arith, none-doubled)))
-            (record {
+            let right : FewWrongIn book T m =
+            record {
               word = word;
               at-doubtful = λ p i. absurd (List·Memᴰ·not-nil (subst (List·Memᴰ p) none-doubtful i));
               at-settled = omega (arith, few, few-wrong m);
-            }) .repaired
+            } in
+            closes-alone right (few-alone (genus-few member (columnsOf 𝓓 (book .row)) reach (book .doubtful) (omega (arith, none-doubled))) right) .repaired
 
         -- near the only test word, which is that of best symbols
         near-few : (n : List ℕ) → IsNear 𝓓 book T n → notBest (book .rate) (columnsOf 𝓓 (book .row)) n ≤ T
@@ -434,8 +437,11 @@ module _ (𝓓 : Model) where
           → RefusedAs noneNear message report (closeOf 𝓓 book message report)
       always-refused rate none-doubtful far = refused (closes-refused (closes 𝓓 message report long whole-report) full reach rate none-doubtful m far)
 
+      pub always-alone : Known 𝓓 (book .rate) → FewWrongIn book T m → AloneIn book T m → SureIn book m (closeOf 𝓓 book message report)
+      always-alone rate = closes-alone (closes 𝓓 message report long whole-report) full reach rate
+
       pub always-sure : Known 𝓓 (book .rate) → FewDoubtfulIn book T → FewWrongIn book T m → SureIn book m (closeOf 𝓓 book message report)
-      always-sure rate = closes-sure (closes 𝓓 message report long whole-report) full reach rate
+      always-sure rate doubt few = always-alone rate few (few-alone doubt few)
 
       pub never-another : Known 𝓓 (book .rate) → AloneIn book T m → NeverIn book m message report (closeOf 𝓓 book message report)
       never-another rate alone =

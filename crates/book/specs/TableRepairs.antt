@@ -4,10 +4,11 @@
 --   table-faded          so where no more places are blank than the limit says and none of the others is wrong
 --   table-refused        with doubt 0 it refuses where the message sent is too far
 --   table-found          with no larger doubt than the largest it never says 'none near' where few places are wrong by the doubtful places picked
---   table-sure           where moreover so few places are doubtful that no two codewords are near, it gives the message sent, and there is no margin
+--   table-alone          where moreover the message sent is alone (Repairs Alone) it gives it, and there is no margin; table-sure: so where so few places
+--                        are doubtful that no two codewords are near
 --   table-never          where the message sent is alone it gives it or says 'none near'
---   below-sure, below-never   the same by a threshold, where the doubtful places are those that it picks
---   bits-sure, bits-never     and from bit values, where the columns are those that they make
+--   below-alone, below-sure, below-never   the same by a threshold, where the doubtful places are those that it picks
+--   bits-alone, bits-sure, bits-never      and from bit values, where the columns are those that they make
 --
 -- From here to the code: the contracts of `decode_table`, `decode_table_below` and `decode_bits` are `tableOf`, `tableBelowOf` and `bitsOf`.
 use mathlib.Core.Bool.{Bool, true, false}
@@ -39,7 +40,7 @@ use Rattle.book.specs.OpeningLaws.{Known}
 use Rattle.book.specs.Table.{tableLength, tableColumns, pickedOf, tableOf, Delivered, delivered-columns, delivered-none-missing, table-as-session, entriesOf, order-delivered}
 use Rattle.book.specs.Below.{pickedBelow, tableBelowOf, doubtFor, below-picked, doubt-for-most, below-as-table}
 use Rattle.book.specs.Bits.{frameLength, tableMade, bitsOf, made-length, made-columns, bits-as-table}
-use Rattle.book.specs.Repairs.{FewWrong, notBest, none-wrong, Repaired, Sure, NoDearer, TooFar, RefusedAs, Never, Alone, always-repaired, always-refused, always-found, always-sure, never-another}
+use Rattle.book.specs.Repairs.{FewWrong, notBest, none-wrong, Repaired, Sure, NoDearer, TooFar, RefusedAs, Never, Alone, always-repaired, always-refused, always-found, few-alone, always-alone, never-another}
 
 -- the first n numbers in their order
 upTo : ℕ → List ℕ
@@ -104,15 +105,20 @@ module _ (𝓓 : Model) where
             → NoDearer 𝓓 rate columns (pickedOf 𝓓 table doubt) m c)
             (λ r. always-found 𝓓 (bookBy doubt) full message report long whole-report m r) reach
 
+        pub table-alone : FewWrong 𝓓 rate (tableColumns 𝓓 table) (pickedOf 𝓓 table doubt) T m
+            → Alone 𝓓 rate (tableColumns 𝓓 table) (pickedOf 𝓓 table doubt) T m
+            → Sure 𝓓 rate (tableColumns 𝓓 table) (pickedOf 𝓓 table doubt) m (tableOf 𝓓 rate table doubt message report)
+        unfolding bookBy
+        table-alone =
+            by-table doubt most
+            (λ columns c. Reach member rate (blanksOf (places 𝓓) columns) T → FewWrong 𝓓 rate columns (pickedOf 𝓓 table doubt) T m
+            → Alone 𝓓 rate columns (pickedOf 𝓓 table doubt) T m → Sure 𝓓 rate columns (pickedOf 𝓓 table doubt) m c)
+            (λ r. always-alone 𝓓 (bookBy doubt) full message report long whole-report m r rated) reach
+
         pub table-sure : FewDoubtful member rate (tableColumns 𝓓 table) (pickedOf 𝓓 table doubt) T
             → FewWrong 𝓓 rate (tableColumns 𝓓 table) (pickedOf 𝓓 table doubt) T m
             → Sure 𝓓 rate (tableColumns 𝓓 table) (pickedOf 𝓓 table doubt) m (tableOf 𝓓 rate table doubt message report)
-        unfolding bookBy
-        table-sure =
-            by-table doubt most
-            (λ columns c. Reach member rate (blanksOf (places 𝓓) columns) T → FewDoubtful member rate columns (pickedOf 𝓓 table doubt) T
-            → FewWrong 𝓓 rate columns (pickedOf 𝓓 table doubt) T m → Sure 𝓓 rate columns (pickedOf 𝓓 table doubt) m c)
-            (λ r. always-sure 𝓓 (bookBy doubt) full message report long whole-report m r rated) reach
+        table-sure few-doubtful few = table-alone few (few-alone 𝓓 few-doubtful few)
 
         pub table-never : Alone 𝓓 rate (tableColumns 𝓓 table) (pickedOf 𝓓 table doubt) T m
             → Never 𝓓 rate (tableColumns 𝓓 table) (pickedOf 𝓓 table doubt) m message report (tableOf 𝓓 rate table doubt message report)
@@ -162,14 +168,19 @@ module _ (𝓓 : Model) where
     counted : doubtFor 𝓓 table threshold most ≤ mostDoubt
     counted = omega (arith, few, doubt-for-most 𝓓 table threshold most)
 
+    pub below-alone : FewWrong 𝓓 rate (tableColumns 𝓓 table) (pickedBelow 𝓓 table threshold most) T m
+        → Alone 𝓓 rate (tableColumns 𝓓 table) (pickedBelow 𝓓 table threshold most) T m
+        → Sure 𝓓 rate (tableColumns 𝓓 table) (pickedBelow 𝓓 table threshold most) m (tableBelowOf 𝓓 rate table threshold most message report)
+    below-alone =
+        by-doubt
+        (λ list c. FewWrong 𝓓 rate (tableColumns 𝓓 table) list T m → Alone 𝓓 rate (tableColumns 𝓓 table) list T m
+        → Sure 𝓓 rate (tableColumns 𝓓 table) list m c)
+        (table-alone rated table whole message report long whole-report m reach (doubtFor 𝓓 table threshold most) counted)
+
     pub below-sure : FewDoubtful member rate (tableColumns 𝓓 table) (pickedBelow 𝓓 table threshold most) T
         → FewWrong 𝓓 rate (tableColumns 𝓓 table) (pickedBelow 𝓓 table threshold most) T m
         → Sure 𝓓 rate (tableColumns 𝓓 table) (pickedBelow 𝓓 table threshold most) m (tableBelowOf 𝓓 rate table threshold most message report)
-    below-sure =
-        by-doubt
-        (λ list c. FewDoubtful member rate (tableColumns 𝓓 table) list T → FewWrong 𝓓 rate (tableColumns 𝓓 table) list T m
-        → Sure 𝓓 rate (tableColumns 𝓓 table) list m c)
-        (table-sure rated table whole message report long whole-report m reach (doubtFor 𝓓 table threshold most) counted)
+    below-sure few-doubtful right = below-alone right (few-alone 𝓓 few-doubtful right)
 
     pub below-never : Alone 𝓓 rate (tableColumns 𝓓 table) (pickedBelow 𝓓 table threshold most) T m
         → Never 𝓓 rate (tableColumns 𝓓 table) (pickedBelow 𝓓 table threshold most) m message report
@@ -197,13 +208,17 @@ module _ (𝓓 : Model) where
         subst₂ (λ (columns : ℕ → List ℕ) (c : Closed). P columns (doubtfulOf (places 𝓓) doubt columns) c) (made-columns 𝓓 bits frame power whole)
         (sym (bits-as-table 𝓓 bits frame power rate doubt message report whole)) h
 
+    pub bits-alone : FewWrong 𝓓 rate (bitColumns bits frame) pickedBits T m → Alone 𝓓 rate (bitColumns bits frame) pickedBits T m
+        → Sure 𝓓 rate (bitColumns bits frame) pickedBits m (bitsOf 𝓓 bits rate frame doubt message report)
+    bits-alone =
+        by-made
+        (λ columns list c. Reach member rate (blanksOf (places 𝓓) columns) T → FewWrong 𝓓 rate columns list T m → Alone 𝓓 rate columns list T m
+        → Sure 𝓓 rate columns list m c)
+        (λ r. table-alone rated (tableMade 𝓓 bits frame) (made-length 𝓓 bits frame power) message report long whole-report m r doubt most) reach
+
     pub bits-sure : FewDoubtful member rate (bitColumns bits frame) pickedBits T → FewWrong 𝓓 rate (bitColumns bits frame) pickedBits T m
         → Sure 𝓓 rate (bitColumns bits frame) pickedBits m (bitsOf 𝓓 bits rate frame doubt message report)
-    bits-sure =
-        by-made
-        (λ columns list c. Reach member rate (blanksOf (places 𝓓) columns) T → FewDoubtful member rate columns list T → FewWrong 𝓓 rate columns list T m
-        → Sure 𝓓 rate columns list m c)
-        (λ r. table-sure rated (tableMade 𝓓 bits frame) (made-length 𝓓 bits frame power) message report long whole-report m r doubt most) reach
+    bits-sure few-doubtful few = bits-alone few (few-alone 𝓓 few-doubtful few)
 
     pub bits-never : Alone 𝓓 rate (bitColumns bits frame) pickedBits T m
         → Never 𝓓 rate (bitColumns bits frame) pickedBits m message report (bitsOf 𝓓 bits rate frame doubt message report)

@@ -1,5 +1,6 @@
 -- Document 01's code at two rates: the least distance is exactly 20 at rate 39 and exactly 10 at rate 49.
 --
+--   symbol39, light-39         a codeword of twenty symbols that are not zero at rate 39, place by place
 --   distance-39, distance-49   so, with the zero word and a codeword of so many symbols that are not zero
 --
 -- The product of x − a over the eleven a with a^5 other than 1 is x + x^6 + x^11: it is x at the four places of each x with x^5 = 1, and 0 elsewhere.
@@ -37,7 +38,7 @@ terms49 = (6, 4) ∷ (1, 9) ∷ (1, 14) ∷ (6, 24) ∷ (1, 29) ∷ (1, 34) ∷ 
 abbrev fifthRoots : List ℕ
 fifthRoots = 0 ∷ 1 ∷ 0 ∷ 0 ∷ 0 ∷ 0 ∷ 0 ∷ 0 ∷ 8 ∷ 0 ∷ 10 ∷ 0 ∷ 12 ∷ 0 ∷ 0 ∷ 15 ∷ []
 
-abbrev symbol39 : ℕ → ℕ
+abbrev pub symbol39 : ℕ → ℕ
 symbol39 p = getD fifthRoots (p / 4) 0
 
 -- the y of these four places are 2, 3, 4 and 5
@@ -52,13 +53,16 @@ codewords : Codeword m16 39 (listed (places m16) symbol39) × Codeword m16 49 (l
 unfolding messageOf coefficientIn listed termsOf orderOf presents isPresent genus allBelow
 codewords = (codeword-terms m16 39 terms39 symbol39 tt refl (encoded .0), codeword-terms m16 49 terms49 symbol49 tt refl (encoded .1))
 
+pub light-39 : Codeword m16 39 (listed (places m16) symbol39)
+light-39 = codewords .0
+
 weights : (differing (places m16) (zeroWord m16) (listed (places m16) symbol39) ≡ 20)
     × (differing (places m16) (zeroWord m16) (listed (places m16) symbol49) ≡ 10)
 unfolding differingIn count sumOf agree listed
 weights = (refl, refl)
 
 pub distance-39 : LeastDistance m16 39 20
-distance-39 = least-distance m16 (workable (lit≤ tt) (lit≤ tt)) (lit< tt) (omega (arith, m-is 39)) (codewords .0) (weights .0)
+distance-39 = least-distance m16 (workable (lit≤ tt) (lit≤ tt)) (lit< tt) (omega (arith, m-is 39)) light-39 (weights .0)
 
 pub distance-49 : LeastDistance m16 49 10
 distance-49 = least-distance m16 (workable (lit≤ tt) (lit≤ tt)) (lit< tt) (omega (arith, m-is 49)) (codewords .1) (weights .1)

@@ -19,7 +19,7 @@ use Prim.Native.Nat.{ℕ, suc, _+_, _-_, _*_, _%_, _<_, _≤_}
 use native.Mathlib.Omega.{arith}
 use lib.Dec.{T, leb→le}
 use lib.ListN.{length, getD}
-use Rattle.lists.specs.Count.{bit, bit-le, sumOf, sumOf-mono, sumOf-plus, count}
+use Rattle.lists.specs.Count.{bit, bit-le, sumOf-mono, sumOf-plus, count}
 use Rattle.lists.specs.Different.{count-among}
 use Rattle.lists.specs.Distinct.{among, among-member}
 use Rattle.lists.specs.Every.{T-true}

@@ -1,6 +1,6 @@
 -- The message sent, after every list of calls: what `book` Repairs says of closing, said of the session that the calls left.
 --
---   follows-repaired, follows-refused, follows-found, follows-sure, follows-never   of a session that follows a book: an opened one, or one opened by
+--   follows-repaired, follows-refused, follows-found, follows-alone, follows-sure, follows-never   of a session that follows a book: an opened one, or one opened by
 --                          an accepted capture (Follows)
 --   Full rate list calls   no place is missing in the book that the calls leave, from one opened with that rate and list
 --   columnsAfter rate list calls   that book's columns by place
@@ -11,10 +11,10 @@
 --                          leaves the buffers as they were
 --   run-found              opened with any doubtful list: if none is missing and few places are wrong, closing accepts, and what it gives is the message
 --                          sent or no dearer
---   run-sure               if moreover so few places are doubtful that no two codewords are near (FewDoubtful), it is the message sent, and there is no margin
---   run-never              opened with any doubtful list: if none is missing and the message sent is alone (`book` Repairs Alone), closing gives it with its
---                          report, or says 'none near' and leaves the buffers as they were
---   capture-sure, capture-never   the same of a session opened by an accepted capture
+--   run-alone              if moreover the message sent is alone (`book` Repairs Alone), it is the message sent, and there is no margin
+--   run-sure               so where so few places are doubtful that no two codewords are near (FewDoubtful)
+--   run-never              opened with any doubtful list: if none is missing and the message sent is alone, closing gives it with its report, or says 'none near' and leaves the buffers as they were
+--   capture-alone, capture-sure, capture-never   the same of a session opened by an accepted capture
 --
 -- T is the one that the blank places leave (ReachAfter), and they are none of the wrong ones.
 use mathlib.Core.Path.{_≡_, refl, sym, _∙_, subst, subst₂}
@@ -24,7 +24,6 @@ use native.Mathlib.Omega.{arith}
 use lib.ListN.{length}
 use Rattle.refusals.specs.Refusal.{accepted, noneNear}
 use Rattle.lists.specs.Words.{Word}
-use Rattle.family.specs.Member.{m16}
 use Rattle.near.specs.Here.{blankLimit, reachOf}
 use Rattle.book.specs.Model.{modem64}
 use Rattle.book.specs.Book.{Book, newBook}
@@ -33,7 +32,7 @@ use Rattle.book.specs.AnyCalls.{Answer}
 use Rattle.book.specs.Calls.{Call, closing, afterAll}
 use Rattle.book.specs.Closing.{Closed}
 use Rattle.book.specs.CaptureOpening.{openCaptureOf}
-use Rattle.book.specs.Repairs.{always-repaired, always-refused, always-found, always-sure, never-another}
+use Rattle.book.specs.Repairs.{always-repaired, always-refused, always-found, few-alone, always-alone, never-another}
 use Rattle.book.specs.Here.{openOf, columnsOf, closeOf, Missing, reportLength, DoubtfulList, FewWrong, FewDoubtful, Alone, notBest, TooFar, Repaired, NoDearer, Sure, RefusedAs, Never}
 use Rattle.book.specs.CallLaws.{rate-held, list-held}
 use Rattle.session.specs.declared.Session.{Session}
@@ -84,13 +83,18 @@ module _ {s : Session} {book : Book} (follows : Follows s book) {calls : List Ca
       by-book (λ r l c. FewWrong r columns l T m → NoDearer r columns l m c)
       (always-found modem64 (afterAll book calls) full message report long-after whole-report m (reach-after book calls reach))
 
+  pub follows-alone : Rate (book .rate) → FewWrong (book .rate) (columnsOf (afterAll book calls .row)) (book .doubtful) T m
+      → Alone (book .rate) (columnsOf (afterAll book calls .row)) (book .doubtful) T m
+      → Sure (book .rate) (columnsOf (afterAll book calls .row)) (book .doubtful) m (closedBy a)
+  unfolding columns
+  follows-alone =
+      by-book (λ r l c. Rate r → FewWrong r columns l T m → Alone r columns l T m → Sure r columns l m c)
+      (λ rate. always-alone modem64 (afterAll book calls) full message report long-after whole-report m (reach-after book calls reach) (rate-known rate))
+
   pub follows-sure : Rate (book .rate) → FewDoubtful (book .rate) (columnsOf (afterAll book calls .row)) (book .doubtful) T
       → FewWrong (book .rate) (columnsOf (afterAll book calls .row)) (book .doubtful) T m
       → Sure (book .rate) (columnsOf (afterAll book calls .row)) (book .doubtful) m (closedBy a)
-  unfolding columns
-  follows-sure =
-      by-book (λ r l c. Rate r → FewDoubtful r columns l T → FewWrong r columns l T m → Sure r columns l m c)
-      (λ rate. always-sure modem64 (afterAll book calls) full message report long-after whole-report m (reach-after book calls reach) (rate-known rate))
+  follows-sure rate few-doubtful few = follows-alone rate few (few-alone modem64 few-doubtful few)
 
   pub follows-never : Rate (book .rate) → Alone (book .rate) (columnsOf (afterAll book calls .row)) (book .doubtful) T m
       → Never (book .rate) (columnsOf (afterAll book calls .row)) (book .doubtful) m message report (closedBy a)
@@ -142,6 +146,13 @@ module _ {rate : ℕ} (known : Rate rate) {r : Opened} {calls : List Call} {give
   run-found d opened run full reach few =
       follows-found (start-follows (by-opening known d opened)) run step long whole-report full reach m few
 
+  pub run-alone : {list : List ℕ} → DoubtfulList list → Opening (openOf rate list) r → Run (r .session) calls given t → Full rate list calls
+      → {T : ℕ} → ReachAfter (newBook rate list) calls T → FewWrong rate (columnsAfter rate list calls) list T m
+      → Alone rate (columnsAfter rate list calls) list T m → Sure rate (columnsAfter rate list calls) list m (closedBy a)
+  unfolding newBook
+  run-alone d opened run full reach =
+      follows-alone (start-follows (by-opening known d opened)) run step long whole-report full reach m known
+
   pub run-sure : {list : List ℕ} → DoubtfulList list → Opening (openOf rate list) r → Run (r .session) calls given t → Full rate list calls
       → {T : ℕ} → ReachAfter (newBook rate list) calls T → FewDoubtful rate (columnsAfter rate list calls) list T
       → FewWrong rate (columnsAfter rate list calls) list T m → Sure rate (columnsAfter rate list calls) list m (closedBy a)
@@ -162,12 +173,17 @@ module _ (bytes : List ℕ) {r : Opened} (opened : Opening (openCaptureOf bytes)
     {given : List Answer} {t : Session} (run : Run (r .session) calls given t) {message report : List ℕ} {a : Answer} {u : Session}
     (step : Step t (closing message report) a u) (long : length message ≡ captureBook bytes .rate) (whole-report : length report ≡ reportLength)
     (full : (p : ℕ) → Missing (afterAll (captureBook bytes) calls .row) p → ⊥) {T : ℕ} (reach : ReachAfter (captureBook bytes) calls T) (m : List ℕ) where
+  pub capture-alone : FewWrong (captureBook bytes .rate) (columnsOf (afterAll (captureBook bytes) calls .row)) (captureBook bytes .doubtful) T m
+      → Alone (captureBook bytes .rate) (columnsOf (afterAll (captureBook bytes) calls .row)) (captureBook bytes .doubtful) T m
+      → Sure (captureBook bytes .rate) (columnsOf (afterAll (captureBook bytes) calls .row)) (captureBook bytes .doubtful) m (closedBy a)
+  capture-alone =
+      let start = capture-starts {bytes = bytes} opened taken .start in
+      follows-alone (start-follows start) run step long whole-report full reach m (start-rate start)
+
   pub capture-sure : FewDoubtful (captureBook bytes .rate) (columnsOf (afterAll (captureBook bytes) calls .row)) (captureBook bytes .doubtful) T
       → FewWrong (captureBook bytes .rate) (columnsOf (afterAll (captureBook bytes) calls .row)) (captureBook bytes .doubtful) T m
       → Sure (captureBook bytes .rate) (columnsOf (afterAll (captureBook bytes) calls .row)) (captureBook bytes .doubtful) m (closedBy a)
-  capture-sure =
-      let start = capture-starts {bytes = bytes} opened taken .start in
-      follows-sure (start-follows start) run step long whole-report full reach m (start-rate start)
+  capture-sure few-doubtful few = capture-alone few (few-alone modem64 few-doubtful few)
 
   pub capture-never : Alone (captureBook bytes .rate) (columnsOf (afterAll (captureBook bytes) calls .row)) (captureBook bytes .doubtful) T m
       → Never (captureBook bytes .rate) (columnsOf (afterAll (captureBook bytes) calls .row)) (captureBook bytes .doubtful) m message report (closedBy a)
