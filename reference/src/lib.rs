@@ -45,17 +45,18 @@
 //! captures with faults, [`versions`] those of both versions with each fault, [`arrivals`] five sorts of
 //! order in which places arrive, [`below_frames`] thresholds and maxima, [`bit_frames`] bit values, all at
 //! rates 39 and 49; [`rates`] makes frames at every rate around what the rule decides there,
-//! [`mark_frames`] around what the mark does, and [`engine_words`] calls of the elimination engine. The
-//! binary `compare` runs them in two ways. It counts the frames with each number of doubtful places, with
+//! [`mark_frames`] around what the mark does, [`sure_frames`] around what is sure with doubtful places, and
+//! [`engine_words`] calls of the elimination engine. The binary `compare` runs them in two ways. It counts the frames with each number of doubtful places, with
 //! blank ones and with a margin, the tables in which a pinned second is not chosen as doubtful, the captures
 //! of both versions, with what wrong rules would make of them, those written after each sort of order, the
 //! withdrawals of each sort, the sorts of fades, those of thresholds, with what wrong rules would lead to
 //! ([`slips`]), those of bit values and those of rates, with what wrong rules would lead to, those of marks,
-//! with what wrong rules would mark ([`mark_slips`]), those of the engine's calls, with what wrong rules
-//! would answer ([`engine_slips`]), and fails where they are too few to try it ([`doubts`], [`blanks`],
-//! [`margins`], [`choices`], [`version_counts`], [`written`], [`withdrawals`], [`fade_counts`],
-//! [`below_counts`], [`bit_counts`], [`rate_counts`], [`mark_counts`], [`engine_counts`]). That a marked
-//! answer costs least is tried at small rates by a search through all codewords ([`cheapest`]).
+//! with what wrong rules would mark ([`mark_slips`]), those of what is sure, with what wrong sentences would
+//! promise ([`sure_counts`]), those of the engine's calls, with what wrong rules would answer
+//! ([`engine_slips`]), and fails where they are too few to try it ([`doubts`], [`blanks`], [`margins`],
+//! [`choices`], [`version_counts`], [`written`], [`withdrawals`], [`fade_counts`], [`below_counts`],
+//! [`bit_counts`], [`rate_counts`], [`mark_counts`], [`sure_counts`], [`engine_counts`]). That a marked answer
+//! costs least is tried at small rates by a search through all codewords ([`cheapest`]).
 //!
 //! [`superframe_calls`] makes superframes with bursts, words beyond repair and faults of every kind, those of
 //! [`superframe_turns`]; they are counted, with what wrong rules would answer ([`superframe_counts`],
@@ -63,15 +64,15 @@
 //!
 //! Calls that cross as numbers and byte slices are linked: with the feature `proved`, and with
 //! `MODEM_LIB_DIR` naming the folder of `libmodem.a`, `compare code`, `compare tables`, `compare below`,
-//! `compare bits`, `compare fades`, `compare rates`, `compare marks` and `compare superframes` run the trials
-//! of [`trials`] on both libraries.
+//! `compare bits`, `compare fades`, `compare rates`, `compare marks`, `compare sure` and `compare superframes`
+//! run the trials of [`trials`] on both libraries.
 //!
 //! Sessions and captures are compared by stream: a program reads calls on its standard input and writes
 //! answers on its standard output, laid out as in [`calls`]; `compare run` starts it on the lists of
 //! [`call_lists`] and [`withdrawal_lists`] and names the first answer that differs, and `compare fades`,
-//! `compare rates` and `compare marks` on a session for each of their frames. `compare engines` does the same
-//! with a program that answers the engine's calls, and `compare shows` with one that prints as `show` does;
-//! so does `compare rates`.
+//! `compare rates`, `compare marks` and `compare sure` on a session for each of their frames. `compare engines`
+//! does the same with a program that answers the engine's calls, and `compare shows` with one that prints as
+//! `show` does; so does `compare rates`.
 //!
 //! ```text
 //! cargo test --offline
@@ -147,6 +148,8 @@ pub mod superframe_calls;
 pub mod superframe_counts;
 pub mod superframe_slips;
 pub mod superframe_turns;
+pub mod sure_counts;
+pub mod sure_frames;
 pub mod trials;
 pub mod version_counts;
 pub mod versions;

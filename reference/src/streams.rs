@@ -3,7 +3,8 @@
 //! - [`compare_calls`]: one process for each share of the frames; it reads calls and writes
 //!   answers, as [`crate::calls`] lays them out. The [`Tally`] says what was compared.
 //! - [`compare_fades`]: the same with a session for each fade; [`compare_rates`]: with one for each of the
-//!   frames at every rate; [`compare_marks`]: with one for each of those for the mark.
+//!   frames at every rate; [`compare_marks`]: with one for each of those for the mark; [`compare_sure`]: of
+//!   those for what is sure.
 //! - [`compare_engines`]: a program that answers calls of the elimination engine, as [`crate::engine`] lays
 //!   them out.
 //! - [`compare_shows`]: a process for each capture, valid or damaged, that prints as `show` does;
@@ -17,7 +18,7 @@ use std::thread;
 
 use crate::blanks::{Blanks, Faded};
 use crate::call_lists::call_list;
-use crate::calls::Call;
+use crate::calls::{Call, LENT};
 use crate::capture::open_capture;
 use crate::damage::{capture_of, damaged};
 use crate::decode::{margin_of, mark_of, REPORT_BYTES};
@@ -36,6 +37,8 @@ use crate::rates::RateFrame;
 use crate::refusal;
 use crate::session::Session;
 use crate::show::show;
+use crate::sure_counts::SureCounts;
+use crate::sure_frames::SureFrame;
 use crate::version_counts::VersionCounts;
 use crate::versions::spoilt;
 use crate::withdrawal_lists::withdrawal_list;
@@ -284,6 +287,48 @@ pub fn check_marks(
             if Closed::at(call, &expected, &session).is_some() {
                 let (message, report) = expected[1..].split_at(frame.frame.rate as usize);
                 counts.count(&frame, expected[0], message, report);
+            }
+        }
+    }
+    nothing_after(rest)?;
+    Ok(counts)
+}
+
+/// Runs a program on a session for each of the frames for what is sure. What was compared, or a line that
+/// names the first difference.
+pub fn compare_sure(program: &[String], seed: u64, count: u64) -> Result<SureCounts, String> {
+    let check = |frames: &[_], answers: &[u8]| check_sure(seed, frames, answers);
+    let shares = compare_lists(program, count, |number| sure_session(seed, number), check)?;
+    let mut sum = SureCounts::default();
+    for counts in shares {
+        sum.add(counts);
+    }
+    Ok(sum)
+}
+
+/// The calls of one of these frames.
+pub fn sure_session(seed: u64, number: u64) -> Vec<Call> {
+    SureFrame::numbered(seed, number).calls(&mut Random::new(!seed, number))
+}
+
+/// Checks a program's answers to these calls; a frame is counted by what each of its closings answers.
+pub fn check_sure(
+    seed: u64,
+    frames: &[(u64, Vec<Call>)],
+    answers: &[u8],
+) -> Result<SureCounts, String> {
+    let mut rest = answers;
+    let mut counts = SureCounts::default();
+    let mut session = Session::default();
+    for (number, calls) in frames {
+        let frame = SureFrame::numbered(seed, *number);
+        for (at, call) in calls.iter().enumerate() {
+            let expected = call.answer(&mut session);
+            rest = after(rest, &expected, call, *number, at)?;
+            if matches!(call, Call::Close { .. }) {
+                let (message, report) = expected[1..].split_at(frame.frame.rate as usize);
+                let untouched = expected[1..].iter().all(|byte| *byte == LENT);
+                counts.count(&frame, expected[0], [message, report], untouched);
             }
         }
     }

@@ -8,10 +8,11 @@
 //!   [`bits_trial`]: one numbered call, right or damaged, on a library; the [`Outcome`] is its number and
 //!   every byte of its buffers. [`rate_table_trial`], [`rate_below_trial`], [`rate_bits_trial`]: those of
 //!   frames at every rate; [`mark_table_trial`], [`mark_below_trial`]: those of frames for the mark;
-//!   [`superframe_trial`]: those of superframes.
+//!   [`sure_table_trial`], [`sure_below_trial`], [`sure_bits_trial`]: those of frames for what is sure with
+//!   doubtful places; [`superframe_trial`]: those of superframes.
 //! - [`compare`]: many trials on two libraries; the [`Tally`] of numbers, margins, marks, blank places,
 //!   doubtful ones, doubts and sorts of fades, of thresholds, of bit values, of rates, of frames for the mark
-//!   and of superframes, or a [`Difference`].
+//!   and for what is sure and of superframes, or a [`Difference`].
 
 use std::sync::atomic::{AtomicBool, Ordering};
 use std::thread;
@@ -42,6 +43,8 @@ use crate::soft::DOUBT_LIMIT;
 use crate::superframe::{build, take_apart};
 use crate::superframe_calls::{SuperAnswer, SuperCall};
 use crate::superframe_counts::SuperCounts;
+use crate::sure_counts::SureCounts;
+use crate::sure_frames::{SureFrame, SURE_STEP};
 
 /// Encoding and reading back, as the firmware calls them: "these return the refusal, or 0."
 pub struct Coding {
@@ -129,6 +132,8 @@ pub struct Outcome {
     pub rated: Option<(Part, RateFrame)>,
     /// The frame, where it is one of those for the mark.
     pub marked: Option<MarkFrame>,
+    /// The frame, where it is one of those for what is sure, and whether the buffers are as they were.
+    pub sure: Option<(SureFrame, bool)>,
     /// The call and what came of it, its buffer too, where it is one of superframes.
     pub superframe: Option<(SuperCall, SuperAnswer)>,
 }
@@ -148,7 +153,7 @@ pub type Trial<L> = fn(&L, u64, u64) -> Outcome;
 
 /// How often each number was returned, the margins and marks of the reports, the blank and the doubtful
 /// places of the tables and the sorts of fades, of thresholds, of bit values, of rates, of frames for the
-/// mark and of superframes.
+/// mark and for what is sure and of superframes.
 #[derive(Clone, Debug, Default)]
 pub struct Tally {
     pub numbers: [u64; NUMBERS],
@@ -162,6 +167,7 @@ pub struct Tally {
     pub bits: BitCounts,
     pub rates: RateCounts,
     pub mark_sorts: MarkCounts,
+    pub sure: SureCounts,
     pub superframes: SuperCounts,
 }
 
@@ -213,6 +219,10 @@ impl Tally {
             let number = outcome.number;
             self.mark_sorts.count(frame, number, message, report);
         }
+        if let (Some((frame, untouched)), Some(report)) = (&outcome.sure, &outcome.report) {
+            let lent = [message.as_slice(), report];
+            self.sure.count(frame, outcome.number, lent, *untouched);
+        }
         if let Some((call, answer)) = &outcome.superframe {
             self.superframes.count(call, answer);
         }
@@ -232,6 +242,7 @@ impl Tally {
         self.bits.add(other.bits);
         self.rates.add(other.rates);
         self.mark_sorts.add(other.mark_sorts);
+        self.sure.add(other.sure);
         self.superframes.add(other.superframes);
     }
 }
@@ -479,6 +490,54 @@ pub fn mark_below_trial(decode_below: &DecodeBelow, seed: u64, number: u64) -> O
     );
     Outcome {
         marked: Some(frame),
+        ..outcome
+    }
+}
+
+/// Table decoding of one of the numbered frames for what is sure.
+pub fn sure_table_trial<D>(decode_table: &D, seed: u64, number: u64) -> Outcome
+where
+    D: Fn(u64, &[u8], u64, &mut [u8], &mut [u8]) -> u8,
+{
+    let frame = SureFrame::numbered(seed, number);
+    let table = table_of_columns(&frame.frame.columns);
+    let doubt = frame.doubt() as u64;
+    sure(frame, !seed ^ number, |rate, [message, report]| {
+        decode_table(rate, &table, doubt, message, report)
+    })
+}
+
+/// The same with a threshold that the gaps of its doubtful places alone are below. A frame without these is
+/// one with the next doubt, since at least one place is taken.
+pub fn sure_below_trial(decode_below: &DecodeBelow, seed: u64, number: u64) -> Outcome {
+    let numbers = (0..).map(|turn| number + turn * SURE_STEP);
+    let mut frames = numbers.map(|number| SureFrame::numbered(seed, number));
+    let frame = frames.find(|frame| frame.doubt() > 0);
+    let frame = frame.expect("a frame with doubt");
+    let table = table_of_columns(&frame.frame.columns);
+    let threshold = DOUBTFUL_GAP as u16 + 1;
+    sure(frame, !seed ^ number, |rate, [message, report]| {
+        decode_below(rate, &table, threshold, DOUBT_LIMIT as u64, message, report)
+    })
+}
+
+/// The same from bit values.
+pub fn sure_bits_trial(decode_bits: &DecodeBits, seed: u64, number: u64) -> Outcome {
+    let frame = SureFrame::of_bits(seed, number);
+    let (values, doubt) = (frame.values.clone(), frame.doubt() as u64);
+    sure(frame, !seed ^ number, |rate, [message, report]| {
+        decode_bits(rate, &values, doubt, message, report)
+    })
+}
+
+/// A frame decoded into buffers of the right sizes, whose first bytes follow a seed.
+fn sure(frame: SureFrame, seed: u64, decode: impl FnOnce(u64, [&mut [u8]; 2]) -> u8) -> Outcome {
+    let rate = frame.frame.rate;
+    let before = decoded(rate, seed, |_, _| 0);
+    let outcome = decoded(rate, seed, decode);
+    let untouched = before.buffer == outcome.buffer && before.report == outcome.report;
+    Outcome {
+        sure: Some((frame, untouched)),
         ..outcome
     }
 }

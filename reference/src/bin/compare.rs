@@ -45,6 +45,9 @@ compare rates SEED REPLAY SHOW              the proved decoding at every rate (f
                                             each frame and one on its capture
 compare marks SEED PROGRAM ..               the proved decoding on both sides of the mark (feature proved), by
                                             doubt and by threshold, and a program on a session for each frame
+compare sure SEED PROGRAM ..                the proved decoding on both sides of what is sure with doubtful places
+                                            (feature proved), by doubt, by threshold and from bit values, and
+                                            a program on a session for each frame
 compare superframes SEED                    the proved building and taking apart of superframes (feature proved)
 LETTERS are those of the calls wanted, of OCDRWXLU.
 The count of frames with a margin is printed; fewer than one in six are a failure.
@@ -84,6 +87,9 @@ to it and one above, with blank places, pinned ones and pinned seconds, with ano
 much or one less, and with no gap to sum, with the wrong rules that would mark otherwise; one that is
 missing is a failure, and so is an answer that is not marked as its frame is made to be, or a marked one
 that another of the codewords tried costs less than.
+The counts of frames for what is sure with doubtful places are printed, on both sides of its two bounds at
+each rate, with each doubt and with blank places, with the wrong sentences that promise what did not come;
+one that is missing is a failure, and so is a frame that does not come to what it is made for.
 The counts of calls of the elimination engine are printed, by number, by wrong and blank places, and by
 fault, with the wrong rules that would answer otherwise; one that is missing is a failure, and so is a call
 that does not come to the number that it is made for.";
@@ -184,6 +190,8 @@ fn run(arguments: &[String]) -> Result<(), String> {
         #[cfg(feature = "proved")]
         ["marks", seed, _, ..] => proved::marks(number(seed)?, &arguments[2..]),
         #[cfg(feature = "proved")]
+        ["sure", seed, _, ..] => proved::sure(number(seed)?, &arguments[2..]),
+        #[cfg(feature = "proved")]
         ["superframes", seed] => proved::superframes(number(seed)?),
         _ => Err(USAGE.to_string()),
     }
@@ -269,13 +277,18 @@ mod proved {
     use reference::proved::{PROVED, PROVED_BELOW, PROVED_BITS, PROVED_SUPERFRAMES, PROVED_TABLE};
     use reference::rate_counts::{Part, RateCounts};
     use reference::rates::{FEW_TURNS, TURNS};
-    use reference::streams::{compare_fades, compare_marks, compare_rate_shows, compare_rates};
+    use reference::streams::{
+        compare_fades, compare_marks, compare_rate_shows, compare_rates, compare_sure,
+    };
     use reference::superframe_turns::turns;
+    use reference::sure_counts::{SureCounts, SurePart};
+    use reference::sure_frames::{FEW_SURE_TURNS, SURE_TURNS};
     use reference::trials::{
         below_trial, bits_trial, compare, encode_trial, fade_trial, mark_below_trial,
         mark_table_trial, rate_below_trial, rate_bits_trial, rate_table_trial, read_back_trial,
-        superframe_trial, table_trial, Difference, Tally, Trial, REFERENCE, REFERENCE_BELOW,
-        REFERENCE_BITS, REFERENCE_SUPERFRAMES, REFERENCE_TABLE,
+        superframe_trial, sure_below_trial, sure_bits_trial, sure_table_trial, table_trial,
+        Difference, Tally, Trial, REFERENCE, REFERENCE_BELOW, REFERENCE_BITS,
+        REFERENCE_SUPERFRAMES, REFERENCE_TABLE,
     };
 
     pub fn code(seed: u64, count: u64) -> Result<(), String> {
@@ -330,6 +343,34 @@ mod proved {
         marked(name, &tally.mark_sorts)?;
         let counts = compare_marks(program, seed, few)?;
         marked(&format!("{few} sessions alike"), &counts)
+    }
+
+    /// Frames for what is sure: all turns as tables, a few of them with a threshold, from bit values and as
+    /// sessions of a program.
+    pub fn sure(seed: u64, program: &[String]) -> Result<(), String> {
+        let [count, few] = [SURE_TURNS, FEW_SURE_TURNS].map(|turns| (RATE_COUNT * turns) as u64);
+        let told = |name: &str, counts: &SureCounts, part: SurePart| {
+            super::output(format!("{name}: {}\n", counts.line(part)).as_bytes())?;
+            counts.check(part)
+        };
+        let both = [&REFERENCE_TABLE, &PROVED_TABLE];
+        let name = "decode table beside what is sure";
+        let tally = report(name, sure_table_trial, both, seed, count)?;
+        told(name, &tally.sure, SurePart::Tables)?;
+        let both = [&REFERENCE_BELOW, &PROVED_BELOW];
+        let name = "decode table below beside what is sure";
+        let tally = report(name, sure_below_trial, both, seed, few)?;
+        told(name, &tally.sure, SurePart::Thresholds)?;
+        let both = [&REFERENCE_BITS, &PROVED_BITS];
+        let name = "decode bits beside what is sure";
+        let tally = report(name, sure_bits_trial, both, seed, few)?;
+        told(name, &tally.sure, SurePart::Bits)?;
+        let counts = compare_sure(program, seed, few)?;
+        told(
+            &format!("{few} sessions alike"),
+            &counts,
+            SurePart::Sessions,
+        )
     }
 
     /// Superframes built and taken apart, each turn once.
