@@ -46,17 +46,18 @@
 //! order in which places arrive, [`below_frames`] thresholds and maxima, [`bit_frames`] bit values, all at
 //! rates 39 and 49; [`rates`] makes frames at every rate around what the rule decides there,
 //! [`mark_frames`] around what the mark does, [`sure_frames`] around what is sure with doubtful places, and
-//! [`engine_words`] calls of the elimination engine. The binary `compare` runs them in two ways. It counts the frames with each number of doubtful places, with
-//! blank ones and with a margin, the tables in which a pinned second is not chosen as doubtful, the captures
-//! of both versions, with what wrong rules would make of them, those written after each sort of order, the
-//! withdrawals of each sort, the sorts of fades, those of thresholds, with what wrong rules would lead to
-//! ([`slips`]), those of bit values and those of rates, with what wrong rules would lead to, those of marks,
-//! with what wrong rules would mark ([`mark_slips`]), those of what is sure, with what wrong sentences would
-//! promise ([`sure_counts`]), those of the engine's calls, with what wrong rules would answer
-//! ([`engine_slips`]), and fails where they are too few to try it ([`doubts`], [`blanks`], [`margins`],
-//! [`choices`], [`version_counts`], [`written`], [`withdrawals`], [`fade_counts`], [`below_counts`],
-//! [`bit_counts`], [`rate_counts`], [`mark_counts`], [`sure_counts`], [`engine_counts`]). That a marked answer
-//! costs least is tried at small rates by a search through all codewords ([`cheapest`]).
+//! [`engine_words`] calls of the elimination engine. The binary `compare` runs them in two ways. It counts
+//! the frames with each number of doubtful places, with blank ones and with a margin, the tables in which a
+//! pinned second is not chosen as doubtful, the captures of both versions, with what wrong rules would make
+//! of them, those written after each sort of order, the withdrawals of each sort, the sorts of fades, those
+//! of thresholds, with what wrong rules would lead to ([`slips`]), those of bit values and those of rates,
+//! with what wrong rules would lead to, those of marks, with what wrong rules would mark ([`mark_slips`]),
+//! those of what is sure, with what wrong sentences would promise ([`sure_counts`]), those of the engine's
+//! calls, with what wrong rules would answer ([`engine_slips`]), and fails where they are too few to try it
+//! ([`doubts`], [`blanks`], [`margins`], [`choices`], [`version_counts`], [`written`], [`withdrawals`],
+//! [`fade_counts`], [`below_counts`], [`bit_counts`], [`rate_counts`], [`mark_counts`], [`sure_counts`],
+//! [`engine_counts`]). That a marked answer costs least is tried at small rates by a search through all
+//! codewords ([`cheapest`]).
 //!
 //! [`superframe_calls`] makes superframes with bursts, words beyond repair and faults of every kind, those of
 //! [`superframe_turns`]; they are counted, with what wrong rules would answer ([`superframe_counts`],

@@ -535,6 +535,35 @@ static void every_doubt(void)
     expect(beyond_never - had_never == last + 1 - first, "frames beyond never");
 }
 
+/* A pair that is easily written down: zero and x + x^6 + x^11, which is not zero at the 20 places with x^5 = 1, at rate 39, and its product
+ * with y^2 + y + 6, which is so at ten of them, at rate 49. Seven doubtful places are few and eight are not; never another message comes
+ * after so many wrong places, and one comes after one more. */
+static void known_pair(size_t of_rate, size_t weight, size_t never_more)
+{
+    static const uint8_t orders[] = {1, 18, 38}, more[] = {4, 8, 23, 28, 43, 48};
+    unsigned had_few = beyond_few, had_never = beyond_never;
+    rate = of_rate;
+    blanks = 0;
+    call = BY_DOUBT;
+    memset(&sent, 0, sizeof sent);
+    memset(&rival, 0, sizeof rival);
+    for (size_t i = 0; i < sizeof orders; i++)
+        rival.message[orders[i]] = rate == 39 ? 1 : 6;
+    for (size_t i = 0; rate == 49 && i < sizeof more; i++)
+        rival.message[more[i]] = 1;
+    encode(rate, &sent);
+    encode(rate, &rival);
+    apart = 0;
+    for (size_t place = 0; place < PLACES; place++)
+        apart += rival.symbols[place] != 0;
+    expect(apart == weight && few() - MORE_FEW == 7 && never() - MORE_NEVER == never_more, "the pair's numbers");
+    for (doubt = 7; doubt <= 8; doubt++)
+        try_few(TO_BOTH);
+    doubt = 0;
+    try_never(TO_NEITHER);
+    expect(beyond_few == had_few + 1 && beyond_never == had_never + 1, "the pair beyond the bounds");
+}
+
 /* Some numbers of the two sentences. */
 static void numbers(size_t of_rate, size_t few_doubtful, size_t never_more)
 {
@@ -549,6 +578,8 @@ int main(void)
     numbers(39, 7, 13);
     numbers(49, 7, 8);
     numbers(52, 6, 6);
+    known_pair(39, 20, 13);
+    known_pair(49, 10, 8);
     for (rate = HERMITIAN_LEAST_RATE; rate <= HERMITIAN_MOST_RATE; rate++)
         for (blanks = 0; blanks + top(rate) <= 57; blanks++)
             for (call = BY_DOUBT; call <= FROM_BITS; call++)
