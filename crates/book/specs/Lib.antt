@@ -22,8 +22,10 @@ pub mod WithdrawalLaws
 pub mod Report
 pub mod Marked
 pub mod Repairs
+pub mod TableSentences
 pub mod TableRepairs
 pub mod Sharp
+pub mod Alive
 pub mod Here
 pub mod Capture
 pub mod Writing

@@ -4,13 +4,13 @@
 --   close-word, decode-word   the message that an accepted call gives has k symbols
 --   shows-cheapest         so it is where a report that shows the message's numbers has 1 as its last byte
 --   closing-marked         of an accepted closing
---   table-marked           of accepted table decoding
+--   table-marked           of accepted table decoding; below-marked: by a threshold; bits-marked: and of decoding from bit values
 --
 -- A cost at the ceiling is summed as it stands, as in every total: with pinned places this speaks of these sums.
 use mathlib.Core.Bool.{Bool, true, false}
-use mathlib.Core.Path.{_≡_, refl, sym, ap, _∙_, subst}
+use mathlib.Core.Path.{_≡_, refl, sym, ap, _∙_, subst, subst₂}
 use mathlib.Core.List.{List}
-use Prim.Native.Nat.{ℕ, _≤_}
+use Prim.Native.Nat.{ℕ, _*_, _^_, _≤_}
 use native.Mathlib.Omega.{arith}
 use lib.Dec.{T}
 use lib.ListN.{length}
@@ -18,6 +18,9 @@ use Rattle.refusals.specs.Refusal.{accepted, wrongSize, placeMissing, noneNear,
 use Rattle.lists.specs.Count.{bit}
 use Rattle.lists.specs.Distinct.{below}
 use Rattle.lists.specs.Words.{Word}
+use Rattle.soft.specs.Bits.{bitColumns}
+use Rattle.soft.specs.BitsLaws.{bit-table-bytes}
+use Rattle.soft.specs.Column.{ceiling}
 use Rattle.soft.specs.Total.{totalOf}
 use Rattle.family.specs.Encoding.{encodeOf}
 use Rattle.near.specs.Near as Near
@@ -29,6 +32,8 @@ use Rattle.book.specs.Closing.{Closed, refusedClosing, decodeOf, closing
 use Rattle.book.specs.ClosingLaws.{Decoded, blank, far, found, decode-cases, refused-number, close-size, close-missing, close-decoded}
 use Rattle.book.specs.OpeningLaws.{Known}
 use Rattle.book.specs.Table.{tableColumns, pickedOf, tableOf, table-accepted}
+use Rattle.book.specs.Below.{tableBelowOf, doubtFor, below-accepted, below-as-table}
+use Rattle.book.specs.Bits.{frameLength, tableMade, bitsOf, made-columns, bits-as-table}
 use Rattle.book.specs.Costs.{AreColumns, RowColumns, row-columns, table-costs}
 use Rattle.book.specs.Report.{cheapestIn, ShowsFor, closing-shows, table-shows}
 
@@ -103,3 +108,24 @@ module _ (𝓓 : Model) where
       (subst (λ (c : Closed). Word (width 𝓓) rate (c .message)) (sym t)
       (decode-word rate (tableColumns 𝓓 table) (pickedOf 𝓓 table doubt) message report (sym (ap (λ (c : Closed). c .number) t) ∙ n)))
       (table-shows 𝓓 rate table doubt message report b n) mark
+
+  pub below-marked : {rate : ℕ} → Known 𝓓 rate → (table : List ℕ) (threshold most : ℕ) (message report : List ℕ) → below 256 table ≡ true
+      → tableBelowOf 𝓓 rate table threshold most message report .number ≡ accepted
+      → cheapestIn 𝓓 (tableBelowOf 𝓓 rate table threshold most message report .report) ≡ 1
+      → Cheapest rate (tableColumns 𝓓 table) (tableBelowOf 𝓓 rate table threshold most message report .message)
+  below-marked {rate} known table threshold most message report b n =
+      let a = below-accepted 𝓓 rate table threshold most message report n in
+      let e = below-as-table 𝓓 table threshold most (a .0) (a .1) rate message report in
+      subst (λ (c : Closed). cheapestIn 𝓓 (c .report) ≡ 1 → Cheapest rate (tableColumns 𝓓 table) (c .message)) (sym e)
+      (table-marked known table (doubtFor 𝓓 table threshold most) message report b (sym (ap (λ (c : Closed). c .number) e) ∙ n))
+
+  pub bits-marked : (bits : ℕ) → width 𝓓 ≡ 2 ^ bits → bits * 128 ≤ ceiling → {rate : ℕ} → Known 𝓓 rate → (frame : List ℕ)
+      → length frame ≡ frameLength 𝓓 bits → (doubt : ℕ) (message report : List ℕ) → bitsOf 𝓓 bits rate frame doubt message report .number ≡ accepted
+      → cheapestIn 𝓓 (bitsOf 𝓓 bits rate frame doubt message report .report) ≡ 1
+      → Cheapest rate (bitColumns bits frame) (bitsOf 𝓓 bits rate frame doubt message report .message)
+  bits-marked bits power most {rate} known frame whole doubt message report n =
+      let e = bits-as-table 𝓓 bits frame power rate doubt message report whole in
+      subst₂ (λ (columns : ℕ → List ℕ) (c : Closed). cheapestIn 𝓓 (c .report) ≡ 1 → Cheapest rate columns (c .message))
+      (made-columns 𝓓 bits frame power whole) (sym e)
+      (table-marked known (tableMade 𝓓 bits frame) doubt message report (bit-table-bytes bits frame (places 𝓓) most)
+      (sym (ap (λ (c : Closed). c .number) e) ∙ n))

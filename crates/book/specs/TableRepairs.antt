@@ -11,15 +11,13 @@
 --   bits-alone, bits-sure, bits-never      and from bit values, where the columns are those that they make
 --
 -- From here to the code: the contracts of `decode_table`, `decode_table_below` and `decode_bits` are `tableOf`, `tableBelowOf` and `bitsOf`.
-use mathlib.Core.Bool.{Bool, true, false}
-use mathlib.Core.Path.{_≡_, refl, sym, ap, _∙_, subst, subst₂}
-use mathlib.Core.List.{List, [], _∷_}
-use Prim.Native.Nat.{ℕ, zero, suc, _^_, _<_, _≤_}
+use mathlib.Core.Bool.{true}
+use mathlib.Core.Path.{_≡_, sym, subst, subst₂}
+use mathlib.Core.List.{List, []}
+use Prim.Native.Nat.{ℕ, _^_, _<_, _≤_}
 use native.Mathlib.Omega.{arith}
 use lib.ListN.{length}
 use Rattle.refusals.specs.Refusal.{noneNear}
-use Rattle.lists.specs.Distinct.{among, below, below-append, below-one, below-nil, below-among, distinct, distinct-nil, distinct-snoc, and-both}
-use Rattle.lists.specs.Listed.{listed, listed-nil, listed-suc, listed-length}
 use Rattle.lists.specs.Words.{Word}
 use Rattle.soft.specs.Bits.{bitColumns}
 use Rattle.soft.specs.Blank.{openAt, blanksOf}
@@ -32,46 +30,19 @@ use Rattle.near.specs.Near.{blankLimit}
 use Rattle.near.specs.Reach.{Reach, reach-is}
 use Rattle.near.specs.Rivals.{FewDoubtful}
 use Rattle.book.specs.Model.{Model, places, width}
-use Rattle.book.specs.Book.{Entry, Book}
+use Rattle.book.specs.Book.{Book}
 use Rattle.book.specs.Columns.{columnsOf}
 use Rattle.book.specs.Entries.{Missing, missing-none}
 use Rattle.book.specs.Closing.{reportLength, Closed, closeOf}
 use Rattle.book.specs.OpeningLaws.{Known}
-use Rattle.book.specs.Table.{tableLength, tableColumns, pickedOf, tableOf, Delivered, delivered-columns, delivered-none-missing, table-as-session, entriesOf, order-delivered}
+use Rattle.book.specs.Table.{tableLength, tableColumns, pickedOf, tableOf, delivered-columns, delivered-none-missing, table-as-session}
+use Rattle.book.specs.TableSentences.{inOrder, in-order}
 use Rattle.book.specs.Below.{pickedBelow, tableBelowOf, doubtFor, below-picked, doubt-for-most, below-as-table}
 use Rattle.book.specs.Bits.{frameLength, tableMade, bitsOf, made-length, made-columns, bits-as-table}
 use Rattle.book.specs.Repairs.{FewWrong, notBest, none-wrong, Repaired, Sure, NoDearer, TooFar, RefusedAs, Never, Alone, always-repaired, always-refused, always-found, few-alone, always-alone, never-another}
 
--- the first n numbers in their order
-upTo : ℕ → List ℕ
-upTo n = listed n (λ p. p)
-
-up-to : (n m : ℕ) → n ≤ m → (distinct (upTo n) ≡ true) × (below m (upTo n) ≡ true)
-unfolding upTo
-up-to zero m h = (ap distinct (listed-nil (λ p. p)) ∙ distinct-nil, ap (below m) (listed-nil (λ p. p)) ∙ below-nil m)
-up-to (suc n) m h =
-    let r = up-to n m (omega arith) in
-    let s = up-to n n (omega arith) in (
-      ap distinct (listed-suc n (λ p. p)) ∙ distinct-snoc (upTo n) n (s .0) (fresh (among n (upTo n)) refl (s .1)),
-      ap (below m) (listed-suc n (λ p. p)) ∙ below-append m (upTo n) (n ∷ [])
-          ∙ and-both (below m (upTo n)) (below m (n ∷ [])) (r .1) (below-one m n (omega arith)),
-    )
-  where
-    fresh : (b : Bool) → among n (upTo n) ≡ b → below n (upTo n) ≡ true → among n (upTo n) ≡ false
-    fresh true e small = absurd (omega (arith, below-among n (upTo n) n small e))
-    fresh false e small = e
-
 module _ (𝓓 : Model) where
   open Model 𝓓 using (member, workable, mostDoubt)
-
-  -- the table's columns delivered in the order of their places
-  inOrder : List ℕ → List Entry
-  inOrder table = entriesOf (tableColumns 𝓓 table) (upTo (places 𝓓))
-
-  in-order : (table : List ℕ) → Delivered 𝓓 table (inOrder table)
-  unfolding inOrder upTo
-  in-order table =
-      let u = up-to (places 𝓓) (places 𝓓) (omega arith) in order-delivered 𝓓 table (upTo (places 𝓓)) (u .0) (u .1) (listed-length (places 𝓓) (λ p. p))
 
   none-picked : (table : List ℕ) → pickedOf 𝓓 table 0 ≡ []
   unfolding pickedOf
@@ -79,20 +50,20 @@ module _ (𝓓 : Model) where
 
   module _ {rate : ℕ} (rated : Known 𝓓 rate) (table : List ℕ) (whole : length table ≡ tableLength 𝓓) (message report : List ℕ)
       (long : length message ≡ rate) (whole-report : length report ≡ reportLength 𝓓) (m : List ℕ) where
-    full : (p : ℕ) → Missing 𝓓 (inOrder table) p → ⊥
-    full = missing-none 𝓓 (inOrder table) (delivered-none-missing 𝓓 table (inOrder table) (in-order table))
+    full : (p : ℕ) → Missing 𝓓 (inOrder 𝓓 table) p → ⊥
+    full = missing-none 𝓓 (inOrder 𝓓 table) (delivered-none-missing 𝓓 table (inOrder 𝓓 table) (in-order 𝓓 table))
 
     -- a session to which the table was delivered
     bookBy : ℕ → Book
-    bookBy doubt = record { rate = rate; doubtful = pickedOf 𝓓 table doubt; row = inOrder table }
+    bookBy doubt = record { rate = rate; doubtful = pickedOf 𝓓 table doubt; row = inOrder 𝓓 table }
 
     -- what holds of its columns and of closing it holds of the table's columns and of table decoding
     by-table : (doubt : ℕ) → doubt ≤ mostDoubt → (P : (ℕ → List ℕ) → Closed → Type 0)
-        → P (columnsOf 𝓓 (inOrder table)) (closeOf 𝓓 (bookBy doubt) message report) → P (tableColumns 𝓓 table) (tableOf 𝓓 rate table doubt message report)
+        → P (columnsOf 𝓓 (inOrder 𝓓 table)) (closeOf 𝓓 (bookBy doubt) message report) → P (tableColumns 𝓓 table) (tableOf 𝓓 rate table doubt message report)
     unfolding bookBy
     by-table doubt few P =
-        subst₂ P (delivered-columns 𝓓 table (inOrder table) (in-order table))
-        (sym (table-as-session 𝓓 rate table doubt rated whole few (inOrder table) (in-order table) message report))
+        subst₂ P (delivered-columns 𝓓 table (inOrder 𝓓 table) (in-order 𝓓 table))
+        (sym (table-as-session 𝓓 rate table doubt rated whole few (inOrder 𝓓 table) (in-order 𝓓 table) message report))
 
     module _ {T : ℕ} (reach : Reach member rate (blanksOf (places 𝓓) (tableColumns 𝓓 table)) T) where
       module _ (doubt : ℕ) (most : doubt ≤ mostDoubt) where

@@ -41,7 +41,7 @@ use Rattle.session.specs.View.{bookOf, Good}
 use Rattle.session.specs.Calls.{Opening}
 use Rattle.runs.specs.Step.{Step}
 use Rattle.runs.specs.Runs.{Run}
-use Rattle.runs.specs.Follows.{closedBy, blanksAfter, ReachAfter, reach-after, limit-after, Start, opening-accepted, start-rate, start-follows, one-start, CaptureStarts, capture-starts}
+use Rattle.runs.specs.Follows.{closedBy, blanksAfter, ReachAfter, reach-after, limit-after, ByCapture, Start, opening-accepted, start-rate, start-follows, one-start, CaptureStarts, capture-starts}
 use Rattle.runs.specs.Shown.{run-writes, capture-written, capture-back}
 use Rattle.runs.specs.Alike as agreeing
 use Rattle.runs.specs.Alike.{Reached, SameHeld, Alike}
@@ -102,7 +102,7 @@ pub record Demand3 : Type 0 where
       → IsAnswer (afterAll book calls) T (closedBy a)
   -- document 01: 'opening an accepted capture counts as opening with its rate and list and then delivering its records in their order': it is one of
   -- the openings (Start) of which all of this is said
-  pub captures : {bytes : List ℕ} {r : Opened} → Opening (openCaptureOf bytes) r → r .refusal ≡ accepted → CaptureStarts bytes r
+  pub captures : {bytes : List ℕ} {r : Opened} → ByCapture bytes r → r .refusal ≡ accepted → CaptureStarts bytes r
   -- document 01: 'Only an accepted delivery changes the book. A refused call leaves its buffers as they were.' Of document 02 an accepted withdrawal does, too
   pub only-changes : (book : Book) (call : Call)
       → (after book call ≡ book)
@@ -122,11 +122,11 @@ pub record Demand3 : Type 0 where
   pub in-order : {book : Book} {s t : Session} {calls : List Call} {given : List Answer} → Start book s → Run s calls given t
       → {out : List ℕ} {a : Answer} {u : Session} → Step t (writing out) a u → a .number ≡ accepted → InPlaceOrder (recordsIn (a .first))
   -- 'and writing what was read from an accepted capture returns it unchanged exactly if it is in place order'
-  pub unchanged : {bytes out : List ℕ} {r : Opened} {a : Answer} {u : Session} → below 256 bytes ≡ true → Opening (openCaptureOf bytes) r
+  pub unchanged : {bytes out : List ℕ} {r : Opened} {a : Answer} {u : Session} → ByCapture bytes r
       → r .refusal ≡ accepted → Step (r .session) (writing out) a u → length out ≡ length bytes
       → (a .number ≡ accepted) × ((a .first ≡ bytes) ↔ InPlaceOrder (recordsIn bytes))
   -- document 02: 'Captures in other orders are still read, but are written back in place order': each place with its column
-  pub written-back : (bytes : List ℕ) {out : List ℕ} {r : Opened} {a : Answer} {u : Session} → below 256 bytes ≡ true → Opening (openCaptureOf bytes) r
+  pub written-back : (bytes : List ℕ) {out : List ℕ} {r : Opened} {a : Answer} {u : Session} → ByCapture bytes r
       → r .refusal ≡ accepted → Step (r .session) (writing out) a u → length out ≡ length bytes
       → (p : ℕ) → columnIn (recordsIn (a .first)) p ≡ columnIn (recordsIn bytes) p
   -- document 02: 'A delivery shall be undone: … the session answers and reads as if that delivery, and every call refused since, had never been made. It need
@@ -201,7 +201,7 @@ whole =
       one-held = λ x y same. agreeing.held-one x y same;
       one-start = λ x y. one-start x y;
       in-order = λ start run step n. run-writes start run step n;
-      unchanged = λ small opened n step long. capture-written small opened n step long;
-      written-back = λ bytes small opened n step long p. capture-back bytes small opened n step long p;
+      unchanged = λ opened n step long. capture-written opened n step long;
+      written-back = λ bytes opened n step long p. capture-back bytes opened n step long p;
       undone = λ start before p column n spares run without. undoing.undone start before p column n spares run without;
     }

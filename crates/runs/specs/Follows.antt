@@ -12,16 +12,20 @@
 --   opening-accepted     an opening with a rate and a doubtful list accepts
 --   captureBook bytes    the book that opening with a capture's rate and list and then delivering its records in their order gives
 --   new-rate             the rate of a new book
+--   ByCapture bytes r    opening a capture, the bytes of which are bytes: what `open_capture` promises
 --   Start book s         an accepted opening returned the session s: by a rate and a doubtful list, with a new book, or by a capture, with its book
+--   start-costs          the row of that book has columns of costs
 --   start-follows        such a session follows that book; start-rate: its rate is one of the two
 --   one-start            and the book determines it: opened twice alike, sessions are equal
 --   CaptureStarts bytes r, capture-starts   every accepted capture is such an opening: its rate and list are ones that opening accepts, and each of its
 --                        records is accepted
+use mathlib.Core.Bool.{true}
 use mathlib.Core.Path.{_≡_, refl, sym, ap, _∙_, subst}
 use mathlib.Core.List.{List, List·Memᴰ}
 use Prim.Native.Nat.{ℕ}
 use lib.ListN.{length}
 use Rattle.refusals.specs.Refusal.{accepted}
+use Rattle.lists.specs.Distinct.{below}
 use Rattle.near.specs.Here.{blankLimit, IsReach}
 use Rattle.book.specs.Model.{modem64}
 use Rattle.book.specs.Book.{Book, newBook, Outcome}
@@ -33,9 +37,10 @@ use Rattle.book.specs.AnyCalls.{Answer}
 use Rattle.book.specs.Calls.{Call, closing, answer, answers, afterAll}
 use Rattle.book.specs.AlikeCalls.{answer-alike, answers-alike, afterAll-alike}
 use Rattle.book.specs.Sentences.{opening-accepts, opening-only, closes}
-use Rattle.book.specs.Here.{openOf, reportLength, DoubtfulList, blanksIn, Closes, closeOf}
+use Rattle.book.specs.Costs.{new-costs}
+use Rattle.book.specs.Here.{openOf, reportLength, DoubtfulList, blanksIn, Closes, closeOf, RowColumns}
 use Rattle.book.specs.CallLaws.{rate-held, AllFit}
-use Rattle.book.specs.Captured.{deliveries, capture-opens}
+use Rattle.book.specs.Captured.{deliveries, capture-opens, capture-costs}
 use Rattle.session.specs.declared.Session.{Session}
 use Rattle.session.specs.declared.Opened.{Opened}
 use Rattle.session.specs.View.{bookOf, Good}
@@ -110,10 +115,14 @@ opening-accepted known fit opened = opened .number ∙ ap (λ (x : Outcome). x .
 abbrev pub captureBook : List ℕ → Book
 captureBook bytes = afterAll (newBook (rateIn bytes) (listIn bytes)) (deliveries (recordsIn bytes))
 
+pub record ByCapture (bytes : List ℕ) (r : Opened) : Type 0 where
+  pub opening : Opening (openCaptureOf bytes) r
+  pub small : below 256 bytes ≡ true
+
 pub data Start : Book → Session → Type 0 where
   by-opening : {rate : ℕ} {list : List ℕ} {r : Opened} → Rate rate → DoubtfulList list → Opening (openOf rate list) r
       → Start (newBook rate list) (r .session)
-  by-capture : {r : Opened} (bytes : List ℕ) → Rate (rateIn bytes) → Opening (openCaptureOf bytes) r → r .refusal ≡ accepted
+  by-capture : {r : Opened} (bytes : List ℕ) → Rate (rateIn bytes) → ByCapture bytes r → r .refusal ≡ accepted
       → Start (captureBook bytes) (r .session)
 
 pub new-rate : (rate : ℕ) (list : List ℕ) → newBook rate list .rate ≡ rate
@@ -122,18 +131,25 @@ new-rate rate list = refl
 
 pub start-good : {book : Book} {s : Session} → Start book s → Good s
 start-good (by-opening known fit opened) = opened .good
-start-good (by-capture bytes known opened n) = opened .good
+start-good (by-capture bytes known opened n) = opened .opening .good
 
 start-agree : {book : Book} {s : Session} → Start book s → Agree (bookOf s) book
 start-agree (by-opening known fit opened) =
     agree-trans (opened .book) (agree-path (ap (λ (x : Outcome). x .book) (opening-accepts modem64 (rate-known known) fit)))
-start-agree (by-capture bytes known opened n) = agree-trans (opened .book) (agree-path (capture-opens bytes (sym (opened .number) ∙ n) .delivered))
+start-agree (by-capture bytes known opened n) =
+    agree-trans (opened .opening .book) (agree-path (capture-opens bytes (sym (opened .opening .number) ∙ n) .delivered))
 
 pub start-rate : {book : Book} {s : Session} → Start book s → Rate (book .rate)
 start-rate (by-opening {rate = rate} {list = list} known fit opened) = subst Rate (sym (new-rate rate list)) known
 start-rate (by-capture bytes known opened n) =
     subst Rate
     (sym (rate-held (newBook (rateIn bytes) (listIn bytes)) (deliveries (recordsIn bytes)) ∙ new-rate (rateIn bytes) (listIn bytes))) known
+
+pub start-costs : {book : Book} {s : Session} → Start book s → RowColumns (book .row)
+start-costs (by-opening {rate = rate} {list = list} known fit opened) = new-costs modem64 rate list
+start-costs (by-capture bytes known opened n) =
+    let o : openCaptureOf bytes .number ≡ accepted = sym (opened .opening .number) ∙ n in
+    subst (λ (b : Book). RowColumns (b .row)) (capture-opens bytes o .delivered) (capture-costs bytes (opened .small) o)
 
 pub start-follows : {book : Book} {s : Session} → Start book s → Follows s book
 start-follows start = good-follows (start-good start) (start-agree start)
@@ -148,9 +164,9 @@ pub record CaptureStarts (bytes : List ℕ) (r : Opened) : Type 0 where
   pub records : (a : Answer) → List·Memᴰ a (answers (newBook (rateIn bytes) (listIn bytes)) (deliveries (recordsIn bytes))) → a .number ≡ accepted
   pub start : Start (captureBook bytes) (r .session)
 
-pub capture-starts : {bytes : List ℕ} {r : Opened} → Opening (openCaptureOf bytes) r → r .refusal ≡ accepted → CaptureStarts bytes r
+pub capture-starts : {bytes : List ℕ} {r : Opened} → ByCapture bytes r → r .refusal ≡ accepted → CaptureStarts bytes r
 capture-starts {bytes} opened n =
-    let c = capture-opens bytes (sym (opened .number) ∙ n) in
+    let c = capture-opens bytes (sym (opened .opening .number) ∙ n) in
     let k = opening-only modem64 (rateIn bytes) (listIn bytes) (c .opened) in
     let r = known-rate (rateIn bytes) (k .0) in
     record { rate = r; list = k .1; records = c .all-accepted; start = by-capture bytes r opened n }

@@ -29,8 +29,8 @@ use Rattle.session.specs.View.{bookOf, Good}
 use Rattle.session.specs.Calls.{Opening}
 use Rattle.session.specs.Laws.{good-proper}
 use Rattle.runs.specs.Step.{Step}
-use Rattle.runs.specs.Runs.{Run}
-use Rattle.runs.specs.Follows.{closedBy, captureBook, Start, by-opening, by-capture, start-follows}
+use Rattle.runs.specs.Runs.{Run, run-fits}
+use Rattle.runs.specs.Follows.{closedBy, captureBook, ByCapture, Start, by-opening, start-costs, start-follows, capture-starts}
 
 pub step-marked : {t : Session} {book : Book} → Good t → Agree (bookOf t) book → {message report : List ℕ} {a : Answer} {u : Session}
     → RowColumns (book .row) → Step t (closing message report) a u → a .number ≡ accepted → cheapestIn (a .second) ≡ 1 → CheapestIn book (closedBy a)
@@ -44,24 +44,20 @@ step-marked {t} {book} good same {message} {report} {a} all step n mark =
     (cheapest-byte _ ∙ sym (ap (λ (x : Answer). cheapestIn (x .second)) e) ∙ mark))
 
 pub run-marked : {book : Book} {s : Session} → Start book s → {calls : List Call} {given : List Answer} {t : Session} → Run s calls given t
-    → {message report : List ℕ} {a : Answer} {u : Session} → RowColumns (book .row) → AllFit calls → Step t (closing message report) a u
+    → {message report : List ℕ} {a : Answer} {u : Session} → Step t (closing message report) a u
     → a .number ≡ accepted → cheapestIn (a .second) ≡ 1 → CheapestIn (afterAll book calls) (closedBy a)
-run-marked {book} start run all fit step n mark =
+run-marked {book} start run step n mark =
     let left = start-follows start .left run in
-    step-marked (left .0) (left .1) (after-costs book fit all) step n mark
+    step-marked (left .0) (left .1) (after-costs book (run-fits run) (start-costs start)) step n mark
 
 pub opened-marked : {rate : ℕ} {list : List ℕ} {r : Opened} → Rate rate → DoubtfulList list → Opening (openOf rate list) r
-    → {calls : List Call} {given : List Answer} {t : Session} → Run (r .session) calls given t → AllFit calls
+    → {calls : List Call} {given : List Answer} {t : Session} → Run (r .session) calls given t
     → {message report : List ℕ} {a : Answer} {u : Session} → Step t (closing message report) a u → a .number ≡ accepted
     → cheapestIn (a .second) ≡ 1 → CheapestIn (afterAll (newBook rate list) calls) (closedBy a)
-opened-marked {rate} {list} known doubtful opened run fit step n mark =
-    run-marked (by-opening known doubtful opened) run (new-costs modem64 rate list) fit step n mark
+opened-marked known doubtful opened run step n mark = run-marked (by-opening known doubtful opened) run step n mark
 
-pub capture-marked : {r : Opened} (bytes : List ℕ) → below 256 bytes ≡ true → Rate (rateIn bytes) → Opening (openCaptureOf bytes) r
-    → r .refusal ≡ accepted → {calls : List Call} {given : List Answer} {t : Session} → Run (r .session) calls given t → AllFit calls
+pub capture-marked : {r : Opened} (bytes : List ℕ) → ByCapture bytes r → r .refusal ≡ accepted
+    → {calls : List Call} {given : List Answer} {t : Session} → Run (r .session) calls given t
     → {message report : List ℕ} {a : Answer} {u : Session} → Step t (closing message report) a u → a .number ≡ accepted
     → cheapestIn (a .second) ≡ 1 → CheapestIn (afterAll (captureBook bytes) calls) (closedBy a)
-capture-marked bytes small known opened n run fit step m mark =
-    let o : openCaptureOf bytes .number ≡ accepted = sym (opened .number) ∙ n in
-    run-marked (by-capture bytes known opened n) run
-    (subst (λ (b : Book). RowColumns (b .row)) (capture-opens bytes o .delivered) (capture-costs bytes small o)) fit step m mark
+capture-marked bytes opened n run step m mark = run-marked (capture-starts {bytes = bytes} opened n .start) run step m mark

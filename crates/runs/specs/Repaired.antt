@@ -31,7 +31,6 @@ use Rattle.book.specs.OpeningLaws.{Rate, rate-known, rate-reach}
 use Rattle.book.specs.AnyCalls.{Answer}
 use Rattle.book.specs.Calls.{Call, closing, afterAll}
 use Rattle.book.specs.Closing.{Closed}
-use Rattle.book.specs.CaptureOpening.{openCaptureOf}
 use Rattle.book.specs.Repairs.{always-repaired, always-refused, always-found, few-alone, always-alone, never-another}
 use Rattle.book.specs.Here.{openOf, columnsOf, closeOf, Missing, reportLength, DoubtfulList, FewWrong, FewDoubtful, Alone, notBest, TooFar, Repaired, NoDearer, Sure, RefusedAs, Never}
 use Rattle.book.specs.CallLaws.{rate-held, list-held}
@@ -40,7 +39,7 @@ use Rattle.session.specs.declared.Opened.{Opened}
 use Rattle.session.specs.Calls.{Opening}
 use Rattle.runs.specs.Step.{Step}
 use Rattle.runs.specs.Runs.{Run}
-use Rattle.runs.specs.Follows.{closedBy, Follows, closes-as, blanksAfter, ReachAfter, reach-after, captureBook, by-opening, start-follows, start-rate, capture-starts}
+use Rattle.runs.specs.Follows.{closedBy, Follows, closes-as, blanksAfter, ReachAfter, reach-after, captureBook, ByCapture, by-opening, start-follows, start-rate, capture-starts}
 
 module _ {s : Session} {book : Book} (follows : Follows s book) {calls : List Call} {given : List Answer} {t : Session}
     (run : Run s calls given t) {message report : List ℕ} {a : Answer} {u : Session} (step : Step t (closing message report) a u)
@@ -169,7 +168,7 @@ module _ {rate : ℕ} (known : Rate rate) {r : Opened} {calls : List Call} {give
 
 -- ---- a session opened by an accepted capture
 
-module _ (bytes : List ℕ) {r : Opened} (opened : Opening (openCaptureOf bytes) r) (taken : r .refusal ≡ accepted) {calls : List Call}
+module _ (bytes : List ℕ) {r : Opened} (opened : ByCapture bytes r) (taken : r .refusal ≡ accepted) {calls : List Call}
     {given : List Answer} {t : Session} (run : Run (r .session) calls given t) {message report : List ℕ} {a : Answer} {u : Session}
     (step : Step t (closing message report) a u) (long : length message ≡ captureBook bytes .rate) (whole-report : length report ≡ reportLength)
     (full : (p : ℕ) → Missing (afterAll (captureBook bytes) calls .row) p → ⊥) {T : ℕ} (reach : ReachAfter (captureBook bytes) calls T) (m : List ℕ) where

@@ -5,6 +5,7 @@
 --   every-run            from a good session the answers of every run are the book's
 --   run-good, run-book   the session left is good, and its book agrees with the book after the calls
 --   one-end              so the calls determine the session left
+--   run-fits             the arguments of the calls of a run are what their types say: each column that was delivered is a column of costs
 --   some-step, some-run  every call whose column is one, and every list of them, can be made on every good session: the theorems are not empty
 --
 -- A run is made of steps, and `step` is the function that makes them: its contract says that every call it makes is one (Stepping). It is proved from
@@ -17,6 +18,7 @@ use native.Mathlib.Decide.{decLt, ℕ-discrete}
 use native.Mathlib.Omega.{arith}
 use lib.ListN.{length, getD}
 use Rattle.book.specs.Machine as machine
+use Rattle.book.specs.Machine.{fit-nil, fit-cons}
 use Rattle.book.specs.Model.{modem64}
 use Rattle.book.specs.Book.{Book}
 use Rattle.book.specs.Columns.{Agree}
@@ -57,6 +59,11 @@ run-book run good = machine.every-run likeness faithful run good .book
 pub one-end : {s t u : Session} {calls : List Call} {given other : List Answer} → Good s → Run s calls given t → Run s calls other u → t ≡ u
 one-end = machine.one-end likeness faithful one-session
 
+-- what the types say of the arguments of each call
+pub run-fits : {s t : Session} {calls : List Call} {given : List Answer} → Run s calls given t → AllFit calls
+run-fits machine.done = fit-nil
+run-fits (machine.next step run) = fit-cons (step .fits) (run-fits run)
+
 -- ---- every list of calls has a run
 
 some-delivery : (s : Session) (p : ℕ) (column : List ℕ) → length column ≡ width → (r : Delivered) × Delivery s p column r
@@ -96,16 +103,16 @@ lent-sized book (closing message report) proper = let l = close-sized modem64 bo
 lent-sized book (withdraw p) proper = (refl, refl)
 
 -- a call that leaves the book as it was
-some-kept : (s : Session) (call : Call) → Good s → after (bookOf s) call ≡ bookOf s → Step s call (answer (bookOf s) call) s
-some-kept s call good same =
-    kept-step (λ g. refl) same (refused-lent (bookOf s) call) (lent-sized (bookOf s) call (good-proper s good))
+some-kept : (s : Session) (call : Call) → Good s → Fits call → after (bookOf s) call ≡ bookOf s → Step s call (answer (bookOf s) call) s
+some-kept s call good fits same =
+    kept-step fits (λ g. refl) same (refused-lent (bookOf s) call) (lent-sized (bookOf s) call (good-proper s good))
 
 pub some-step : (s : Session) (call : Call) → Good s → Fits call → (a : Answer) × (t : Session) × Step s call a t
 unfolding after
-some-step s (deliver p column) good fits = let d = some-delivery s p column (fits .whole) in (_, d .0 .session, delivery-step (d .1))
-some-step s (reading out) good u = (_, s, some-kept s (reading out) good refl)
-some-step s (writing out) good u = (_, s, some-kept s (writing out) good refl)
-some-step s (closing message report) good u = (_, s, some-kept s (closing message report) good refl)
+some-step s (deliver p column) good fits = let d = some-delivery s p column (fits .whole) in (_, d .0 .session, delivery-step (d .1) fits)
+some-step s (reading out) good u = (_, s, some-kept s (reading out) good u refl)
+some-step s (writing out) good u = (_, s, some-kept s (writing out) good u refl)
+some-step s (closing message report) good u = (_, s, some-kept s (closing message report) good u refl)
 some-step s (withdraw p) good u = let w = some-withdrawal s p in (_, w .0 .session, withdrawal-step (w .1))
 
 pub some-run : {calls : List Call} → AllFit calls → (s : Session) → Good s → (given : List Answer) × (t : Session) × Run s calls given t

@@ -3,7 +3,7 @@
 --   step-reads, step-shows   of a good session: an accepted reading shows the least Q (Reads), and an accepted closing the numbers of its answer
 --                        (ReportedIn), both of every book that agrees with the session's
 --   run-reads            after every run from an opened session, reading into 98 bytes shows the least Q of the book that the calls leave
---   run-shows            after every run of fitting calls, from one whose row has columns of costs of 0 to 65535, an accepted closing shows its numbers
+--   run-shows            after every run an accepted closing shows its numbers
 --   opened-shows, capture-shows   so of one opened with a rate and a list, and of one opened by an accepted capture
 --   step-writes, run-writes   an accepted writing gives a capture whose records are in place order: of a good session, and after every run
 --   capture-written      writing a session that an accepted capture opened, into a buffer of the capture's size, is accepted, and gives that capture
@@ -41,8 +41,8 @@ use Rattle.session.specs.View.{bookOf, Good}
 use Rattle.session.specs.Calls.{Opening}
 use Rattle.session.specs.Laws.{good-proper}
 use Rattle.runs.specs.Step.{Step}
-use Rattle.runs.specs.Runs.{Run}
-use Rattle.runs.specs.Follows.{closedBy, captureBook, Start, by-opening, by-capture, start-follows}
+use Rattle.runs.specs.Runs.{Run, run-fits}
+use Rattle.runs.specs.Follows.{closedBy, captureBook, ByCapture, Start, by-opening, start-costs, start-follows, capture-starts}
 
 module _ {t : Session} {book : Book} (good : Good t) (same : Agree (bookOf t) book) where
   pub step-reads : {out : List ℕ} {a : Answer} {u : Session} → Step t (reading out) a u → length out ≡ readingLength
@@ -84,51 +84,47 @@ module _ {book : Book} {s : Session} (start : Start book s) {calls : List Call} 
       → (a .number ≡ accepted) × Reads (afterAll book calls) (a .first)
   run-reads step long = step-reads good left step long
 
-  pub run-shows : {message report : List ℕ} {a : Answer} {u : Session} → RowColumns (book .row) → AllFit calls → Step t (closing message report) a u
-      → a .number ≡ accepted → ReportedIn (afterAll book calls) (closedBy a)
-  run-shows all fit step n = step-shows good left (after-costs book fit all) step n
+  pub run-shows : {message report : List ℕ} {a : Answer} {u : Session} → Step t (closing message report) a u → a .number ≡ accepted
+      → ReportedIn (afterAll book calls) (closedBy a)
+  run-shows step n = step-shows good left (after-costs book (run-fits run) (start-costs start)) step n
 
   pub run-writes : {out : List ℕ} {a : Answer} {u : Session} → Step t (writing out) a u → a .number ≡ accepted → InPlaceOrder (recordsIn (a .first))
   run-writes step n = step-writes good step n
 
 pub opened-shows : {rate : ℕ} {list : List ℕ} {r : Opened} → Rate rate → DoubtfulList list → Opening (openOf rate list) r
-    → {calls : List Call} {given : List Answer} {t : Session} → Run (r .session) calls given t → AllFit calls
+    → {calls : List Call} {given : List Answer} {t : Session} → Run (r .session) calls given t
     → {message report : List ℕ} {a : Answer} {u : Session} → Step t (closing message report) a u → a .number ≡ accepted
     → ReportedIn (afterAll (newBook rate list) calls) (closedBy a)
-opened-shows {rate} {list} known doubtful opened run fit step n =
-    run-shows (by-opening known doubtful opened) run (new-costs modem64 rate list) fit step n
+opened-shows known doubtful opened run step n = run-shows (by-opening known doubtful opened) run step n
 
-pub capture-shows : {r : Opened} (bytes : List ℕ) → below 256 bytes ≡ true → Rate (rateIn bytes) → Opening (openCaptureOf bytes) r
-    → r .refusal ≡ accepted → {calls : List Call} {given : List Answer} {t : Session} → Run (r .session) calls given t → AllFit calls
+pub capture-shows : {r : Opened} (bytes : List ℕ) → ByCapture bytes r → r .refusal ≡ accepted
+    → {calls : List Call} {given : List Answer} {t : Session} → Run (r .session) calls given t
     → {message report : List ℕ} {a : Answer} {u : Session} → Step t (closing message report) a u → a .number ≡ accepted
     → ReportedIn (afterAll (captureBook bytes) calls) (closedBy a)
-capture-shows bytes small known opened n run fit step m =
-    let o : openCaptureOf bytes .number ≡ accepted = sym (opened .number) ∙ n in
-    run-shows (by-capture bytes known opened n) run
-    (subst (λ (b : Book). RowColumns (b .row)) (capture-opens bytes o .delivered) (capture-costs bytes small o)) fit step m
+capture-shows bytes opened n run step m = run-shows (capture-starts {bytes = bytes} opened n .start) run step m
 
 -- writing what an accepted capture opened as
-pub capture-written : {bytes out : List ℕ} {r : Opened} {a : Answer} {u : Session} → below 256 bytes ≡ true → Opening (openCaptureOf bytes) r
+pub capture-written : {bytes out : List ℕ} {r : Opened} {a : Answer} {u : Session} → ByCapture bytes r
     → r .refusal ≡ accepted → Step (r .session) (writing out) a u → length out ≡ length bytes
     → (a .number ≡ accepted) × ((a .first ≡ bytes) ↔ InPlaceOrder (recordsIn bytes))
 unfolding answer
-capture-written {bytes} {out} small opened n step long =
-    let o : openCaptureOf bytes .number ≡ accepted = sym (opened .number) ∙ n in
-    let given = step .answered (opened .good) ∙ answer-alike (opened .book) (writing out) in
-    let written = open-then-write bytes out small o long in
-    let unchanged = written-opened bytes small o in
+capture-written {bytes} {out} opened n step long =
+    let o : openCaptureOf bytes .number ≡ accepted = sym (opened .opening .number) ∙ n in
+    let given = step .answered (opened .opening .good) ∙ answer-alike (opened .opening .book) (writing out) in
+    let written = open-then-write bytes out (opened .small) o long in
+    let unchanged = written-opened bytes (opened .small) o in
     let first = ap (λ (x : Answer). x .first) given ∙ ap (λ (f : Filled). f .bytes) written in (
       ap (λ (x : Answer). x .number) given ∙ ap (λ (f : Filled). f .number) written,
       (λ e. unchanged .0 (sym first ∙ e), λ order. first ∙ unchanged .1 order),
     )
 
 -- and each place is written back with its column
-pub capture-back : (bytes : List ℕ) {out : List ℕ} {r : Opened} {a : Answer} {u : Session} → below 256 bytes ≡ true → Opening (openCaptureOf bytes) r
+pub capture-back : (bytes : List ℕ) {out : List ℕ} {r : Opened} {a : Answer} {u : Session} → ByCapture bytes r
     → r .refusal ≡ accepted → Step (r .session) (writing out) a u → length out ≡ length bytes
     → (p : ℕ) → columnIn (recordsIn (a .first)) p ≡ columnIn (recordsIn bytes) p
 unfolding answer
-capture-back bytes {out} small opened n step long p =
-    let o : openCaptureOf bytes .number ≡ accepted = sym (opened .number) ∙ n in
-    let given = step .answered (opened .good) ∙ answer-alike (opened .book) (writing out) in
+capture-back bytes {out} opened n step long p =
+    let o : openCaptureOf bytes .number ≡ accepted = sym (opened .opening .number) ∙ n in
+    let given = step .answered (opened .opening .good) ∙ answer-alike (opened .opening .book) (writing out) in
     ap (λ (x : Answer). columnIn (recordsIn (x .first)) p) given
-    ∙ ap (λ (f : Filled). columnIn (recordsIn (f .bytes)) p) (open-then-write bytes out small o long) ∙ written-columns bytes o p
+    ∙ ap (λ (f : Filled). columnIn (recordsIn (f .bytes)) p) (open-then-write bytes out (opened .small) o long) ∙ written-columns bytes o p

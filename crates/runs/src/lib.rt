@@ -2,10 +2,10 @@
 // The list starts from `open` or `open_capture`, and `step` makes its calls, each on the session that the one before it left. A later call
 // is one kind and one arm more. How a call answers is the business of its own crate; nothing here looks into a session.
 ghost use mathlib.Core.List.{[]};
-ghost use Rattle.book.specs.CaptureOpening.{openCaptureOf};
 ghost use Rattle.book.specs.Calls.{deliver, reading, writing, closing, withdraw};
 ghost use Rattle.book.specs.Here.{openOf};
 ghost use Rattle.session.specs.Calls.{Opening};
+ghost use Rattle.runs.specs.Follows.{ByCapture};
 ghost use Rattle.runs.specs.Step.{Step, answerWith};
 ghost use Rattle.runs.specs.Stepping.{Stepping};
 use columns::costs::SYMBOLS;
@@ -34,14 +34,16 @@ pub fn open(rate: usize, doubtful: &[u8]) -> Opened
 }
 
 pub fn open_capture(bytes: &[u8]) -> Opened
-    ensures { λ r. ⌜ Opening (openCaptureOf (now (bytes .entry))) r ⌝ }
+    ensures { λ r. ⌜ ByCapture (now (bytes .entry)) r ⌝ }
 {
+    ranges::bytes(bytes);
     opening::open_capture(bytes)
 }
 
 fn make_delivery(session: Session, place: usize, column: [u16; SYMBOLS]) -> Stepped
     ensures { λ r. ⌜ Step session (deliver place column) (answerWith (r .refusal) [] []) (r .session) ⌝ }
 {
+    ranges::costs(&column);
     let delivered = session::deliver(session, place, column);
     let left = delivered.session;
     Stepped {

@@ -10,6 +10,7 @@ pub mod Total
 pub mod Mark
 pub mod ColumnLaws
 pub mod BlankLaws
+pub mod Hard
 pub mod BitsLaws
 pub mod DoubtLaws
 pub mod ThresholdLaws

@@ -3,6 +3,7 @@
 --   totalOf-suc, pinnedOf-suc, changedOf-suc   one place more
 --   pinned-summed          a cost at the ceiling is summed as it stands, and counted as pinned
 --   pinned-total           the pinned places alone cost the ceiling each
+--   pinned-told            no place is pinned exactly if no symbol of the word costs the ceiling at its place
 --   total-bound            n costs of at most b cost at most n * b
 --   totalOf-ext, pinnedOf-ext, changedOf-ext   only the columns of the places matter
 --   differing-le, differing-self, differing-comm, differing-triangle, differing-none   differing is a distance of words of n places
@@ -17,7 +18,7 @@
 use mathlib.Core.Bool.{Bool, true, false, not, cond, _&&_}
 use mathlib.Core.Path.{_≡_, refl, sym, ap, ap₂, _∙_, subst}
 use mathlib.Core.List.{List, [], _∷_, _++_}
-use mathlib.Core.Logic.{_≢_, _⊎_, inl, inr, ⊎-elim}
+use mathlib.Core.Logic.{_≢_, _↔_, _⊎_, inl, inr, ⊎-elim}
 use mathlib.Core.Option.{Option, none, some}
 use Prim.Native.Nat.{ℕ, zero, suc, _+_, _*_, _/_, _%_, _<_, _≤_}
 use native.Mathlib.Numerals.{add-one}
@@ -26,7 +27,7 @@ use native.Mathlib.Omega.{arith}
 use lib.Dec.{T, ltb, eqb, ltb→lt, eqb→eq}
 use lib.ListN.{length, set, length-append, length-set}
 use lib.Seq.{ext-getD, getD-set-same, getD-set-other}
-use borrow.Author.Tests.{lt-ltb, eq-eqb, ne-eqb, not-false}
+use borrow.Author.Tests.{lt-ltb, eq-eqb, ne-eqb, eqb-false, not-false}
 use Rattle.lists.specs.Count.{bit, sumOf, sumOf-suc, sumOf-ext, sumOf-mono, sumOf-plus, sumOf-bound, count, count-nil, count-suc, count-ext, count-le, count-mono, count-none, count-zero, count-but}
 use Rattle.soft.specs.Column.{costOf, bestOf, ceiling, isBlank}
 use Rattle.soft.specs.Blank.{openAt, flagAt}
@@ -66,6 +67,13 @@ module _ (columns : ℕ → List ℕ) (word : List ℕ) where
       go (no e) ih =
           omega
           (arith, totalOf-suc n, pinnedOf-suc n ∙ ap (λ t. pinnedOf n columns word + bit t) (ne-eqb (costIn columns word n) ceiling e))
+
+  pub pinned-told : (n : ℕ) → (pinnedOf n columns word ≡ 0) ↔ ((p : ℕ) → p < n → costIn columns word p ≢ ceiling)
+  unfolding pinnedOf
+  pinned-told n = (
+    λ e p l. eqb-false (costIn columns word p) ceiling (count-zero n (pinnedAt columns word) e p l),
+    λ h. count-none n (pinnedAt columns word) (λ p l. ne-eqb (costIn columns word p) ceiling (h p l)),
+  )
 
   pub total-bound : (n b : ℕ) → ((p : ℕ) → p < n → costIn columns word p ≤ b) → totalOf n columns word ≤ n * b
   unfolding totalOf
