@@ -1,6 +1,7 @@
 -- Document 01's sentences about opening captures, each a theorem of the book of the modem of 64 places.
 --
 --   deliveries entries   the entries as deliveries
+--   row-calls            delivering a row that is accepted is a list of accepted deliveries
 --   CaptureOpens bytes, capture-opens   opening an accepted capture counts as opening with its rate and list and then delivering its records in their
 --                        order
 --   capture-costs        the columns of an accepted capture's row are columns
@@ -45,7 +46,7 @@ pub record CaptureOpens (bytes : List ℕ) : Type 0 where
   pub all-accepted : (a : Answer) → List·Memᴰ a (answers (newBook (rateIn bytes) (listIn bytes)) (deliveries (recordsIn bytes))) → a .number ≡ accepted
 
 -- the first of a list of calls, where it is an accepted delivery, and the rest
-row-calls : (book : Book) (entries : List Entry) → deliverRow book entries .number ≡ accepted
+pub row-calls : (book : Book) (entries : List Entry) → deliverRow book entries .number ≡ accepted
     → (deliverRow book entries .book ≡ afterAll book (deliveries entries))
     × ((a : Answer) → List·Memᴰ a (answers book (deliveries entries)) → a .number ≡ accepted)
 unfolding deliveries answersBy afterBy answer after BookOpening.refusedOpening

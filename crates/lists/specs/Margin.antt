@@ -2,7 +2,7 @@
 --
 --   otherThan m test n       n is not m, and passes
 --   beyond cost m o          how much more than m the word of o costs, if o has one
---   marginIn cost test ws m  how much more than m the cheapest other word of ws that passes costs; none where no other passes
+--   marginAmong cost test ws m  how much more than m the cheapest other word of ws that passes costs; none where no other passes
 --   RunnerUp cost P m d      a word other than m has P, no other one that has P costs less, and it costs d more than m
 --   margin-absent            there is no margin exactly if no word but m passes
 --   margin-some              where m is the answer, it is d exactly if there is a runner-up at d
@@ -34,8 +34,8 @@ unfoldable pub beyond : (List ℕ → ℕ) → List ℕ → Option (List ℕ) �
 beyond cost m none = none
 beyond cost m (some n) = some (cost n - cost m)
 
-unfoldable pub marginIn : (List ℕ → ℕ) → (List ℕ → Bool) → List (List ℕ) → List ℕ → Option ℕ
-marginIn cost test ws m = beyond cost m (cheapest cost (otherThan m test) ws)
+unfoldable pub marginAmong : (List ℕ → ℕ) → (List ℕ → Bool) → List (List ℕ) → List ℕ → Option ℕ
+marginAmong cost test ws m = beyond cost m (cheapest cost (otherThan m test) ws)
 
 pub record RunnerUp (cost : List ℕ → ℕ) (P : List ℕ → Type 0) (m : List ℕ) (d : ℕ) : Type 0 where
   pub rival : List ℕ
@@ -82,8 +82,8 @@ lesser-comm (some d) (some e) = go (decLt e d)
     go (no l) = lesser-first d e (omega arith) ∙ sym (lesser-second e d (omega arith))
 
 pub margin-le : {cost : List ℕ → ℕ} {b : ℕ} → ((n : List ℕ) → cost n ≤ b) → (test : List ℕ → Bool) (ws : List (List ℕ)) (m : List ℕ) {d : ℕ}
-    → marginIn cost test ws m ≡ some d → d ≤ b
-unfolding marginIn beyond
+    → marginAmong cost test ws m ≡ some d → d ≤ b
+unfolding marginAmong beyond
 margin-le {cost} {b} h test ws m {d} = go (cheapest cost (otherThan m test) ws)
   where
     go : (o : Option (List ℕ)) → beyond cost m o ≡ some d → d ≤ b
@@ -160,14 +160,14 @@ module _ (q size : ℕ) (cost : List ℕ → ℕ) where
 
   -- the margin is that of whatever answers among the others
   margin-is : (test : List ℕ → Bool) (m : List ℕ) {o : Option (List ℕ)} → Answers cost (Other test m) o
-      → marginIn cost test (words q size) m ≡ beyond cost m o
-  unfolding marginIn
+      → marginAmong cost test (words q size) m ≡ beyond cost m o
+  unfolding marginAmong
   margin-is test m a = ap (beyond cost m) (answers-unique (others test m) a)
 
   -- ---- when there is one
 
   pub margin-absent : (test : List ℕ → Bool) (m : List ℕ)
-      → (marginIn cost test (words q size) m ≡ none) ↔ ((n : List ℕ) → Found q size test n → n ≡ m)
+      → (marginAmong cost test (words q size) m ≡ none) ↔ ((n : List ℕ) → Found q size test n → n ≡ m)
   unfolding beyond
   margin-absent test m = (only, λ h. margin-is test m (nobody (λ n p. p .1 (h n (p .0)))))
     where
@@ -175,11 +175,11 @@ module _ (q size : ℕ) (cost : List ℕ → ℕ) where
       go (nobody h) e n f = ⊎-elim (λ p. p) (λ t. absurd (h n (f, other-yes m n t))) (other-no m n)
       go (best p h) e n f = let z : _≡_ {A = ℕ} 0 1 = cc in absurd (omega arith)
 
-      only : marginIn cost test (words q size) m ≡ none → (n : List ℕ) → Found q size test n → n ≡ m
+      only : marginAmong cost test (words q size) m ≡ none → (n : List ℕ) → Found q size test n → n ≡ m
       only e = go (others test m) (sym (margin-is test m (others test m)) ∙ e)
 
   pub margin-some : (test : List ℕ → Bool) {m : List ℕ} → Answers cost (Found q size test) (some m) → (d : ℕ)
-      → (marginIn cost test (words q size) m ≡ some d) ↔ RunnerUp cost (Found q size test) m d
+      → (marginAmong cost test (words q size) m ≡ some d) ↔ RunnerUp cost (Found q size test) m d
   unfolding beyond
   margin-some test (best {m = m} p f) d = (
     λ e. go (others test m) (sym (margin-is test m (others test m)) ∙ e),
@@ -209,8 +209,8 @@ module _ (q size : ℕ) (cost : List ℕ → ℕ) where
 
   pub margin-either : {test other joined : List ℕ → Bool}
       → ((n : List ℕ) → (Found q size test n ⊎ Found q size other n) ↔ Found q size joined n) → (m : List ℕ)
-      → marginIn cost joined (words q size) m ≡ lesser (marginIn cost test (words q size) m) (marginIn cost other (words q size) m)
-  unfolding marginIn
+      → marginAmong cost joined (words q size) m ≡ lesser (marginAmong cost test (words q size) m) (marginAmong cost other (words q size) m)
+  unfolding marginAmong
   margin-either {test} {other} {joined} i m =
       margin-is joined m (answers-iff same-others (better-answers (others test m) (others other m)))
       ∙ beyond-better cost m (cheapest cost (otherThan m test) (words q size)) (cheapest cost (otherThan m other) (words q size))
@@ -222,10 +222,10 @@ module _ (q size : ℕ) (cost : List ℕ → ℕ) where
       )
 
   pub margin-nobody : (test : List ℕ → Bool) → Answers cost (Found q size test) none → (m : List ℕ)
-      → marginIn cost test (words q size) m ≡ none
+      → marginAmong cost test (words q size) m ≡ none
   margin-nobody test (nobody h) m = margin-absent test m .1 (λ n f. absurd (h n f))
 
   pub margin-beaten : (test : List ℕ → Bool) {m n : List ℕ} → Answers cost (Found q size test) (some n) → Beats cost m n
-      → marginIn cost test (words q size) m ≡ some (cost n - cost m)
+      → marginAmong cost test (words q size) m ≡ some (cost n - cost m)
   unfolding beyond
   margin-beaten test {m} (best p f) b = margin-is test m (best (p, beats-other b) (λ k r. f k (r .0)))

@@ -20,7 +20,7 @@ use Prim.Native.Nat.{ℕ, _-_, _<_, _≤_}
 use Rattle.lists.specs.Words.{words}
 use Rattle.lists.specs.Answers.{Answers, Beats, Found}
 use Rattle.lists.specs.Margin as Margin
-use Rattle.lists.specs.Margin.{marginIn, RunnerUp, lesser, lesser-none, lesser-comm}
+use Rattle.lists.specs.Margin.{marginAmong, RunnerUp, lesser, lesser-none, lesser-comm}
 use Rattle.soft.specs.TotalLaws.{totalOf-ext}
 use Rattle.family.specs.Member.{Member, symbols, places}
 use Rattle.family.specs.Encoding.{encodeOf}
@@ -29,7 +29,7 @@ use Rattle.near.specs.Laws.{near-member, near-answers, found-append}
 
 module _ (𝓜 : Member) (counts : ℕ → Bool) (reach : ℕ) where
   unfoldable pub marginOf : ℕ → (ℕ → List ℕ) → List (List ℕ) → List ℕ → Option ℕ
-  marginOf k columns tests m = marginIn (messageCost 𝓜 k columns) (near 𝓜 counts reach k tests) (words (symbols 𝓜) k) m
+  marginOf k columns tests m = marginAmong (messageCost 𝓜 k columns) (near 𝓜 counts reach k tests) (words (symbols 𝓜) k) m
 
   -- ---- one list of test words
 
@@ -63,7 +63,7 @@ module _ (𝓜 : Member) (counts : ℕ → Bool) (reach : ℕ) where
         → marginOf k columns ts m ≡ marginOf k dues ts m
     unfolding marginOf messageCost
     margin-columns {dues} h m =
-        ap (λ cost. marginIn cost (near 𝓜 counts reach k ts) (words (symbols 𝓜) k) m)
+        ap (λ cost. marginAmong cost (near 𝓜 counts reach k ts) (words (symbols 𝓜) k) m)
         (fun-ext (λ n. totalOf-ext (places 𝓜) columns dues (encodeOf 𝓜 k n) h))
 
     pub margin-le : {b : ℕ} → ((n : List ℕ) → messageCost 𝓜 k columns n ≤ b) → (m : List ℕ) {d : ℕ} → marginOf k columns ts m ≡ some d → d ≤ b

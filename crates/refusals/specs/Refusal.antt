@@ -16,6 +16,8 @@
 --   tooBlank         12: more blank places than the rate allows
 --   notTaken         13: a place that is not taken
 --   wrongSuperframe  14: a superframe that has not 516 bytes, or a wrong version or length
+--   refusal-numbers  all of them
+use mathlib.Core.Path.{_≡_, refl}
 use Prim.Native.Nat.{ℕ}
 
 abbrev pub accepted : ℕ
@@ -62,3 +64,9 @@ notTaken = 13
 
 abbrev pub wrongSuperframe : ℕ
 wrongSuperframe = 14
+
+-- document 01's list, and 12 to 14 of document 02
+pub refusal-numbers : (accepted ≡ 0) × (unknownRate ≡ 1) × (wrongSize ≡ 2) × (noSymbol ≡ 3) × (wrongDoubt ≡ 4) × (noPlace ≡ 5) × (placeTaken ≡ 6)
+    × (placeMissing ≡ 7) × (noCodeword ≡ 8) × (noneNear ≡ 9) × (wrongVersion ≡ 10) × (wrongLength ≡ 11) × (tooBlank ≡ 12) × (notTaken ≡ 13)
+    × (wrongSuperframe ≡ 14)
+refusal-numbers = (refl, refl, refl, refl, refl, refl, refl, refl, refl, refl, refl, refl, refl, refl, refl)

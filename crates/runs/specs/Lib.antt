@@ -6,6 +6,7 @@ pub mod Alike
 pub mod Undone
 pub mod Demand3
 pub mod Repaired
+pub mod Alive
 pub mod Tabled
 pub mod Shown
 pub mod Marked

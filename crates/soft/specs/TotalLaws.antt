@@ -118,12 +118,12 @@ both-true : (a b : Bool) → T (a && b) → T a × T b
 both-true true b t = (tt, t)
 both-true false b t = absurd t
 
-pub record Agree (u v : List ℕ) (p : ℕ) : Type 0 where
+pub record AgreeAt (u v : List ℕ) (p : ℕ) : Type 0 where
   pub left : p < length u
   pub right : p < length v
   pub same : symbolAt u p ≡ symbolAt v p
 
-pub agree-facts : (u v : List ℕ) (p : ℕ) → T (agree u v p) → Agree u v p
+pub agree-facts : (u v : List ℕ) (p : ℕ) → T (agree u v p) → AgreeAt u v p
 unfolding agree
 agree-facts u v p t =
     let a = both-true (ltb p (length u)) (ltb p (length v) && eqb (symbolAt u p) (symbolAt v p)) t in
@@ -134,13 +134,13 @@ agree-facts u v p t =
       same = eqb→eq (symbolAt u p) (symbolAt v p) (b .1);
     }
 
-pub facts-agree : (u v : List ℕ) (p : ℕ) → Agree u v p → agree u v p ≡ true
+pub facts-agree : (u v : List ℕ) (p : ℕ) → AgreeAt u v p → agree u v p ≡ true
 facts-agree u v p a = agree-true u v p (a .left) (a .right) (a .same)
 
-agree-sym : (u v : List ℕ) (p : ℕ) → Agree u v p → Agree v u p
+agree-sym : (u v : List ℕ) (p : ℕ) → AgreeAt u v p → AgreeAt v u p
 agree-sym u v p a = record { left = a .right; right = a .left; same = sym (a .same) }
 
-agree-trans : (u v w : List ℕ) (p : ℕ) → Agree u v p → Agree v w p → Agree u w p
+agree-trans : (u v w : List ℕ) (p : ℕ) → AgreeAt u v p → AgreeAt v w p → AgreeAt u w p
 agree-trans u v w p a b = record { left = a .left; right = b .right; same = a .same ∙ b .same }
 
 -- what holds of a test, by what it is
