@@ -9,7 +9,6 @@
 -- the contracts of `open` and `open_capture` say. T is that of the closing (ReachAfter): by the rate and the places that are blank in the columns held then.
 -- The rates are those from 6 to 52 (rates). There is a T up to 57 − M blank places (blank-rule): with none blank it is 6 at rate 39 and 1 at rate 49, and there
 -- is one up to 13 blank places at rate 39 and 3 at rate 49 (limits).
-use mathlib.Core.Bool.{true}
 use mathlib.Core.Path.{_≡_, subst}
 use mathlib.Core.List.{List, [], _∷_, _++_}
 use mathlib.Core.Logic.{_↔_, _≢_, _⊎_}
@@ -18,7 +17,6 @@ use native.Mathlib.Decide.{decLe}
 use native.Mathlib.Omega.{arith}
 use lib.ListN.{length, getD}
 use Rattle.refusals.specs.Refusal.{accepted, placeMissing, noneNear, tooBlank}
-use Rattle.lists.specs.Distinct.{below}
 use Rattle.family.specs.Member.{m16}
 use Rattle.near.specs.Here.{m-is, blankLimit, reachOf, IsReach, t-is}
 use Rattle.near.specs.Reach.{reach-is}
@@ -27,7 +25,7 @@ use Rattle.book.specs.Columns.{Agree}
 use Rattle.book.specs.PlaceOrder.{InPlaceOrder}
 use Rattle.book.specs.Delivery.{withEntry}
 use Rattle.book.specs.Withdrawal.{withoutPlace}
-use Rattle.book.specs.CaptureOpening.{recordsIn, openCaptureOf}
+use Rattle.book.specs.CaptureOpening.{recordsIn}
 use Rattle.book.specs.OpeningLaws.{Rate, rate-39, rate-49, rate-workable, rate-blanks, rate-reaches}
 use Rattle.book.specs.AnyCalls.{Answer}
 use Rattle.book.specs.Calls.{Call, deliver, writing, closing, withdraw, firstLent, secondLent, answer, after, answers, afterAll}

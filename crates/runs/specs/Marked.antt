@@ -7,21 +7,17 @@ use mathlib.Core.Bool.{true}
 use mathlib.Core.Path.{_≡_, sym, ap, _∙_, subst}
 use mathlib.Core.List.{List}
 use Prim.Native.Nat.{ℕ}
-use Rattle.lists.specs.Distinct.{below}
 use Rattle.refusals.specs.Refusal.{accepted}
 use Rattle.book.specs.Model.{modem64}
 use Rattle.book.specs.Book.{Book, newBook}
 use Rattle.book.specs.Columns.{Agree}
-use Rattle.book.specs.CaptureOpening.{rateIn, openCaptureOf}
 use Rattle.book.specs.OpeningLaws.{list-short, Rate}
 use Rattle.book.specs.AnyCalls.{Answer}
 use Rattle.book.specs.Calls.{Call, closing, answer, afterAll}
 use Rattle.book.specs.AlikeCalls.{answer-alike}
-use Rattle.book.specs.Costs.{new-costs}
 use Rattle.book.specs.Marked.{closing-marked}
 use Rattle.book.specs.Here.{openOf, fitDoubt, DoubtfulList, RowColumns, cheapestIn, cheapest-byte, CheapestIn}
-use Rattle.book.specs.Captured.{capture-opens, capture-costs}
-use Rattle.book.specs.CallLaws.{AllFit, after-costs}
+use Rattle.book.specs.CallLaws.{after-costs}
 use Rattle.code.specs.Encoding.{knownRate}
 use Rattle.session.specs.declared.Session.{Session}
 use Rattle.session.specs.declared.Opened.{Opened}

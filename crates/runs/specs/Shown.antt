@@ -15,7 +15,6 @@ use mathlib.Core.List.{List}
 use mathlib.Core.Logic.{_↔_}
 use Prim.Native.Nat.{ℕ}
 use lib.ListN.{length}
-use Rattle.lists.specs.Distinct.{below}
 use Rattle.refusals.specs.Refusal.{accepted}
 use Rattle.interpolant.specs.LeastQ.{readingLength}
 use Rattle.book.specs.Model.{modem64}
@@ -23,18 +22,16 @@ use Rattle.book.specs.Book.{Book, newBook, columnIn}
 use Rattle.book.specs.Columns.{Agree}
 use Rattle.book.specs.PlaceOrder.{InPlaceOrder}
 use Rattle.book.specs.Writing.{Filled}
-use Rattle.book.specs.CaptureOpening.{rateIn, recordsIn, openCaptureOf}
+use Rattle.book.specs.CaptureOpening.{recordsIn, openCaptureOf}
 use Rattle.book.specs.OpeningLaws.{list-short, Rate, known-rate}
 use Rattle.book.specs.AnyCalls.{Answer}
 use Rattle.book.specs.Calls.{Call, reading, writing, closing, answer, afterAll}
 use Rattle.book.specs.AlikeCalls.{answer-alike}
-use Rattle.book.specs.Costs.{new-costs}
 use Rattle.book.specs.Report.{closing-shows}
 use Rattle.book.specs.RoundTrip.{write-whole, write-accepted, written-order, written-columns, written-opened, open-then-write}
 use Rattle.book.specs.Here.{openOf, fitDoubt, DoubtfulList, RowColumns, ReportedIn}
 use Rattle.book.specs.ReadingSentences.{Reads, reading-least}
-use Rattle.book.specs.Captured.{capture-opens, capture-costs}
-use Rattle.book.specs.CallLaws.{AllFit, after-costs}
+use Rattle.book.specs.CallLaws.{after-costs}
 use Rattle.session.specs.declared.Session.{Session}
 use Rattle.session.specs.declared.Opened.{Opened}
 use Rattle.session.specs.View.{bookOf, Good}
