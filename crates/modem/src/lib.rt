@@ -82,7 +82,7 @@ pub extern "C" fn hermitian_take_superframe_apart(
 ) -> u8
     ensures { λ r. ⌜ taken r (now (status .exit)) (now (messages .exit)) ≡ takenOf (now (frame .entry)) (now (messages .entry)) ⌝ }
 {
-    let answer = superframe::taking::take_apart(frame, messages);
+    let answer = taking_apart::take_apart(frame, messages);
     *status = answer.status;
     answer.refusal
 }

@@ -6,6 +6,7 @@
 --   framed-long, framed-head, framed-symbol   its 516 bytes: the head does not depend on the symbols, and behind it stand the symbols
 --   sent-long, sent-below  a word that is sent has 64 places with a symbol at each
 --   built-framed, built-long, built-bytes, built-head   a built superframe is such a frame: its length, and the bytes of its head
+--   Layout, built-layout   document 02's bytes, with its numbers: 516, 1, 513, the rate, and place p of word v as symbol number 8p + v
 --   built-symbol, built-place, built-below, built-word   its symbols, each below 16, are those of the words that are sent, and its words are these
 --   alike-passed           a frame with its head, and symbols behind it, passes the checks; built-passed: so it does itself
 --   message-word           each message is one
@@ -19,7 +20,6 @@ use native.Mathlib.Omega.{arith}
 use lib.Dec.{eqb}
 use lib.ListN.{length, getD, replicate, length-replicate, getD-replicate}
 use lib.Seq.{getD-drop}
-use borrow.Author.Tests.{eq-eqb}
 use Rattle.lists.specs.Block.{block, block-at, block-ext, row-end}
 use Rattle.lists.specs.Every.{true-T, T-true}
 use Rattle.lists.specs.Listed.{listed, listed-length, listed-at, listed-by}
@@ -31,12 +31,13 @@ use Rattle.soft.specs.TotalLaws.{differing-self, differing-fewer}
 use Rattle.family.specs.Member.{m16}
 use Rattle.family.specs.Evaluation.{encode-length, encode-at}
 use Rattle.family.specs.Calls.{outcome}
-use Rattle.code.specs.Encoding.{knownRate}
+use Rattle.code.specs.Encoding.{encodeOf, knownRate}
 use Rattle.code.specs.Rates.{known-bounds}
 use Rattle.near.specs.Here.{reachOf}
 use Rattle.book.specs.Engine.{unblankedBy}
 use Rattle.book.specs.EngineLaws.{IsWithin}
 use Rattle.superframe.specs.Superframe.{words, headLength, symbolCount, frameLength, version, lengthHigh, lengthLow, sentWord, symbolOf, frameOf, builtOf, buildOf, symbolIn, wordIn, answerAt, noneNearIn, messagesOf, taken, takenOf}
+use Rattle.superframe.specs.Checks.{build-fits}
 use Rattle.superframe.specs.Hard.{within-near}
 use Rattle.superframe.specs.Laws.{symbols-small, answer-some, status-none, part-long, messages-long, messages-part, Passed, taken-passed}
 
@@ -60,8 +61,7 @@ zeros-sent k known =
 
 pub build-sent : (k : ℕ) (messages frame : List ℕ) → Sent k messages → length frame ≡ frameLength
     → buildOf k messages frame ≡ outcome accepted (builtOf k messages)
-unfolding buildOf
-build-sent k messages frame S whole = rw (S .known, eq-eqb (length messages) (k * words) (S .long), eq-eqb (length frame) frameLength whole, S .small)
+build-sent k messages frame S whole = build-fits k messages frame (S .known) (S .long) whole (S .small)
 
 -- ---- a head, and symbols behind it
 
@@ -87,6 +87,14 @@ module _ (rate : ℕ) (symbol : ℕ → ℕ) where
 
 -- ---- the words that are sent
 
+-- version 1, a length of 513, the rate, and place p of word v as symbol number 8p + v
+pub record Layout (k : ℕ) (messages frame : List ℕ) : Type 0 where
+  pub size : length frame ≡ 516
+  pub version-byte : getD frame 0 0 ≡ 1
+  pub length-bytes : getD frame 1 0 * 256 + getD frame 2 0 ≡ 513
+  pub rate-byte : getD frame 3 0 ≡ k
+  pub symbol : (p v : ℕ) → p < 64 → v < 8 → getD frame (4 + (8 * p + v)) 0 ≡ getD (encodeOf k (block k v messages)) p 0
+
 module _ (k : ℕ) (messages : List ℕ) where
   pub sent-long : (v : ℕ) → length (sentWord k messages v) ≡ places
   unfolding sentWord
@@ -106,7 +114,7 @@ module _ (k : ℕ) (messages : List ℕ) where
   pub built-long : length (builtOf k messages) ≡ frameLength
   built-long = ap length built-framed ∙ framed-long k (symbolOf sent)
 
-  pub built-bytes : (getD (builtOf k messages) 0 0 ≡ version) × (getD (builtOf k messages) 1 0 ≡ lengthHigh) × (getD (builtOf k messages) 2 0 ≡ lengthLow)
+  pub built-bytes : (getD (builtOf k messages) 0 0 ≡ 1) × (getD (builtOf k messages) 1 0 ≡ 2) × (getD (builtOf k messages) 2 0 ≡ 1)
       × (getD (builtOf k messages) 3 0 ≡ k)
   unfolding builtOf frameOf
   built-bytes = (refl, refl, refl, refl)
@@ -126,6 +134,17 @@ module _ (k : ℕ) (messages : List ℕ) where
       let q : (words * p + v) / words ≡ p = omega arith in
       built-symbol (words * p + v) (omega arith) ∙ ap₂ (λ u i. getD (sentWord k messages u) i 0) r q
 
+  pub built-layout : Layout k messages (builtOf k messages)
+  unfolding symbolIn sentWord
+  built-layout =
+      record {
+        size = built-long;
+        version-byte = built-bytes .0;
+        length-bytes = omega (arith, built-bytes .1, built-bytes .2);
+        rate-byte = built-bytes .3;
+        symbol = built-place;
+      }
+
   pub built-word : (v : ℕ) → v < words → wordIn (builtOf k messages) v ≡ sentWord k messages v
   unfolding wordIn
   built-word v h =
@@ -141,10 +160,12 @@ module _ (k : ℕ) (messages : List ℕ) where
       → length out ≡ k * words → Passed frame out k
   alike-passed S frame out long head small room =
       record {
-        long = long;
-        version-byte = head 0 (omega arith) ∙ built-bytes .0;
-        high-byte = head 1 (omega arith) ∙ built-bytes .1;
-        low-byte = head 2 (omega arith) ∙ built-bytes .2;
+        right = record {
+          long = long;
+          version-byte = head 0 (omega arith) ∙ built-bytes .0;
+          high-byte = head 1 (omega arith) ∙ built-bytes .1;
+          low-byte = head 2 (omega arith) ∙ built-bytes .2;
+        };
         rate-byte = head 3 (omega arith) ∙ built-bytes .3;
         known = S .known;
         room = room;
@@ -181,7 +202,7 @@ module _ (k : ℕ) (messages : List ℕ) where
       answer : (v : ℕ) → v < words
           → (answerAt k frame (block k v out) v .number ≡ accepted) × (answerAt k frame (block k v out) v .message ≡ block k v messages)
       answer v h =
-          answer-some frame (P .long) (P .small) k (P .known) (block k v out) v h (within-near k (wordIn frame v) (P .known) (near v h))
+          answer-some frame (P .right .long) (P .small) k (P .known) (block k v out) v h (within-near k (wordIn frame v) (P .known) (near v h))
 
   pub built-taken : Sent k messages → (out : List ℕ) → length out ≡ k * words → takenOf (builtOf k messages) out ≡ taken accepted 0 messages
   unfolding sentWord

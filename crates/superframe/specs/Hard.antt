@@ -1,7 +1,7 @@
 -- The columns of a word that was received, cost 0 for the symbol received and 1 for the others, and what decoding by them without doubt answers.
 --
 --   hard-length, hard-own, hard-other   the column of one symbol: how long it is, what the symbol costs, and what another does
---   hard-column            the columns of a word, place by place
+--   hard-column, hard-beyond   the columns of a word, place by place, and beyond its last one
 --   hard-open, hard-blank  none of them is blank
 --   hard-best, hard-word   the best symbol is the one received, so the word of best symbols is the word received
 --   hard-answer            so the answer is the codeword within T of the word, if there is one
@@ -10,23 +10,23 @@
 --   none-blank, fit-none   without blank places all places count, and the empty list is fit
 --   within-near, near-within   the codeword within T, if there is one: whichever is within T is it, and it is within T
 use mathlib.Core.Bool.{Bool, true, false, not, _&&_}
-use mathlib.Core.Path.{_≡_, refl, sym, ap, ap₂, _∙_, subst}
+use mathlib.Core.Path.{_≡_, refl, sym, ap, _∙_, subst}
 use mathlib.Core.List.{List, [], _∷_}
 use mathlib.Core.Logic.{_≢_}
 use mathlib.Core.Option.{some, none}
-use Prim.Native.Nat.{ℕ, _+_, _-_, _*_, _/_, _%_, _<_, _≤_}
+use Prim.Native.Nat.{ℕ, zero, suc, _-_, _<_, _≤_}
 use native.Mathlib.Decide.{ℕ-discrete}
 use native.Mathlib.Omega.{arith}
-use lib.ListN.{length, getD}
+use lib.ListN.{length, getD, replicate}
 use borrow.Author.Tests.{eq-eqb, ne-eqb, lt-ltb}
 use Rattle.lists.specs.Count.{bit}
 use Rattle.lists.specs.Distinct.{among, below}
 use Rattle.lists.specs.Every.{true-T, T-true}
-use Rattle.lists.specs.Listed.{listed-length, listed-at, listed-ext, listed-by}
+use Rattle.lists.specs.Listed.{listed-length, listed-at, listed-by}
 use Rattle.lists.specs.Words.{allBelow, allBelow-at}
 use Rattle.lists.specs.Answers.{Answers, Found, free, answers-some}
 use Rattle.refusals.specs.Refusal.{accepted, noneNear}
-use Rattle.soft.specs.Column.{places, symbols, costOf, costAt, columnOf, bestOf, isBlank}
+use Rattle.soft.specs.Column.{places, symbols, costOf, bestOf, isBlank}
 use Rattle.soft.specs.ColumnLaws.{best-below, best-least}
 use Rattle.soft.specs.Blank.{openAt}
 use Rattle.soft.specs.BlankLaws.{blank-same}
@@ -48,7 +48,7 @@ use Rattle.book.specs.Here.{width, fitPlaces, reportLength, decodeOf}
 use Rattle.book.specs.Engine.{unblankedBy, nearBy}
 use Rattle.book.specs.EngineLaws.{IsWithin, within-found, found-within, unblanked-repairs}
 use Rattle.book.specs.Single.{BlankAt, same-number, answer-one}
-use Rattle.superframe.specs.Superframe.{hardCost, hardColumn, hardCosts}
+use Rattle.superframe.specs.Superframe.{hardCost, hardColumn, hardColumns}
 
 -- ---- one column
 
@@ -98,18 +98,19 @@ hard-open-column s l = go (isBlank (hardColumn s)) refl
 
 -- ---- the columns of a word
 
-pub hard-column : (word : List ℕ) (p : ℕ) → p < places → columnOf symbols (hardCosts word) p ≡ hardColumn (getD word p 0)
-unfolding columnOf hardCosts hardColumn
-hard-column word p h = listed-ext symbols (costAt symbols (hardCosts word) p) (hardCost (getD word p 0)) (λ s l. at s l)
-  where
-    at : (s : ℕ) → s < symbols → getD (hardCosts word) (p * symbols + s) 0 ≡ hardCost (getD word p 0) s
-    at s l =
-        let q : (p * symbols + s) / symbols ≡ p = omega arith in
-        let r : (p * symbols + s) % symbols ≡ s = omega arith in
-        listed-at (places * symbols) (p * symbols + s) (λ i. hardCost (getD word (i / symbols) 0) (i % symbols)) 0 (omega arith)
-        ∙ ap₂ (λ i t. hardCost (getD word i 0) t) q r
+pub hard-column : (word : List ℕ) (p : ℕ) → p < length word → hardColumns word p ≡ hardColumn (getD word p 0)
+unfolding hardColumns
+hard-column [] p h = absurd (omega arith)
+hard-column (s ∷ word) zero h = refl
+hard-column (s ∷ word) (suc p) h = hard-column word p (omega arith)
 
-pub hard-open : (word : List ℕ) (p : ℕ) → p < places → getD word p 0 < symbols → openAt (columnOf symbols (hardCosts word)) p ≡ true
+pub hard-beyond : (word : List ℕ) (p : ℕ) → length word ≤ p → hardColumns word p ≡ replicate symbols 0
+unfolding hardColumns
+hard-beyond [] p h = refl
+hard-beyond (s ∷ word) zero h = absurd (omega arith)
+hard-beyond (s ∷ word) (suc p) h = hard-beyond word p (omega arith)
+
+pub hard-open : (word : List ℕ) (p : ℕ) → p < length word → getD word p 0 < symbols → openAt (hardColumns word) p ≡ true
 hard-open word p h l = ap (λ (c : List ℕ). not (isBlank c)) (hard-column word p h) ∙ ap not (hard-open-column (getD word p 0) l)
 
 -- ---- no place is blank
@@ -130,20 +131,20 @@ hard-long k columns doubtful part report long whole = decode-sized modem64 k col
 
 module _ (word : List ℕ) (long : length word ≡ places) (small : allBelow symbols word ≡ true) where
   abbrev columns : ℕ → List ℕ
-  columns = columnOf symbols (hardCosts word)
+  columns = hardColumns word
 
   symbol-at : (p : ℕ) → p < places → getD word p 0 < symbols
   symbol-at p h = allBelow-at symbols word (true-T (allBelow symbols word) small) p (omega arith)
 
   pub hard-blank : BlankAt [] columns
-  hard-blank p h = hard-open word p h (symbol-at p h) ∙ sym (none-blank p h)
+  hard-blank p h = hard-open word p (omega arith) (symbol-at p h) ∙ sym (none-blank p h)
 
   pub hard-word : bestWord places columns ≡ word
   unfolding bestWord
   hard-word =
       sym
       (listed-by 0 places word (bestAt columns) long
-      (λ p h. sym (ap bestOf (hard-column word p h) ∙ hard-best (getD word p 0) (symbol-at p h))))
+      (λ p h. sym (ap bestOf (hard-column word p (omega arith)) ∙ hard-best (getD word p 0) (symbol-at p h))))
 
   few-blank : (k : ℕ) → blanksIn columns ≤ blankLimit k
   few-blank k = omega (arith, same-number [] fit-none columns hard-blank)

@@ -7,39 +7,39 @@
 --   status-less, status-bit, status-none   the status byte: below 2^n for n words, bit v is that of word v, and 0 if no word is named
 --   part-long              a part of the buffer has k symbols
 --   messages-long, messages-part   the parts, one after the other: their length, and part v is what decoding word v leaves
---   Passed frame messages rate   what the checks ask; head-passed, taken-passed: where they pass, the answer is the status and the parts
+--   Passed frame messages rate   what the checks ask; taken-passed: where they pass, the answer is the status and the parts
 --   Refused, passed-or-refused   they pass at the rate that the frame names, or the call is refused: status 0, and the buffer as it was
 --   word-none-near         'a word with none near leaves its part untouched and is named'
 --   word-given             another one is not named, and its part is its message
 --   word-within            so where a codeword is within T of the word
 --   named-exactly          a word is named exactly if no codeword is within T of it
-use mathlib.Core.Bool.{Bool, true, false, cond, _&&_}
+use mathlib.Core.Bool.{Bool, true, false, cond}
 use mathlib.Core.Path.{_≡_, refl, sym, ap, ap₂, _∙_, subst}
 use mathlib.Core.List.{List, [], _++_}
 use mathlib.Core.Logic.{_≢_, _↔_, _⊎_, inl, inr, ⊎-elim}
 use mathlib.Core.Option.{Option, some, none}
 use Prim.Native.Nat.{ℕ, zero, suc, _+_, _-_, _*_, _/_, _%_, _^_, _<_, _≤_}
 use native.Mathlib.Nat.{pow-suc, mul-suc, mod-lt, eq-or-lt-of-le, le-of-suc-le-suc}
+use native.Mathlib.Decide.{ℕ-discrete}
 use native.Mathlib.Omega.{arith}
 use lib.Dec.{eqb}
 use lib.ListN.{length, getD, take, drop, replicate, length-append, length-drop, length-replicate}
 use lib.Pow.{pow-pos, pow-add, split, high}
 use lib.Seq.{getD-drop, take-append-le, drop-append-le, drop-at, take-all}
-use borrow.Author.Tests.{eq-eqb, eqb-true}
 use Rattle.lists.specs.Block.{block, block-length, row-end}
 use Rattle.lists.specs.Count.{bit}
-use Rattle.lists.specs.Distinct.{and-left, and-right}
 use Rattle.lists.specs.Every.{true-T, T-true}
 use Rattle.lists.specs.Listed.{listed-length, listed-at}
 use Rattle.lists.specs.Words.{allBelow, allBelow-at, allBelow-from}
-use Rattle.refusals.specs.Refusal.{accepted, unknownRate, wrongSize, noSymbol, noneNear, wrongSuperframe}
-use Rattle.soft.specs.Column.{places, symbols, columnOf}
+use Rattle.refusals.specs.Refusal.{accepted, noneNear}
+use Rattle.soft.specs.Column.{places, symbols}
 use Rattle.code.specs.Encoding.{knownRate}
 use Rattle.book.specs.Closing.{Closed, refusedClosing}
 use Rattle.book.specs.Here.{reportLength}
 use Rattle.book.specs.Engine.{nearBy}
 use Rattle.book.specs.EngineLaws.{IsWithin}
-use Rattle.superframe.specs.Superframe.{words, headLength, symbolCount, frameLength, version, lengthHigh, lengthLow, symbolIn, wordIn, hardCosts, answerAt, noneNearIn, statusOf, messagesOf, headOf, Taken, taken, apartOf, takenOf}
+use Rattle.superframe.specs.Superframe.{words, headLength, symbolCount, frameLength, symbolIn, wordIn, hardColumns, answerAt, noneNearIn, statusOf, messagesOf, headOf, Taken, taken, takenOf}
+use Rattle.superframe.specs.Checks.{Headed, headed, apart-head, apart-rate, apart-size, apart-symbol, apart-fits}
 use Rattle.superframe.specs.Hard.{hard-none, hard-some, hard-long, within-near, near-within}
 
 -- ---- the words of a frame
@@ -90,7 +90,7 @@ module _ (frame : List ℕ) (long : length frame ≡ frameLength) (small : allBe
 pub answer-long : (k : ℕ) (frame part : List ℕ) (v : ℕ) → length part ≡ k → length (answerAt k frame part v .message) ≡ k
 unfolding answerAt
 answer-long k frame part v long =
-    hard-long k (columnOf symbols (hardCosts (wordIn frame v))) [] part (replicate reportLength 0) long (length-replicate {A = ℕ} reportLength 0)
+    hard-long k (hardColumns (wordIn frame v)) [] part (replicate reportLength 0) long (length-replicate {A = ℕ} reportLength 0)
 
 -- ---- the status byte
 
@@ -185,41 +185,17 @@ module _ (k : ℕ) (frame messages : List ℕ) (long : length messages ≡ k * w
 -- ---- where the checks pass
 
 pub record Passed (frame messages : List ℕ) (rate : ℕ) : Type 0 where
-  pub long : length frame ≡ frameLength
-  pub version-byte : getD frame 0 0 ≡ version
-  pub high-byte : getD frame 1 0 ≡ lengthHigh
-  pub low-byte : getD frame 2 0 ≡ lengthLow
+  pub right : Headed frame
   pub rate-byte : getD frame 3 0 ≡ rate
   pub known : knownRate rate ≡ true
-  pub room : length messages ≡ rate * words
-  pub small : allBelow symbols (drop headLength frame) ≡ true
+  pub room : length messages ≡ rate * 8
+  pub small : allBelow 16 (drop 4 frame) ≡ true
 
 module _ (frame messages : List ℕ) (rate : ℕ) (P : Passed frame messages rate) where
-  abbrev status : ℕ
-  status = statusOf words (noneNearIn rate frame messages)
-
-  abbrev after : List ℕ
-  after = messagesOf words rate frame messages
-
-  pub head-passed : headOf frame ≡ accepted
-  unfolding headOf
-  head-passed =
-      rw (
-        eq-eqb (length frame) frameLength (P .long),
-        eq-eqb (getD frame 0 0) version (P .version-byte),
-        eq-eqb (getD frame 1 0) lengthHigh (P .high-byte),
-        eq-eqb (getD frame 2 0) lengthLow (P .low-byte),
-      )
-
-  apart-passed : apartOf rate frame messages ≡ taken accepted status after
-  unfolding apartOf
-  apart-passed = rw (P .known, eq-eqb (length messages) (rate * words) (P .room), P .small)
-
-  pub taken-passed : takenOf frame messages ≡ taken accepted status after
-  unfolding takenOf
+  pub taken-passed : takenOf frame messages ≡ taken accepted (statusOf words (noneNearIn rate frame messages)) (messagesOf words rate frame messages)
   taken-passed =
-      ap (λ b. cond b (apartOf (getD frame 3 0) frame messages) (taken (headOf frame) 0 messages)) (eq-eqb (headOf frame) accepted head-passed)
-      ∙ ap (λ r. apartOf r frame messages) (P .rate-byte) ∙ apart-passed
+      apart-fits frame messages (P .right) (ap knownRate (P .rate-byte) ∙ P .known) (P .room ∙ ap (λ r. r * 8) (sym (P .rate-byte))) (P .small)
+      ∙ ap (λ r. taken accepted (statusOf words (noneNearIn r frame messages)) (messagesOf words r frame messages)) (P .rate-byte)
 
   -- bit v of the status, and part v of the buffer
   module _ (v : ℕ) (h : v < words) where
@@ -239,13 +215,13 @@ module _ (frame messages : List ℕ) (rate : ℕ) (P : Passed frame messages rat
     pub word-none-near : nearBy rate [] (wordIn frame v) ≡ none → (isNamed ≡ 1) × (partAfter ≡ block rate v messages)
     unfolding noneNearIn refusedClosing
     word-none-near e =
-        let c = answer-none frame (P .long) (P .small) rate (P .known) (block rate v messages) v h e in
+        let c = answer-none frame (P .right .long) (P .small) rate (P .known) (block rate v messages) v h e in
         (bit-is ∙ ap (λ (d : Closed). bit (eqb (d .number) noneNear)) c, part-is ∙ ap (λ (d : Closed). d .message) c)
 
     pub word-given : {m : List ℕ} → nearBy rate [] (wordIn frame v) ≡ some m → (isNamed ≡ 0) × (partAfter ≡ m)
     unfolding noneNearIn
     word-given e =
-        let c = answer-some frame (P .long) (P .small) rate (P .known) (block rate v messages) v h e in
+        let c = answer-some frame (P .right .long) (P .small) rate (P .known) (block rate v messages) v h e in
         (bit-is ∙ ap (λ n. bit (eqb n noneNear)) (c .0), part-is ∙ c .1)
 
     pub word-within : {m : List ℕ} → IsWithin rate [] (wordIn frame v) m → (isNamed ≡ 0) × (partAfter ≡ m)
@@ -266,51 +242,21 @@ pub record Refused (messages : List ℕ) (t : Taken) : Type 0 where
   pub answers : t ≡ taken number 0 messages
 
 pub passed-or-refused : (frame messages : List ℕ) → Passed frame messages (getD frame 3 0) ⊎ Refused messages (takenOf frame messages)
-unfolding takenOf headOf apartOf
-passed-or-refused frame messages =
-    go (eqb (length frame) frameLength) refl (eqb (getD frame 0 0) version) refl lengths refl (knownRate rate) refl (eqb (length messages) (rate * words)) refl
-    (allBelow symbols (drop headLength frame)) refl
+passed-or-refused frame messages = go (ℕ-discrete (headOf frame) 0)
   where
     rate : ℕ
     rate = getD frame 3 0
 
-    lengths : Bool
-    lengths = eqb (getD frame 1 0) lengthHigh && eqb (getD frame 2 0) lengthLow
+    refused : (n : ℕ) → n ≢ 0 → takenOf frame messages ≡ taken n 0 messages → Refused messages (takenOf frame messages)
+    refused n other e = record { number = n; some-number = other; answers = e }
 
-    good : Taken
-    good = taken accepted (statusOf words (noneNearIn rate frame messages)) (messagesOf words rate frame messages)
+    past : (H : Headed frame) (a : Bool) → knownRate rate ≡ a → Dec (length messages ≡ rate * 8) → (b : Bool) → allBelow 16 (drop 4 frame) ≡ b
+        → Passed frame messages rate ⊎ Refused messages (takenOf frame messages)
+    past H false k d b u = inr (refused 1 (omega arith) (apart-rate frame messages H k))
+    past H true k (no n) b u = inr (refused 2 (omega arith) (apart-size frame messages H k n))
+    past H true k (yes l) false u = inr (refused 3 (omega arith) (apart-symbol frame messages H k l u))
+    past H true k (yes l) true u = inl (record { right = H; rate-byte = refl; known = k; room = l; small = u })
 
-    headBy : Bool → Bool → Bool → ℕ
-    headBy a b c = cond a (cond b (cond c accepted wrongSuperframe) wrongSuperframe) wrongSuperframe
-
-    refused : (n : ℕ) → n ≢ accepted → Refused messages (taken n 0 messages)
-    refused n other = record { number = n; some-number = other; answers = refl }
-
-    go : (a : Bool) → eqb (length frame) frameLength ≡ a → (b : Bool) → eqb (getD frame 0 0) version ≡ b → (c : Bool) → lengths ≡ c
-        → (d : Bool) → knownRate rate ≡ d → (e : Bool) → eqb (length messages) (rate * words) ≡ e
-        → (f : Bool) → allBelow symbols (drop headLength frame) ≡ f
-        → Passed frame messages rate
-        ⊎ Refused messages
-        (cond (eqb (headBy a b c) accepted)
-        (cond d (cond e (cond f good (taken noSymbol 0 messages)) (taken wrongSize 0 messages)) (taken unknownRate 0 messages))
-        (taken (headBy a b c) 0 messages))
-    go false p b q c r d s e t f u = inr (refused wrongSuperframe (omega arith))
-    go true p false q c r d s e t f u = inr (refused wrongSuperframe (omega arith))
-    go true p true q false r d s e t f u = inr (refused wrongSuperframe (omega arith))
-    go true p true q true r false s e t f u = inr (refused unknownRate (omega arith))
-    go true p true q true r true s false t f u = inr (refused wrongSize (omega arith))
-    go true p true q true r true s true t false u = inr (refused noSymbol (omega arith))
-    go true p true q true r true s true t true u =
-        let high-right : eqb (getD frame 1 0) lengthHigh ≡ true = and-left (eqb (getD frame 1 0) lengthHigh) (eqb (getD frame 2 0) lengthLow) r in
-        let low-right : eqb (getD frame 2 0) lengthLow ≡ true = and-right (eqb (getD frame 1 0) lengthHigh) (eqb (getD frame 2 0) lengthLow) r in
-        inl
-        (record {
-          long = eqb-true (length frame) frameLength p;
-          version-byte = eqb-true (getD frame 0 0) version q;
-          high-byte = eqb-true (getD frame 1 0) lengthHigh high-right;
-          low-byte = eqb-true (getD frame 2 0) lengthLow low-right;
-          rate-byte = refl;
-          known = s;
-          room = eqb-true (length messages) (rate * words) t;
-          small = u;
-        })
+    go : Dec (headOf frame ≡ 0) → Passed frame messages rate ⊎ Refused messages (takenOf frame messages)
+    go (no n) = inr (refused (headOf frame) n (apart-head frame messages refl n))
+    go (yes z) = past (headed frame z) (knownRate rate) refl (ℕ-discrete (length messages) (rate * 8)) (allBelow 16 (drop 4 frame)) refl

@@ -1,5 +1,5 @@
 pub mod Superframe
-pub mod Taking
+pub mod Checks
 pub mod Hard
 pub mod Laws
 pub mod Built

@@ -4,13 +4,14 @@
 --   version, lengthHigh, lengthLow   1, and the length of 513 in two bytes, high first
 --   sentWord k messages v     the codeword of message v, where the messages of k symbols stand one after the other
 --   symbolOf sent s           symbol number s of words: place p of word v is number 8p + v
---   frameOf rate sent         the bytes of a superframe: version, length, rate, and the symbols; byteIn: byte i of them
+--   frameOf rate sent         the bytes of a superframe: version, length, rate, and the symbols
 --   builtOf k messages        the superframe of eight messages
 --   buildOf rate messages frame   what building answers: 1 if the rate is unknown, 2 if a buffer has another length, 3 if a symbol is above 15, the frame as
 --                             it was; else 0 and the superframe
 --   symbolIn frame s          symbol number s of a frame
 --   wordIn frame v            the 64 symbols of word v
---   hardCost, hardColumn      cost 0 for the symbol received and 1 for the others; hardCosts word: the columns of a word, one after the other
+--   hardCost, hardColumn      cost 0 for the symbol received and 1 for the others
+--   hardColumns word p        the column of each symbol of a word; beyond its last one zeros, as in a session's table (no answer reads them)
 --   answerAt k frame part v   what decoding word v by these columns answers, without doubt, and what it leaves of its part of the buffer
 --   noneNearIn k frame messages v   word v has none near
 --   statusOf n none           the status byte of the first n words: word v counts 2^v if it is named
@@ -18,7 +19,7 @@
 --   headOf frame              14 if a frame has not 516 bytes, another version or another length, in that order; else 0
 --   Taken, takenOf frame messages   what taking apart answers: that number, 1, 2 or 3, status 0 and the buffer as it was; else 0, the status and the parts
 use mathlib.Core.Bool.{Bool, not, cond, _&&_}
-use mathlib.Core.List.{List, [], _∷_, _++_}
+use mathlib.Core.List.{List, [], _∷_, _++_, map}
 use Prim.Native.Nat.{ℕ, zero, suc, _+_, _*_, _/_, _%_, _^_}
 use lib.Dec.{eqb}
 use lib.ListN.{length, getD, drop, replicate}
@@ -27,7 +28,7 @@ use Rattle.lists.specs.Count.{bit}
 use Rattle.lists.specs.Listed.{listed}
 use Rattle.lists.specs.Words.{allBelow}
 use Rattle.refusals.specs.Refusal.{accepted, unknownRate, wrongSize, noSymbol, noneNear, wrongSuperframe}
-use Rattle.soft.specs.Column.{places, symbols, columnOf}
+use Rattle.soft.specs.Column.{places, symbols}
 use Rattle.family.specs.Calls.{Answered, outcome}
 use Rattle.code.specs.Encoding.{encodeOf, knownRate}
 use Rattle.book.specs.Closing.{Closed}
@@ -66,9 +67,6 @@ symbolOf sent s = getD (getD sent (s % words) []) (s / words) 0
 unfoldable pub frameOf : ℕ → List (List ℕ) → List ℕ
 frameOf rate sent = version ∷ lengthHigh ∷ lengthLow ∷ rate ∷ listed symbolCount (symbolOf sent)
 
-abbrev pub byteIn : ℕ → List (List ℕ) → ℕ → ℕ
-byteIn rate sent i = getD (frameOf rate sent) i 0
-
 unfoldable pub builtOf : ℕ → List ℕ → List ℕ
 builtOf k messages = frameOf k (listed words (sentWord k messages))
 
@@ -93,17 +91,14 @@ hardCost received s = bit (not (eqb received s))
 unfoldable pub hardColumn : ℕ → List ℕ
 hardColumn received = listed symbols (hardCost received)
 
-unfoldable pub hardCosts : List ℕ → List ℕ
-hardCosts word = listed (places * symbols) (λ i. hardCost (getD word (i / symbols) 0) (i % symbols))
+unfoldable pub hardColumns : List ℕ → ℕ → List ℕ
+hardColumns word p = getD (map hardColumn word) p (replicate symbols 0)
 
 unfoldable pub answerAt : ℕ → List ℕ → List ℕ → ℕ → Closed
-answerAt k frame part v = decodeOf k (columnOf symbols (hardCosts (wordIn frame v))) [] part (replicate reportLength 0)
+answerAt k frame part v = decodeOf k (hardColumns (wordIn frame v)) [] part (replicate reportLength 0)
 
 unfoldable pub noneNearIn : ℕ → List ℕ → List ℕ → ℕ → Bool
 noneNearIn k frame messages v = eqb (answerAt k frame (block k v messages) v .number) noneNear
-
-abbrev pub namedBy : ℕ → ℕ → ℕ
-namedBy number weight = cond (eqb number noneNear) weight 0
 
 unfoldable pub statusOf : ℕ → (ℕ → Bool) → ℕ
 statusOf zero none = 0

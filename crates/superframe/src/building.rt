@@ -2,11 +2,11 @@
 ghost use mathlib.Core.Bool.{true};
 ghost use mathlib.Core.Path.{_≡_};
 ghost use Prim.Native.Nat.{_*_, _<_};
-ghost use lib.ListN.{length};
+ghost use lib.ListN.{length, getD};
 ghost use Rattle.lists.specs.Listed.{listed};
 ghost use Rattle.code.specs.Encoding.{knownRate};
 ghost use Rattle.family.specs.Calls.{outcome};
-ghost use Rattle.superframe.specs.Superframe.{words, frameLength, sentWord, byteIn, frameOf, buildOf};
+ghost use Rattle.superframe.specs.Superframe.{words, frameLength, sentWord, frameOf, buildOf};
 use crate::FRAME_BYTES;
 use crate::HEAD_BYTES;
 use crate::LENGTH_HIGH;
@@ -17,11 +17,11 @@ use crate::RATE_AT;
 use crate::VERSION;
 use crate::VERSION_AT;
 use crate::WORDS;
-use candidate::Word;
+use crate::Word;
+use columns::costs::PLACES;
 use encoding::codeword_of;
 use encoding::known_rate;
 use encoding::symbols_only;
-use interpolation::PLACES;
 use lists::copy;
 use refusals::ACCEPTED;
 use refusals::NO_SYMBOL;
@@ -47,7 +47,7 @@ fn codewords(rate: usize, messages: &[u8]) -> [Word; WORDS]
 // Byte i of the frame: one of the head, or place p of word v at 8p + v behind it.
 fn byte_of(rate: u8, sent: &[Word; WORDS], i: usize) -> u8
     requires { ⌜ (length (now sent) ≡ words) × (i < frameLength) ⌝ }
-    ensures { λ r. ⌜ r ≡ byteIn rate (now (sent .entry)) i ⌝ }
+    ensures { λ r. ⌜ r ≡ getD (frameOf rate (now (sent .entry))) i 0 ⌝ }
 {
     if i == VERSION_AT {
         return VERSION;

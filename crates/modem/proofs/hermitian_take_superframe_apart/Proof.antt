@@ -1,4 +1,4 @@
--- `hermitian_take_superframe_apart` hands on what `take_apart` of `superframe` returns and leaves in the buffer, and stores the status.
+-- `hermitian_take_superframe_apart` hands on what `take_apart` of `taking_apart` returns and leaves in the buffer, and stores the status.
 use borrow.Author.Needs.{needs}
 use Rattle.modem.proofs.hermitian_take_superframe_apart.Statement.{statement}
 use Rattle.modem.proofs.hermitian_take_superframe_apart.Tie as tie

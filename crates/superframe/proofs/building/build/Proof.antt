@@ -1,10 +1,12 @@
 -- Each return is the answer that the checks before it lead to.
 use mathlib.Core.Bool.{true}
 use mathlib.Core.Path.{_≡_, sym, _∙_}
+use mathlib.Core.Logic.{inl, inr}
 use native.Mathlib.Omega.{arith}
 use borrow.Author.Tests.{not-true, not-false}
 use Rattle.code.specs.Rates.{known-bounds}
-use Rattle.superframe.proofs.Built.{build-rate, build-messages, build-frame, build-symbol, build-done}
+use Rattle.superframe.specs.Checks.{build-rate, build-size, build-symbol}
+use Rattle.superframe.proofs.Built.{build-done}
 use borrow.Author.Needs.{needs}
 use Rattle.superframe.proofs.building.build.Statement.{statement}
 use Rattle.superframe.proofs.building.build.Tie as tie
@@ -13,22 +15,22 @@ known-rate-requires : tie.Need-known-rate-requires
 known-rate-requires c κs = search needs
 
 returns : tie.Need-returns
-returns c = build-rate _ _ _ (sym (c .before .known-rate .ensures) ∙ not-true _ (c .if1 .taken))
+returns c = sym (build-rate _ _ _ (sym (c .before .known-rate .ensures) ∙ not-true _ (c .if1 .taken)))
 
 mul-if2 : tie.Need-mul-if2
 mul-if2 c = omega (arith, known-bounds _ (sym (c .before .known-rate .ensures) ∙ not-false _ (c .if1 .left)))
 
 returns-2 : tie.Need-returns-2
-returns-2 c = build-messages _ _ _ (sym (c .before .before .known-rate .ensures) ∙ not-false _ (c .before .if1 .left)) (c .if2 .taken)
+returns-2 c = sym (build-size _ _ _ (sym (c .before .before .known-rate .ensures) ∙ not-false _ (c .before .if1 .left)) (inl (c .if2 .taken)))
 
 returns-3 : tie.Need-returns-3
-returns-3 c = build-frame _ _ _ (sym (c .before .before .before .known-rate .ensures) ∙ not-false _ (c .before .before .if1 .left)) (c .before .if2 .left) (c .if3 .taken)
+returns-3 c = sym (build-size _ _ _ (sym (c .before .before .before .known-rate .ensures) ∙ not-false _ (c .before .before .if1 .left)) (inr (c .if3 .taken)))
 
 symbols-only-requires : tie.Need-symbols-only-requires
 symbols-only-requires c κs = search needs
 
 returns-4 : tie.Need-returns-4
-returns-4 c = build-symbol _ _ _ (sym (c .before .before .before .before .before .known-rate .ensures) ∙ not-false _ (c .before .before .before .before .if1 .left)) (c .before .before .before .if2 .left) (c .before .before .if3 .left) (sym (c .before .symbols-only .ensures) ∙ not-true _ (c .if4 .taken))
+returns-4 c = sym (build-symbol _ _ _ (sym (c .before .before .before .before .before .known-rate .ensures) ∙ not-false _ (c .before .before .before .before .if1 .left)) (c .before .before .before .if2 .left) (c .before .before .if3 .left) (sym (c .before .symbols-only .ensures) ∙ not-true _ (c .if4 .taken)))
 
 codewords-requires : tie.Need-codewords-requires
 codewords-requires c κs = (sym (c .before .before .before .before .before .known-rate .ensures) ∙ not-false _ (c .before .before .before .before .if1 .left), c .before .before .before .if2 .left)

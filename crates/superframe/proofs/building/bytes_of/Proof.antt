@@ -3,8 +3,8 @@ use mathlib.Core.Path.{refl}
 use Prim.Native.Nat.{_-_}
 use lib.ListN.{replicate}
 use Rattle.lists.specs.Filled.{Filled, filled-start, filled-turn, filled-end}
-use Rattle.superframe.specs.Superframe.{frameLength, byteIn}
-use Rattle.superframe.proofs.Built.{frame-made}
+use Rattle.superframe.specs.Superframe.{frameLength}
+use Rattle.superframe.proofs.Built.{byteIn, frame-made}
 use borrow.Author.Needs.{needs}
 use Rattle.superframe.proofs.building.bytes_of.Statement.{statement}
 use Rattle.superframe.proofs.building.bytes_of.Tie as tie

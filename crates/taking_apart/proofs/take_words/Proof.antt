@@ -4,11 +4,11 @@ use Prim.Native.Nat.{_-_}
 use native.Mathlib.Omega.{arith}
 use Rattle.lists.specs.Block.{row-end}
 use Rattle.code.specs.Rates.{known-bounds}
 use Rattle.superframe.specs.Superframe.{words}
-use Rattle.superframe.proofs.Apart.{named-most, UpTo, up-to-none, small, out-long, lent-long, word-turn, words-taken}
+use Rattle.taking_apart.proofs.Apart.{named-most, UpTo, up-to-none, small, out-long, lent-long, word-turn, words-taken}
 use borrow.Author.Needs.{needs}
-use Rattle.superframe.proofs.taking.take_words.Statement.{statement}
-use Rattle.superframe.proofs.taking.take_words.Tie as tie
+use Rattle.taking_apart.proofs.take_words.Statement.{statement}
+use Rattle.taking_apart.proofs.take_words.Tie as tie
 
 abbrev Inv-loop : tie.InvT-loop
 Inv-loop rate frame messages₀ status₀ weight₀ v₀ messages status weight v = UpTo rate frame messages₀ v status weight messages

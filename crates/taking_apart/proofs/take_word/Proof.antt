@@ -1,8 +1,8 @@
 -- Decoded by its costs, without doubt.
-use Rattle.superframe.proofs.Apart.{word-askable, word-taken}
+use Rattle.taking_apart.proofs.Apart.{word-askable, word-taken}
 use borrow.Author.Needs.{needs}
-use Rattle.superframe.proofs.taking.take_word.Statement.{statement}
-use Rattle.superframe.proofs.taking.take_word.Tie as tie
+use Rattle.taking_apart.proofs.take_word.Statement.{statement}
+use Rattle.taking_apart.proofs.take_word.Tie as tie
 
 word-in-requires : tie.Need-word-in-requires
 word-in-requires c κs = search needs
@@ -17,13 +17,13 @@ slice-aggregate-decode-2 : tie.Need-slice-aggregate-decode-2
 slice-aggregate-decode-2 c = search needs
 
 decode-requires : tie.Need-decode-requires
-decode-requires c κs = word-askable _ _ (c .before .before .before .before .before .before .before .pre .0) (c .before .before .before .hard-costs .ensures) (c .before .before .before .before .before .before .before .pre .3) (search needs)
+decode-requires c κs = word-askable _ (c .before .before .before .before .before .before .before .pre .0) (c .before .before .before .hard-costs .ensures .0) (c .before .before .before .before .before .before .before .pre .3) (search needs)
 
 same-length : tie.Need-same-length
 same-length c = search needs
 
 returns : tie.Need-returns
-returns c = word-taken _ _ _ _ (c .before .before .before .before .before .before .before .before .word-in .ensures) (c .before .before .before .before .before .before .before .hard-costs .ensures) (c .before .before .before .decode .ensures)
+returns c = word-taken _ _ _ _ _ (c .before .before .before .before .before .before .before .before .word-in .ensures) (c .before .before .before .before .before .before .before .hard-costs .ensures .1) (c .before .before .before .decode .ensures)
 
 pub take-word-spec : {M : Type 1} → statement M
 take-word-spec =

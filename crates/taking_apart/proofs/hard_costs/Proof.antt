@@ -1,16 +1,16 @@
 -- The costs passed are stored.
 use mathlib.Core.Path.{refl}
-use Prim.Native.Nat.{_-_, _*_, _/_, _%_}
-use lib.ListN.{getD, replicate}
+use Prim.Native.Nat.{_-_, _*_}
+use lib.ListN.{replicate}
 use Rattle.lists.specs.Filled.{Filled, filled-start, filled-turn, filled-end}
 use Rattle.soft.specs.Column.{places, symbols}
-use Rattle.superframe.specs.Superframe.{hardCost, hardCosts}
+use Rattle.taking_apart.proofs.Apart.{costIn, hard-columns}
 use borrow.Author.Needs.{needs}
-use Rattle.superframe.proofs.taking.hard_costs.Statement.{statement}
-use Rattle.superframe.proofs.taking.hard_costs.Tie as tie
+use Rattle.taking_apart.proofs.hard_costs.Statement.{statement}
+use Rattle.taking_apart.proofs.hard_costs.Tie as tie
 
 abbrev Inv-loop : tie.InvT-loop
-Inv-loop word out₀ i₀ out i = Filled (replicate (places * symbols) 0) (λ j. hardCost (getD word (j / symbols) 0) (j % symbols)) i out
+Inv-loop word out₀ i₀ out i = Filled (replicate (places * symbols) 0) (costIn word) i out
 
 abbrev μ-loop : tie.MeasureT-loop
 μ-loop word out₀ i₀ out i = places * symbols - i
@@ -40,8 +40,7 @@ loop-again : tie.Need-loop-again Inv-loop μ-loop
 loop-again c = filled-turn 0 (c .before .before .loop .inv) _ (search needs) (c .hard-cost .ensures)
 
 returns : tie.Need-returns Inv-loop μ-loop
-unfolding hardCosts
-returns c = filled-end 0 (c .before .loop .inv) (places * symbols) refl (c .loop-test .left)
+returns c = hard-columns _ _ (search needs) (filled-end 0 (c .before .loop .inv) (places * symbols) refl (c .loop-test .left))
 
 pub hard-costs-spec : {M : Type 1} → statement M
 hard-costs-spec =

@@ -5,10 +5,10 @@ use native.Mathlib.Omega.{arith}
 use lib.ListN.{replicate}
 use Rattle.lists.specs.Filled.{Filled, filled-start, filled-turn, filled-end}
 use Rattle.soft.specs.Column.{places}
 use Rattle.superframe.specs.Superframe.{words, symbolIn, wordIn}
 use borrow.Author.Needs.{needs}
-use Rattle.superframe.proofs.taking.word_in.Statement.{statement}
-use Rattle.superframe.proofs.taking.word_in.Tie as tie
+use Rattle.taking_apart.proofs.word_in.Statement.{statement}
+use Rattle.taking_apart.proofs.word_in.Tie as tie
 
 abbrev Inv-loop : tie.InvT-loop
 Inv-loop frame v out₀ place₀ out place = Filled (replicate places 0) (λ p. symbolIn frame (words * p + v)) place out

@@ -1,8 +1,8 @@
 -- The symbol received costs nothing, any other 1.
 use borrow.Author.Tests.{eq-eqb, ne-eqb}
 use borrow.Author.Needs.{needs}
-use Rattle.superframe.proofs.taking.hard_cost.Statement.{statement}
-use Rattle.superframe.proofs.taking.hard_cost.Tie as tie
+use Rattle.taking_apart.proofs.hard_cost.Statement.{statement}
+use Rattle.taking_apart.proofs.hard_cost.Tie as tie
 
 returns : tie.Need-returns
 returns c = rw (eq-eqb _ _ (c .if1 .taken))

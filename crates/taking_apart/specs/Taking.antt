@@ -6,9 +6,9 @@
 use mathlib.Core.Path.{_≡_}
 use mathlib.Core.List.{List}
 use Prim.Native.Nat.{ℕ}
 use Rattle.superframe.specs.Superframe as Superframe
 use Rattle.superframe.specs.Superframe.{words, answerAt, noneNearIn, statusOf, messagesOf}
-use Rattle.superframe.specs.declared.taking.Taken.{Taken}
+use Rattle.taking_apart.specs.declared.Taken.{Taken}
 
 pub record TakesWord (k : ℕ) (frame : List ℕ) (v : ℕ) (before : List ℕ) (number : ℕ) (after : List ℕ) : Type 0 where
   pub answers : number ≡ answerAt k frame before v .number

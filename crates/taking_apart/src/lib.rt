@@ -1,35 +1,38 @@
-// Taking a superframe apart: each word by its own columns, and each message into its own part of one buffer.
-ghost use mathlib.Core.Bool.{true};
+// Taking a superframe apart: each word by its own columns, and each message into its own part of one buffer. It knows of no tree and no session.
+ghost use mathlib.Core.Bool.{true, cond};
 ghost use mathlib.Core.Path.{_≡_};
 ghost use Prim.Native.Nat.{_*_, _<_};
+ghost use lib.Dec.{eqb};
 ghost use lib.ListN.{length};
+ghost use Rattle.refusals.specs.Refusal.{noneNear};
+ghost use Rattle.soft.specs.Column.{places, symbols, columnOf};
 ghost use Rattle.code.specs.Encoding.{knownRate};
-ghost use Rattle.superframe.specs.Superframe.{words, frameLength, wordIn, hardCost, hardCosts, namedBy, headOf, takenOf};
-ghost use Rattle.superframe.specs.Taking.{TakesWord, TakesWords, takenBy};
-use crate::FRAME_BYTES;
-use crate::HEAD_BYTES;
-use crate::LENGTH_HIGH;
-use crate::LENGTH_HIGH_AT;
-use crate::LENGTH_LOW;
-use crate::LENGTH_LOW_AT;
-use crate::RATE_AT;
-use crate::VERSION;
-use crate::VERSION_AT;
-use crate::WORDS;
-use candidate::Word;
+ghost use Rattle.superframe.specs.Superframe.{words, frameLength, wordIn, hardCost, hardColumns, headOf, takenOf};
+ghost use Rattle.taking_apart.specs.Taking.{TakesWord, TakesWords, takenBy};
 use columns::costs::COSTS;
+use columns::costs::PLACES;
 use columns::costs::SYMBOLS;
 use decoding::decode;
 use doubt::MOST_DOUBT;
 use encoding::known_rate;
 use encoding::symbols_only;
-use interpolation::PLACES;
 use refusals::ACCEPTED;
 use refusals::NO_SYMBOL;
 use refusals::NONE_NEAR;
 use refusals::UNKNOWN_RATE;
 use refusals::WRONG_SIZE;
 use refusals::WRONG_SUPERFRAME;
+use superframe::FRAME_BYTES;
+use superframe::HEAD_BYTES;
+use superframe::LENGTH_HIGH;
+use superframe::LENGTH_HIGH_AT;
+use superframe::LENGTH_LOW;
+use superframe::LENGTH_LOW_AT;
+use superframe::RATE_AT;
+use superframe::VERSION;
+use superframe::VERSION_AT;
+use superframe::WORDS;
+use superframe::Word;
 
 // What taking apart answers: 0 or the refusal's number, and which words have no codeword near, word v as 2^v.
 pub struct Taken {
@@ -63,7 +66,7 @@ fn hard_cost(received: u8, symbol: usize) -> u16
 
 // The columns of a word, one after the other.
 fn hard_costs(word: Word) -> [u16; COSTS]
-    ensures { λ r. ⌜ r ≡ hardCosts word ⌝ }
+    ensures { λ r. ⌜ (length r ≡ places * symbols) × (columnOf symbols r ≡ hardColumns word) ⌝ }
 {
     let mut out = [0u16; COSTS];
     let mut i = 0;
@@ -86,7 +89,7 @@ fn take_word(rate: usize, frame: &[u8], v: usize, part: &mut [u8]) -> u8
 
 // What a word adds to the status, if it is named.
 fn named(number: u8, weight: u16) -> u16
-    ensures { λ r. ⌜ r ≡ namedBy number weight ⌝ }
+    ensures { λ r. ⌜ r ≡ cond (eqb number noneNear) weight 0 ⌝ }
 {
     if number != NONE_NEAR {
         return 0;

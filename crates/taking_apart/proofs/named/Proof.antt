@@ -1,8 +1,8 @@
 -- A word with none near counts its weight.
 use borrow.Author.Tests.{eq-eqb, ne-eqb}
 use borrow.Author.Needs.{needs}
-use Rattle.superframe.proofs.taking.named.Statement.{statement}
-use Rattle.superframe.proofs.taking.named.Tie as tie
+use Rattle.taking_apart.proofs.named.Statement.{statement}
+use Rattle.taking_apart.proofs.named.Tie as tie
 
 returns : tie.Need-returns
 returns c = rw (ne-eqb _ _ (c .if1 .taken))
