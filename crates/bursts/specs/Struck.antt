@@ -9,7 +9,7 @@
 --   Relied messages start burst out r after   document 02: 'A user at rate 39 may rely on this: if at most 48 consecutive symbols are altered, still each 0
 --                          to 15, all eight messages come back', with the 312 symbols of eight messages; relied: it holds of what throughOf answers
 use mathlib.Core.Bool.{true, cond}
-use mathlib.Core.Path.{_≡_, refl, sym, ap, _∙_, subst}
+use mathlib.Core.Path.{_≡_, sym, ap, _∙_, subst}
 use mathlib.Core.List.{List, _++_}
 use mathlib.Core.Logic.{_⊎_, inl, inr}
 use Prim.Native.Nat.{ℕ, _+_, _-_, _*_, _<_, _≤_}
