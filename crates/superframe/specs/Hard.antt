@@ -1,35 +1,31 @@
 -- The columns of a word that was received, cost 0 for the symbol received and 1 for the others, and what decoding by them without doubt answers.
 --
---   hard-length, hard-own, hard-other   the column of one symbol: how long it is, what the symbol costs, and what another does
+--   hard-own, hard-other   the column of one symbol: what the symbol costs, and what another does
 --   hard-column, hard-beyond   the columns of a word, place by place, and beyond its last one
 --   hard-open, hard-blank  none of them is blank
---   hard-best, hard-word   the best symbol is the one received, so the word of best symbols is the word received
+--   hard-word              the word of best symbols is the word received
 --   hard-answer            so the answer is the codeword within T of the word, if there is one
 --   hard-none, hard-some   decoding says 'none near' and leaves both buffers as they were, or gives the message
 --   hard-long              what it leaves in a part of k symbols has k symbols, whatever the columns
 --   none-blank, fit-none   without blank places all places count, and the empty list is fit
 --   within-near, near-within   the codeword within T, if there is one: whichever is within T is it, and it is within T
-use mathlib.Core.Bool.{Bool, true, false, not, _&&_}
+use mathlib.Core.Bool.{true, not, _&&_}
 use mathlib.Core.Path.{_≡_, refl, sym, ap, _∙_, subst}
 use mathlib.Core.List.{List, [], _∷_}
 use mathlib.Core.Logic.{_≢_}
 use mathlib.Core.Option.{some, none}
 use Prim.Native.Nat.{ℕ, zero, suc, _-_, _<_, _≤_}
-use native.Mathlib.Decide.{ℕ-discrete}
 use native.Mathlib.Omega.{arith}
 use lib.ListN.{length, getD, replicate}
-use borrow.Author.Tests.{eq-eqb, ne-eqb, lt-ltb}
-use Rattle.lists.specs.Count.{bit}
+use borrow.Author.Tests.{lt-ltb}
 use Rattle.lists.specs.Distinct.{among, below}
 use Rattle.lists.specs.Every.{true-T, T-true}
-use Rattle.lists.specs.Listed.{listed-length, listed-at, listed-by}
+use Rattle.lists.specs.Listed.{listed-by}
 use Rattle.lists.specs.Words.{allBelow, allBelow-at}
 use Rattle.lists.specs.Answers.{Answers, Found, free, answers-some}
 use Rattle.refusals.specs.Refusal.{accepted, noneNear}
 use Rattle.soft.specs.Column.{places, symbols, costOf, bestOf, isBlank}
-use Rattle.soft.specs.ColumnLaws.{best-below, best-least}
 use Rattle.soft.specs.Blank.{openAt}
-use Rattle.soft.specs.BlankLaws.{blank-same}
 use Rattle.soft.specs.TestWord.{bestAt, bestWord, testWords}
 use Rattle.soft.specs.TestWordLaws.{testWords-none}
 use Rattle.family.specs.Member.{m16}
@@ -48,53 +44,16 @@ use Rattle.book.specs.Here.{width, fitPlaces, reportLength, decodeOf}
 use Rattle.book.specs.Engine.{unblankedBy, nearBy}
 use Rattle.book.specs.EngineLaws.{IsWithin, within-found, found-within, unblanked-repairs}
 use Rattle.book.specs.Single.{BlankAt, same-number, answer-one}
-use Rattle.superframe.specs.Superframe.{hardCost, hardColumn, hardColumns}
+use Rattle.soft.specs.Hard as Hard
+use Rattle.superframe.specs.Superframe.{hardColumn, hardColumns}
 
 -- ---- one column
 
-pub hard-length : (s : ℕ) → length (hardColumn s) ≡ symbols
-unfolding hardColumn
-hard-length s = listed-length symbols (hardCost s)
-
 pub hard-own : (s : ℕ) → s < symbols → costOf (hardColumn s) s ≡ 0
-unfolding hardColumn
-hard-own s l = listed-at symbols s (hardCost s) 0 l ∙ ap (λ b. bit (not b)) (eq-eqb s s refl)
+hard-own s l = Hard.hard-own symbols s l
 
 pub hard-other : (s t : ℕ) → t < symbols → s ≢ t → costOf (hardColumn s) t ≡ 1
-unfolding hardColumn
-hard-other s t l d = listed-at symbols t (hardCost s) 0 l ∙ ap (λ b. bit (not b)) (ne-eqb s t d)
-
-pub hard-best : (s : ℕ) → s < symbols → bestOf (hardColumn s) ≡ s
-hard-best s l = go (ℕ-discrete (bestOf (hardColumn s)) s)
-  where
-    two : 1 < length (hardColumn s)
-    two = omega (arith, hard-length s)
-
-    go : Dec (bestOf (hardColumn s) ≡ s) → bestOf (hardColumn s) ≡ s
-    go (yes e) = e
-    go (no d) =
-        absurd
-        (omega (
-          arith,
-          hard-own s l,
-          hard-other s (bestOf (hardColumn s)) (omega (arith, best-below (hardColumn s) two, hard-length s)) (λ e. d (sym e)),
-          best-least (hardColumn s) two s (omega (arith, hard-length s)),
-        ))
-
--- the symbols s and 1 − s differ
-hard-open-column : (s : ℕ) → s < symbols → isBlank (hardColumn s) ≡ false
-hard-open-column s l = go (isBlank (hardColumn s)) refl
-  where
-    go : (b : Bool) → isBlank (hardColumn s) ≡ b → b ≡ false
-    go true e =
-        absurd
-        (omega (
-          arith,
-          blank-same (hardColumn s) .0 e s (1 - s) (omega (arith, hard-length s)) (omega (arith, hard-length s)),
-          hard-own s l,
-          hard-other s (1 - s) (omega arith) (omega arith),
-        ))
-    go false e = refl
+hard-other s t l d = Hard.hard-other symbols s t l d
 
 -- ---- the columns of a word
 
@@ -111,7 +70,7 @@ hard-beyond (s ∷ word) zero h = absurd (omega arith)
 hard-beyond (s ∷ word) (suc p) h = hard-beyond word p (omega arith)
 
 pub hard-open : (word : List ℕ) (p : ℕ) → p < length word → getD word p 0 < symbols → openAt (hardColumns word) p ≡ true
-hard-open word p h l = ap (λ (c : List ℕ). not (isBlank c)) (hard-column word p h) ∙ ap not (hard-open-column (getD word p 0) l)
+hard-open word p h l = ap (λ (c : List ℕ). not (isBlank c)) (hard-column word p h) ∙ ap not (Hard.hard-open symbols (getD word p 0) (omega arith) l)
 
 -- ---- no place is blank
 
@@ -144,7 +103,7 @@ module _ (word : List ℕ) (long : length word ≡ places) (small : allBelow sym
   hard-word =
       sym
       (listed-by 0 places word (bestAt columns) long
-      (λ p h. sym (ap bestOf (hard-column word p (omega arith)) ∙ hard-best (getD word p 0) (symbol-at p h))))
+      (λ p h. sym (ap bestOf (hard-column word p (omega arith)) ∙ Hard.hard-best symbols (getD word p 0) (omega arith) (symbol-at p h))))
 
   few-blank : (k : ℕ) → blanksIn columns ≤ blankLimit k
   few-blank k = omega (arith, same-number [] fit-none columns hard-blank)

@@ -10,7 +10,7 @@
 --                             it was; else 0 and the superframe
 --   symbolIn frame s          symbol number s of a frame
 --   wordIn frame v            the 64 symbols of word v
---   hardCost, hardColumn      cost 0 for the symbol received and 1 for the others
+--   hardColumn                cost 0 for the symbol received and 1 for the others (`soft` Hard)
 --   hardColumns word p        the column of each symbol of a word; beyond its last one zeros, as in a session's table (no answer reads them)
 --   answerAt k frame part v   what decoding word v by these columns answers, without doubt, and what it leaves of its part of the buffer
 --   noneNearIn k frame messages v   word v has none near
@@ -18,17 +18,17 @@
 --   messagesOf n k frame messages   the parts of the first n words, one after the other
 --   headOf frame              14 if a frame has not 516 bytes, another version or another length, in that order; else 0
 --   Taken, takenOf frame messages   what taking apart answers: that number, 1, 2 or 3, status 0 and the buffer as it was; else 0, the status and the parts
-use mathlib.Core.Bool.{Bool, not, cond, _&&_}
+use mathlib.Core.Bool.{Bool, cond, _&&_}
 use mathlib.Core.List.{List, [], _∷_, _++_, map}
 use Prim.Native.Nat.{ℕ, zero, suc, _+_, _*_, _/_, _%_, _^_}
 use lib.Dec.{eqb}
 use lib.ListN.{length, getD, drop, replicate}
 use Rattle.lists.specs.Block.{block}
-use Rattle.lists.specs.Count.{bit}
 use Rattle.lists.specs.Listed.{listed}
 use Rattle.lists.specs.Words.{allBelow}
 use Rattle.refusals.specs.Refusal.{accepted, unknownRate, wrongSize, noSymbol, noneNear, wrongSuperframe}
 use Rattle.soft.specs.Column.{places, symbols}
+use Rattle.soft.specs.Hard as Hard
 use Rattle.family.specs.Calls.{Answered, outcome}
 use Rattle.code.specs.Encoding.{encodeOf, knownRate}
 use Rattle.book.specs.Closing.{Closed}
@@ -85,11 +85,8 @@ symbolIn frame s = getD frame (headLength + s) 0
 unfoldable pub wordIn : List ℕ → ℕ → List ℕ
 wordIn frame v = listed places (λ p. symbolIn frame (words * p + v))
 
-abbrev pub hardCost : ℕ → ℕ → ℕ
-hardCost received s = bit (not (eqb received s))
-
-unfoldable pub hardColumn : ℕ → List ℕ
-hardColumn received = listed symbols (hardCost received)
+abbrev pub hardColumn : ℕ → List ℕ
+hardColumn received = Hard.hardColumn symbols received
 
 unfoldable pub hardColumns : List ℕ → ℕ → List ℕ
 hardColumns word p = getD (map hardColumn word) p (replicate symbols 0)

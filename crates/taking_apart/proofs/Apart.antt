@@ -23,7 +23,8 @@ use Rattle.book.specs.Closing.{Closed}
 use Rattle.book.specs.Table.{closed}
 use Rattle.book.specs.Here.{reportLength, decodeOf}
 use Rattle.decoding.specs.Decoding.{Decodable}
-use Rattle.superframe.specs.Superframe.{words, headLength, wordIn, hardCost, hardColumn, hardColumns, answerAt, noneNearIn, statusOf, messagesOf, Taken, taken, takenOf}
+use Rattle.soft.specs.Hard.{hardCost, hardColumn}
+use Rattle.superframe.specs.Superframe.{words, headLength, wordIn, hardColumns, answerAt, noneNearIn, statusOf, messagesOf, Taken, taken, takenOf}
 use Rattle.superframe.specs.Checks.{Headed, apart-fits}
 use Rattle.superframe.specs.Hard.{hard-column, hard-beyond}
 use Rattle.taking_apart.specs.declared.Taken as Declared
