@@ -1,2 +1,4 @@
 pub mod Agreement
 pub mod Both
+pub mod Faded
+pub mod Frame

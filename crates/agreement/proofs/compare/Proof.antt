@@ -17,7 +17,7 @@ same-length-2 : tie.Need-same-length-2
 same-length-2 c = search needs
 
 returns : tie.Need-returns
-returns c = both-agree _ _ _ _ _ _ _ _ _ _ (c .before .before .before .before .before .eliminate .ensures) (c .nearest .ensures)
+returns c = both-agree _ _ _ _ _ _ _ _ _ (c .before .before .before .before .before .eliminate .ensures) (c .nearest .ensures)
 
 pub compare-spec : {M : Type 1} → statement M
 compare-spec =
