@@ -1,8 +1,10 @@
 // Engine and tree on words of the program's own, at every rate: with no blank place, with a third and two thirds of those that may be and
 // with as many, and each with no wrong symbol, with T of them, with T + 1 and with all places wrong. A line is the rate and a sign for each
 // word: `+` where both have the same codeword, `-` where both have none, `!` where they differ.
+use agreement::compare;
 use branches::branch::Branch;
-use branches::branch::branch_of;
+use branches::branch::branch_in;
+use branches::branch::faded_costs;
 use columns::costs::PLACES;
 use columns::costs::byte_at;
 use encoding::LEAST_RATE;
@@ -127,11 +129,14 @@ fn sign(number: u8, codeword: [u8; PLACES], beside: Branch) -> u8 {
     }
 }
 
-fn compare(rate: usize, word: [u8; PLACES], blanks: &[u8]) {
+// Both calls by name; the tree's columns are the word's, blank at the blank places.
+fn compare_word(rate: usize, word: [u8; PLACES], blanks: &[u8]) {
     let mut codeword = [LENT; PLACES];
     let mut q = [LENT; Q_BYTES];
-    let number = engine::eliminate(rate, &word, blanks, &mut codeword, &mut q);
-    write_byte(sign(number, codeword, branch_of(rate, &word, blanks)));
+    let costs = faded_costs(&word, blanks);
+    let both = compare(rate, &costs, &word, blanks, &mut codeword, &mut q);
+    let found = both.found;
+    write_byte(sign(both.number, codeword, branch_in(found)));
 }
 
 // How many places are wrong, where so many more may be blank than are: T is half of that.
@@ -151,7 +156,7 @@ fn compare_turn(rate: usize, turn: usize, blanks: &[u8], wrong: usize)
 {
     let from = (rate * 16 + turn) as u64;
     let word = damaged(sent(rate, from), blanks, wrong, from + 1000);
-    compare(rate, word, blanks);
+    compare_word(rate, word, blanks);
 }
 
 // How many places are blank, of so many that may be.
