@@ -15,10 +15,9 @@ use Rattle.soft.specs.Column.{symbols, columnOf}
 use Rattle.soft.specs.Doubt.{mostDoubt}
 use Rattle.soft.specs.TestWord.{bestAt}
 use Rattle.near.specs.Tree.{places-nil}
-use Rattle.answers.specs.declared.Found.{Found}
 use Rattle.chase.specs.Call.{Asked, nearestOf}
 use Rattle.book.specs.Here.{places}
-use Rattle.book.specs.Engine.{Eliminated, eliminated, engineOf, unblankedBy}
+use Rattle.book.specs.Engine.{eliminated, engineOf, unblankedBy}
 use Rattle.book.specs.EngineLaws.{EnginePassed}
 use Rattle.book.specs.Single.{BlankAt, same-number}
 use Rattle.agreement.specs.Agreement.{Agrees, engine-nearest}

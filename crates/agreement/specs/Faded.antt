@@ -22,7 +22,7 @@ use Rattle.lists.specs.Count.{bit}
 use Rattle.lists.specs.Every.{true-T}
 use Rattle.lists.specs.Listed.{listed, listed-length, listed-at}
 use Rattle.lists.specs.Words.{allBelow, allBelow-at}
-use Rattle.soft.specs.Column.{symbols, costOf, columnOf, bestOf, isBlank}
+use Rattle.soft.specs.Column.{symbols, costOf, columnOf, isBlank}
 use Rattle.soft.specs.ColumnLaws.{best-below, best-least, column-length, cost-column}
 use Rattle.soft.specs.BlankLaws.{blank-same}
 use Rattle.soft.specs.TestWord.{bestAt}

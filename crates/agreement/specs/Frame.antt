@@ -9,31 +9,29 @@
 use mathlib.Core.Bool.{Bool, true, false, not, cond, _&&_}
 use mathlib.Core.Path.{_≡_, refl, sym, ap, ap₂, _∙_, subst}
 use mathlib.Core.List.{List, [], _∷_, _++_, append-nil, List·Memᴰ, List·Memᴰ·head, List·Memᴰ·tail}
-use mathlib.Core.Logic.{_⊎_, inl, inr}
+use mathlib.Core.Logic.{inl, inr}
 use mathlib.Core.Option.{Option, some, none}
 use Prim.Native.Nat.{ℕ, zero, suc, _+_, _<_, _≤_}
 use native.Mathlib.Omega.{arith}
 use lib.Dec.{T, eqb, ltb, leb}
 use lib.ListN.{length, getD, take}
 use borrow.Author.Tests.{lt-ltb, le-leb}
-use Rattle.lists.specs.Count.{bit, kept, kept-nil, kept-suc, kept-length, kept-passes, kept-member}
+use Rattle.lists.specs.Count.{bit, kept, kept-nil, kept-suc, kept-passes, kept-member}
 use Rattle.lists.specs.Distinct.{among, among-member, not-among, below, and-left, and-right, and-both}
 use Rattle.lists.specs.Every.{true-T, T-true}
 use Rattle.lists.specs.Member.{member-at}
 use Rattle.lists.specs.Words.{allBelow, allBelow-from}
-use Rattle.refusals.specs.Refusal.{accepted, noneNear}
-use Rattle.family.specs.Member.{m16}
+use Rattle.refusals.specs.Refusal.{accepted}
 use Rattle.code.specs.Encoding.{knownRate}
 use Rattle.soft.specs.Column.{symbols, columnOf, isBlank}
 use Rattle.soft.specs.ColumnLaws.{best-below, second-below, column-length}
-use Rattle.soft.specs.Blank.{blankAt, openAt, blanksOf}
-use Rattle.soft.specs.TestWord.{Offered, bestAt, secondAt, testWords}
+use Rattle.soft.specs.Blank.{blankAt}
+use Rattle.soft.specs.TestWord.{Offered, testWords}
 use Rattle.soft.specs.TestWordLaws.{testWords-length, testWords-symbol}
-use Rattle.near.specs.Near.{isSome, codewordNear}
+use Rattle.near.specs.Near.{isSome}
 use Rattle.near.specs.Near as Near
-use Rattle.near.specs.Here.{blankLimit, blanksIn, reachIn, testsNear}
+use Rattle.near.specs.Here.{blankLimit, blanksIn, testsNear}
 use Rattle.interpolant.specs.LeastQ.{readingLength}
-use Rattle.answers.specs.declared.Found.{Found}
 use Rattle.chase.specs.Call.{Asked, nearestOf}
 use Rattle.chase.specs.Laws.{nearest-call}
 use Rattle.book.specs.Opening as Opening

@@ -2,13 +2,14 @@
 --
 --   noCodeword n          the number n, and the bytes of a lent buffer as it was
 --   branchIn f            9 and the buffer as it was, where nothing is found; else 0 and the codeword found
---   branchOf rate word blanks   so it is with what the tree finds for the word with these blank places: its columns are blank there, and the word's symbols
---                         are their best ones (agreement Faded)
+--   aloneOf rate word blanks    what the tree finds for the word alone with these blank places: its columns are blank there, and the word's symbols are their
+--                         best ones (agreement Faded)
+--   branchOf rate word blanks   the same in the form of a call
 --   besideOf n rate word blanks   the same beside the engine's number n, where its checks passed; else 255, and the buffer as it was
 --   beside-passed, beside-refused   its two cases
 --   branch-agrees         'for every rate, test word and list of blank places': where the checks pass, number and codeword are the engine's
-use mathlib.Core.Bool.{true, cond, _||_}
-use mathlib.Core.Path.{_≡_, refl, sym, ap, _∙_}
+use mathlib.Core.Bool.{cond, _||_}
+use mathlib.Core.Path.{_≡_, refl, sym, _∙_}
 use mathlib.Core.List.{List}
 use mathlib.Core.Logic.{_≢_, _⊎_, inl, inr}
 use Prim.Native.Nat.{ℕ}
@@ -44,8 +45,11 @@ branchBy (Near t d) codeword = record { number = accepted; codeword = codeword }
 unfoldable pub branchIn : Found → Branch
 branchIn f = branchBy (f .answer) (f .codeword)
 
+abbrev pub aloneOf : ℕ → List ℕ → List ℕ → Found
+aloneOf rate word blanks = nearestOf rate (fadedCosts blanks word) undoubted 0
+
 unfoldable pub branchOf : ℕ → List ℕ → List ℕ → Branch
-branchOf rate word blanks = branchIn (nearestOf rate (fadedCosts blanks word) undoubted 0)
+branchOf rate word blanks = branchIn (aloneOf rate word blanks)
 
 unfoldable pub besideOf : ℕ → ℕ → List ℕ → List ℕ → Branch
 besideOf n rate word blanks = cond (eqb n accepted || eqb n noneNear) (branchOf rate word blanks) (noCodeword 255)
@@ -64,17 +68,14 @@ pub branch-agrees : (rate : ℕ) (word blanks q : List ℕ) → EnginePassed rat
     → (engineOf rate word blanks lentBuffer q .number ≡ branchOf rate word blanks .number)
     × (engineOf rate word blanks lentBuffer q .codeword ≡ branchOf rate word blanks .codeword)
 unfolding branchOf branchIn branchBy noCodeword
-branch-agrees rate word blanks q P = go (found .answer) refl
+branch-agrees rate word blanks q P = go (aloneOf rate word blanks .answer) refl
   where
-    found : Found
-    found = nearestOf rate (fadedCosts blanks word) undoubted 0
-
-    A : Agrees (engineOf rate word blanks lentBuffer q) (nearestOf rate (fadedCosts blanks word) undoubted 0)
+    A : Agrees (engineOf rate word blanks lentBuffer q) (aloneOf rate word blanks)
     A = engine-tree rate word blanks lentBuffer q P
 
-    go : (a : Answer) → nearestOf rate (fadedCosts blanks word) undoubted 0 .answer ≡ a
-        → (engineOf rate word blanks lentBuffer q .number ≡ branchBy a (nearestOf rate (fadedCosts blanks word) undoubted 0 .codeword) .number)
-        × (engineOf rate word blanks lentBuffer q .codeword ≡ branchBy a (nearestOf rate (fadedCosts blanks word) undoubted 0 .codeword) .codeword)
+    go : (a : Answer) → aloneOf rate word blanks .answer ≡ a
+        → (engineOf rate word blanks lentBuffer q .number ≡ branchBy a (aloneOf rate word blanks .codeword) .number)
+        × (engineOf rate word blanks lentBuffer q .codeword ≡ branchBy a (aloneOf rate word blanks .codeword) .codeword)
     go NoneNear e = let n = A .nobody .1 e in (n, engine-nobody rate word blanks lentBuffer q P n .1)
     go (Near t d) e = let n = A .somebody .1 (λ z. other (sym e ∙ z)) in (n, A .same n)
       where

@@ -1,7 +1,6 @@
 -- The costs of the places passed stand.
 use mathlib.Core.Path.{_≡_, _∙_}
 use Prim.Native.Nat.{_≤_, _-_}
-use native.Mathlib.Omega.{arith}
 use Rattle.branches.proofs.Fading.{fadingCosts, fading-start, fading-turn, fading-end}
 use Rattle.book.specs.Here.{places}
 use borrow.Author.Needs.{needs}
