@@ -16,7 +16,7 @@ use Rattle.hermitian.specs.Division.{quotient}
 use Rattle.rows.specs.Rows.{xOrder, coef, coef-at}
 use Rattle.division.specs.Dividing.{Divided}
 use Rattle.values.specs.Holds.{Holds}
-use Rattle.interpolation.specs.Parts.{valuesOf, firstOf, secondOf, first-is, second-is}
+use Rattle.parts.specs.Parts.{valuesOf, firstOf, secondOf, first-is, second-is}
 use Rattle.code.specs.Encoding.{encodeOf, mostRate}
 use Rattle.soft.specs.Column.{places, symbols}
 use Rattle.near.specs.Here.{mOf, Workable}

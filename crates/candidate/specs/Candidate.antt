@@ -26,7 +26,7 @@ use Rattle.near.specs.Tree.{without}
 use Rattle.near.specs.Governing.{Only}
 use Rattle.near.specs.Held as Family
 use Rattle.values.specs.Holds.{Holds}
-use Rattle.interpolation.specs.Parts.{valuesOf}
+use Rattle.parts.specs.Parts.{valuesOf}
 use Rattle.family.specs.Member.{m16}
 use Rattle.family.specs.Nodes.{Node, ThroughNodes}
 use Rattle.candidate.specs.declared.Candidate.{Candidate}

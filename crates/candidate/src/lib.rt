@@ -17,9 +17,9 @@ use division::dividing::divide;
 use encoding::MOST_RATE;
 use encoding::codeword_of;
 use encoding::order;
-use interpolation::PLACES;
-use interpolation::parts::with_z;
-use interpolation::parts::without_z;
+use parts::orders::with_z;
+use parts::orders::without_z;
+use planes::PLACES;
 use planes::rows::Row;
 use totals::total::differing_in;
 

@@ -6,7 +6,7 @@ ghost use Rattle.soft.specs.Column.{places};
 ghost use Rattle.near.specs.Here.{mOf, blankLimit, reachOf, limitOf};
 ghost use Rattle.candidate.specs.Ranged.{Ranged};
 use encoding::order;
-use interpolation::PLACES;
+use planes::PLACES;
 
 // The genus of the curve: so many orders are absent.
 const GENUS: usize = 6;

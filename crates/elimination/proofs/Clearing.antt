@@ -16,7 +16,7 @@ use Rattle.planes.specs.Arrays.{symbolAt, symbol-lt, element-symbol}
 use Rattle.planes.specs.Rows.{valueAt, wholeOf, value-whole, MultiplesOf, AddedBy}
 use Rattle.values.specs.Eliminating as Values
 use Rattle.values.specs.Eliminating.{reduced-pass, reduced-clear}
-use Rattle.interpolation.specs.Parts.{valuesOf}
+use Rattle.parts.specs.Parts.{valuesOf}
 use Rattle.elimination.specs.declared.reducing.Reduced.{Reduced}
 use Rattle.elimination.specs.Reducing.{Stuck, Cleared, kept, taken-off, pivotValues, Reduces}
 open Field K16 using (_⊕_, _⊗_, 𝟘, inv)

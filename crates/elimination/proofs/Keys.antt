@@ -19,7 +19,7 @@ use Rattle.planes.specs.Elements as Elements
 use Rattle.planes.specs.Rows.{valueAt, partOf}
 use Rattle.values.specs.Eliminating as Values
 use Rattle.values.specs.Eliminating.{pivots-start, pivots-absent, pivots-stored, pivots-none, reduced-least}
-use Rattle.interpolation.specs.Parts.{valuesOf}
+use Rattle.parts.specs.Parts.{valuesOf}
 use Rattle.elimination.specs.declared.reducing.Reduced.{Reduced}
 use Rattle.elimination.specs.declared.solving.Solved.{Solved}
 use Rattle.elimination.specs.Terms.{TermRow}

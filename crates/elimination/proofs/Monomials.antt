@@ -19,7 +19,7 @@ use Rattle.family.specs.Member.{m16, places, px, py}
 use Rattle.planes.specs.Arrays.{elementAt, Carries, symbolsOf, spreadOf, spread-carries, productOf, product-element}
 use Rattle.planes.specs.Rows.{valueAt, joinedOf, whole-joined, slope-joined}
 use Rattle.values.specs.Eliminating.{Reduced, reduced-plain, reduced-z}
-use Rattle.interpolation.specs.Parts.{valuesOf}
+use Rattle.parts.specs.Parts.{valuesOf}
 use Rattle.elimination.specs.Terms.{monomialAt, PowerOf, Tests, TermRow}
 open Field K16 using (_⊗_, 𝟘)
 

@@ -16,7 +16,7 @@ use Rattle.galois.specs.Field16.{GF, K16}
 use Rattle.family.specs.Member.{m16, places}
 use Rattle.planes.specs.Rows.{valueAt}
 use Rattle.values.specs.Eliminating as Values
-use Rattle.interpolation.specs.Parts.{valuesOf}
+use Rattle.parts.specs.Parts.{valuesOf}
 use Rattle.elimination.specs.declared.reducing.Reduced.{Reduced}
 open Field K16 using (_⊕_, _⊗_, 𝟘, inv)
 

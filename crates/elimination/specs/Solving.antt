@@ -19,7 +19,7 @@ use Rattle.planes.specs.Arrays.{Carries, symbolsOf}
 use Rattle.values.specs.Holds.{Holds}
 use Rattle.values.specs.Settled.{settled}
 use Rattle.values.specs.Eliminating as Values
-use Rattle.interpolation.specs.Parts.{valuesOf}
+use Rattle.parts.specs.Parts.{valuesOf}
 use Rattle.elimination.specs.declared.reducing.Reduced.{Reduced}
 use Rattle.elimination.specs.declared.solving.Solved.{Solved}
 use Rattle.elimination.specs.Reducing.{pivotValues, Stops}

@@ -36,7 +36,7 @@ use Rattle.near.specs.Governing.{Only, only-near, only-far}
 use Rattle.near.specs.Here.{mOf, reachOf, blankLimit, limitOf}
 use Rattle.interpolant.specs.LeastQ.{readingLength, readingOf}
 use Rattle.interpolant.specs.Reading.{byteOf, reading-least, reading-size}
-use Rattle.interpolation.specs.Parts.{valuesOf, firstOf, secondOf, polynomialOf, recovered}
+use Rattle.parts.specs.Parts.{valuesOf, firstOf, secondOf, polynomialOf, recovered}
 use Rattle.candidate.specs.Ranged.{Ranged, known-range, workable, limit-small}
 use Rattle.candidate.specs.Settled.{flagged-decided}
 use Rattle.candidate.specs.declared.Candidate.{Candidate}

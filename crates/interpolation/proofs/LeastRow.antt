@@ -19,7 +19,7 @@ use Rattle.interpolant.specs.Least.{everywhere-least}
 use Rattle.interpolant.specs.LeastQ.{readingLength}
 use Rattle.interpolant.specs.Reading.{byteOf, reading-least}
 use Rattle.interpolation.specs.Extending.{Stored}
-use Rattle.interpolation.specs.Parts.{valuesOf, firstOf, secondOf, polynomialOf, recovered}
+use Rattle.parts.specs.Parts.{valuesOf, firstOf, secondOf, polynomialOf, recovered}
 use Rattle.interpolation.specs.Reading.{Lowest, Interpolated}
 open Field K16 using (inv)
 

@@ -3,4 +3,3 @@ pub mod Starting
 pub mod Settling
 pub mod Shown
 pub mod LeastRow
-pub mod Splitting

@@ -1,26 +1,26 @@
--- The bytes of a reading: where each coefficient stands in the two parts, and the bytes of x^16 + x.
+-- The coefficient at a key in the two parts, the bytes of x^16 + x, and the class of least lead.
 use mathlib.Core.Path.{_≡_, sym, ap, ap₂, _∙_}
 use mathlib.Core.List.{List}
 use mathlib.Core.Logic.{_≢_}
 use Prim.Native.Nat.{ℕ, _+_, _-_, _*_, _/_, _%_, _<_, _≤_}
 use native.Mathlib.Decide.{decLt, ℕ-discrete}
 use native.Mathlib.Omega.{arith}
-use lib.ListN.{length, getD, List·getD-eq-default, set, replicate, getD-replicate}
+use lib.ListN.{getD, set, replicate, getD-replicate}
 use lib.Seq.{getD-set-same, getD-set-other}
 use Rattle.lists.specs.Listed.{listed, listed-ext, listed-getD}
 use Rattle.algebra.specs.Field.{Field, add-zero, zero-add}
-use Rattle.algebra.specs.Coefficients.{scale, unit, unit-at, unit-off}
-use Rattle.galois.specs.Gf16.{times}
+use Rattle.algebra.specs.Coefficients.{unit, unit-at, unit-off}
 use Rattle.galois.specs.Field16.{K16, toF, value, value-toF, toF-zero, toF-one, value-zero}
 use Rattle.hermitian.specs.Interpolant.{without-joined, with-joined, gap-joined}
 use Rattle.hermitian.specs.Frobenius.{frobenius}
-use Rattle.rows.specs.Rows.{coef, coef-at, value-times-toF}
+use Rattle.rows.specs.Rows.{coef, coef-at}
 use Rattle.basis.specs.Choice.{Chosen, none, one}
 use Rattle.interpolant.specs.LeastQ.{byteKey, readingLength}
-use Rattle.interpolant.specs.Reading.{byteKey-plain, byteKey-z, byteOf}
-use Rattle.interpolation.specs.Parts.{polynomialOf}
+use Rattle.interpolant.specs.Reading.{byteOf}
+use Rattle.parts.specs.Parts.{polynomialOf}
+use Rattle.parts.specs.Bytes.{key-plain, key-z}
 use Rattle.interpolation.specs.Reading.{Lowest}
-open Field K16 using (_⊕_, _⊗_, 𝟘, 𝟙)
+open Field K16 using (_⊕_, 𝟘, 𝟙)
 
 -- ---- the coefficient at a key
 module _ (q0 q1 : List ℕ) (k m : ℕ) where
@@ -41,36 +41,6 @@ module _ (q0 q1 : List ℕ) (k m : ℕ) where
   at-odd z g =
       let e : 2 * (k / 2 - m + m) + 1 ≡ k = omega arith in
       sym (coef-at q1 (k / 2 - m)) ∙ ap (λ f. f (k / 2 - m)) (sym (with-joined K16 m (coef q0) (coef q1))) ∙ ap (polynomialOf m q0 q1) e
-
--- ---- the coefficient of a byte
-key-plain : (M i : ℕ) → i ≤ 64 → byteKey M i ≡ 2 * i
-key-plain M i h = byteKey-plain M i h
-
-key-z : (M i : ℕ) → 65 ≤ i → byteKey M i ≡ 2 * (i - 65 + M) + 1
-key-z M i h =
-    let e : i ≡ 65 + (i - 65) = omega arith in
-    ap (byteKey M) e ∙ byteKey-z M (i - 65)
-
-module _ (q0 q1 : List ℕ) (i : ℕ) where
-  pub shown-plain : i ≤ 64 → (M : ℕ) → toF (getD q0 i 0) ≡ polynomialOf M q0 q1 (byteKey M i)
-  unfolding polynomialOf
-  shown-plain h M =
-      sym (coef-at q0 i) ∙ ap (λ f. f i) (sym (without-joined K16 M (coef q0) (coef q1))) ∙ ap (polynomialOf M q0 q1) (sym (key-plain M i h))
-
-  -- no order above 63 is read
-  pub shown-last : length q0 ≡ 64 → i ≡ 64 → (M : ℕ) → toF 0 ≡ polynomialOf M q0 q1 (byteKey M i)
-  shown-last l e M = ap toF (sym (List·getD-eq-default q0 0 (omega arith))) ∙ shown-plain (omega arith) M
-
-  pub shown-z : 65 ≤ i → (M : ℕ) → toF (getD q1 (i - 65) 0) ≡ polynomialOf M q0 q1 (byteKey M i)
-  unfolding polynomialOf
-  shown-z h M =
-      sym (coef-at q1 (i - 65)) ∙ ap (λ f. f (i - 65)) (sym (with-joined K16 M (coef q0) (coef q1))) ∙ ap (polynomialOf M q0 q1) (sym (key-z M i h))
-
--- a multiple of it
-pub scaled-byte : (q0 q1 : List ℕ) (by i s v M : ℕ) → v ≡ times by s → toF s ≡ polynomialOf M q0 q1 (byteKey M i)
-    → v ≡ byteOf M (scale K16 (toF by) (polynomialOf M q0 q1)) i
-unfolding byteOf
-scaled-byte q0 q1 by i s v M e f = e ∙ sym (value-times-toF by s) ∙ ap (λ a. value (toF by ⊗ a)) f
 
 -- ---- x^16 + x
 abbrev plainZeros : List ℕ

@@ -1,4 +1,3 @@
 pub mod Start
 pub mod Extending
-pub mod Parts
 pub mod Reading

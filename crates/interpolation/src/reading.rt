@@ -2,24 +2,23 @@
 ghost use mathlib.Core.Path.{_≡_};
 ghost use Prim.Native.Nat.{ℕ, _<_, _≤_};
 ghost use Rattle.lists.specs.Listed.{listed};
-ghost use Rattle.algebra.specs.Coefficients.{scale};
 ghost use Rattle.galois.specs.Field16.{K16, toF};
 ghost use Rattle.hermitian.specs.Frobenius.{frobenius};
 ghost use Rattle.values.specs.Settled.{settled};
-ghost use Rattle.interpolation.specs.Parts.{polynomialOf};
-ghost use Rattle.interpolant.specs.LeastQ.{byteKey, readingLength, readingOf};
+ghost use Rattle.parts.specs.Parts.{polynomialOf};
+ghost use Rattle.interpolant.specs.LeastQ.{readingLength, readingOf};
 ghost use Rattle.interpolant.specs.Reading.{byteOf};
 ghost use Rattle.interpolation.specs.Reading.{Lowest, Interpolated};
 use crate::LIMIT;
 use crate::PLACES;
-use crate::READING;
-use crate::parts::with_z;
-use crate::parts::without_z;
 use basis::CLASSES;
 use basis::Leads;
 use basis::Rows;
 use galois::inverse;
-use galois::product;
+use parts::READING;
+use parts::bytes::scaled;
+use parts::orders::with_z;
+use parts::orders::without_z;
 
 // The coefficient at a key, where no order is above 63.
 fn coefficient(q0: [u8; PLACES], q1: [u8; PLACES], key: usize, m: usize) -> u8
@@ -34,33 +33,6 @@ fn coefficient(q0: [u8; PLACES], q1: [u8; PLACES], key: usize, m: usize) -> u8
         return 0;
     }
     q1[order - m]
-}
-
-// The coefficient that byte i of a reading shows.
-fn shown(q0: [u8; PLACES], q1: [u8; PLACES], i: usize) -> u8
-    requires { ⌜ i < readingLength ⌝ }
-    ensures { λ r. ⌜ ((M : ℕ) → toF r ≡ polynomialOf M q0 q1 (byteKey M i)) ⌝ }
-{
-    if i < PLACES {
-        return q0[i];
-    }
-    if i == PLACES {
-        return 0;
-    }
-    q1[i - 65]
-}
-
-// The bytes of a multiple.
-pub fn scaled(q0: [u8; PLACES], q1: [u8; PLACES], by: u8) -> [u8; READING]
-    ensures { λ r. ⌜ ((M : ℕ) → r ≡ listed readingLength (byteOf M (scale K16 (toF by) (polynomialOf M q0 q1)))) ⌝ }
-{
-    let mut out = [0u8; READING];
-    let mut i = 0;
-    while i < READING {
-        out[i] = product(by, shown(q0, q1, i));
-        i += 1;
-    }
-    out
 }
 
 // x^16 + x, which vanishes at every place.

@@ -13,7 +13,7 @@ use Rattle.lists.specs.Every.{true-T}
 use Rattle.basis.specs.Choice.{leadAt}
 use Rattle.basis.specs.Step.{classes, rowValues}
 use Rattle.interpolation.specs.Extending.{Stored, Extends}
-use Rattle.interpolation.specs.Parts.{valuesOf}
+use Rattle.parts.specs.Parts.{valuesOf}
 use Rattle.family.specs.Nodes.{node}
 use Rattle.soft.specs.Column.{places}
 use Rattle.soft.specs.Doubt.{mostDoubt}

@@ -20,7 +20,7 @@ use Rattle.values.specs.Holds.{Holds}
 use Rattle.basis.specs.Choice.{leadAt}
 use Rattle.basis.specs.Step.{classes}
 use Rattle.interpolation.specs.Extending.{Stored}
-use Rattle.interpolation.specs.Parts.{valuesOf}
+use Rattle.parts.specs.Parts.{valuesOf}
 use Rattle.code.specs.Nodes.{ThroughNodes}
 use Rattle.family.specs.Member.{m16}
 use Rattle.family.specs.Nodes.{Node}

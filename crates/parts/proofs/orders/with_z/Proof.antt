@@ -1,8 +1,8 @@
 -- The slopes are the values of Q1.
 use borrow.Author.Needs.{needs}
-use Rattle.interpolation.proofs.Splitting.{second-read}
-use Rattle.interpolation.proofs.parts.with_z.Statement.{statement}
-use Rattle.interpolation.proofs.parts.with_z.Tie as tie
+use Rattle.parts.proofs.Splitting.{second-read}
+use Rattle.parts.proofs.orders.with_z.Statement.{statement}
+use Rattle.parts.proofs.orders.with_z.Tie as tie
 
 slope-requires : tie.Need-slope-requires
 slope-requires c κs = search needs

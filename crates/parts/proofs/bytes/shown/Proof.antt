@@ -1,9 +1,9 @@
 -- Where the coefficient of a byte stands in the parts: without z, at order 64, or with z.
 use borrow.Author.Needs.{needs}
 use native.Mathlib.Omega.{arith}
-use Rattle.interpolation.proofs.Shown.{shown-plain, shown-last, shown-z}
-use Rattle.interpolation.proofs.reading.shown.Statement.{statement}
-use Rattle.interpolation.proofs.reading.shown.Tie as tie
+use Rattle.parts.proofs.Shown.{shown-plain, shown-last, shown-z}
+use Rattle.parts.proofs.bytes.shown.Statement.{statement}
+use Rattle.parts.proofs.bytes.shown.Tie as tie
 
 array-read-result : tie.Need-array-read-result
 array-read-result c = search needs

@@ -1,8 +1,8 @@
 // The two parts of the polynomial Q0 + Q1 z that a row holds, by order.
 ghost use mathlib.Core.Path.{_≡_};
-ghost use Rattle.interpolation.specs.Parts.{firstOf, secondOf};
-use crate::PLACES;
+ghost use Rattle.parts.specs.Parts.{firstOf, secondOf};
 use coefficients::orders::coefficients;
+use planes::PLACES;
 use planes::lanes::sum;
 use planes::lanes::times;
 use planes::rows::Row;

@@ -11,7 +11,7 @@ use Rattle.planes.specs.Arrays.{elementAt, symbolAt, symbol-lt, element-symbol,
 use Rattle.planes.specs.Words.{wordOf}
 use Rattle.planes.specs.Rows.{valueAt, wholeOf, slopeOf, value-whole, value-slope}
 use Rattle.coefficients.specs.Reading.{coefficientsOf}
-use Rattle.interpolation.specs.Parts.{firstAt, secondAt, firstOf, secondOf}
+use Rattle.parts.specs.Parts.{firstAt, secondAt, firstOf, secondOf}
 open Field K16 using (_⊕_, _⊗_)
 
 -- the symbol at a lane is the number of its element

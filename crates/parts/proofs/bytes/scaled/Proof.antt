@@ -10,10 +10,10 @@ use Rattle.algebra.specs.Coefficients.{scale}
 use Rattle.galois.specs.Field16.{K16, toF}
 use Rattle.interpolant.specs.LeastQ.{readingLength}
 use Rattle.interpolant.specs.Reading.{byteOf}
-use Rattle.interpolation.specs.Parts.{polynomialOf}
-use Rattle.interpolation.proofs.Shown.{scaled-byte}
-use Rattle.interpolation.proofs.reading.scaled.Statement.{statement}
-use Rattle.interpolation.proofs.reading.scaled.Tie as tie
+use Rattle.parts.specs.Parts.{polynomialOf}
+use Rattle.parts.proofs.Shown.{scaled-byte}
+use Rattle.parts.proofs.bytes.scaled.Statement.{statement}
+use Rattle.parts.proofs.bytes.scaled.Tie as tie
 
 abbrev Inv-loop : tie.InvT-loop
 Inv-loop q0 q1 by out₀ i₀ out i =

@@ -1,8 +1,8 @@
 -- The values of Q0 at each lane, and the coefficients read off them.
 use borrow.Author.Needs.{needs}
-use Rattle.interpolation.proofs.Splitting.{first-read}
-use Rattle.interpolation.proofs.parts.without_z.Statement.{statement}
-use Rattle.interpolation.proofs.parts.without_z.Tie as tie
+use Rattle.parts.proofs.Splitting.{first-read}
+use Rattle.parts.proofs.orders.without_z.Statement.{statement}
+use Rattle.parts.proofs.orders.without_z.Tie as tie
 
 whole-requires : tie.Need-whole-requires
 whole-requires c κs = search needs
