@@ -26,10 +26,12 @@ use Rattle.totals.specs.declared.margin.Margin.{Margin}
 use Rattle.totals.specs.Margin.{marginFrom, is-from, from-is}
 use Rattle.near.specs.Here.{reachIn, messageCost, answerOf, marginOf}
 use Rattle.near.specs.Laws.{answer-word}
+use Rattle.near.specs.Result.{refusedResult}
+use Rattle.near.specs.Result as Family
 use Rattle.answers.specs.declared.Answer.{Answer}
 use Rattle.answers.specs.declared.Answer.the-variants.{NoneNear, Near}
 use Rattle.answers.specs.declared.Found.{Found}
-use Rattle.answers.specs.Result.{totalIs, total-near, total-none, nothingFound, foundFor, foundOf, found-same}
+use Rattle.answers.specs.Result.{totalIs, total-near, total-none, nothingFound, foundWith, foundFor, foundOf, found-same}
 use Rattle.answers.specs.Nearest.{Nearest, nearest-nobody, nearest-somebody, nearest-margin, nearest-none, nearest-some}
 use Rattle.family.specs.Member.{m16}
 use Rattle.family.specs.Evaluation.{encode-zeros}
@@ -116,7 +118,7 @@ module _ {k : ℕ} {columns : ℕ → List ℕ} where
     nearest-missed known e = nearest-none refl refl e
 
     pub told-is : {f : Found} → Nearest k columns ts f → Sound k columns f → toldOf f ≡ foundOf k columns ts
-    unfolding toldOf toldFor foundOf foundFor
+    unfolding toldOf toldFor foundOf foundWith Family.resultOf Family.resultFor refusedResult
     told-is {f} n s = go (f .answer) refl
       where
         go : (a : Answer) → f .answer ≡ a → toldFor a f ≡ foundFor k columns ts (answerOf k columns ts)
@@ -133,7 +135,7 @@ module _ (k : ℕ) (columns : ℕ → List ℕ) (ts : List (List ℕ)) (small : 
   answered e = answer-word m16 (openAt columns) (reachIn k columns) k columns ts e
 
   pub found-nearest : Nearest k columns ts (foundOf k columns ts)
-  unfolding foundOf foundFor nothingFound
+  unfolding foundOf foundWith nothingFound Family.resultOf Family.resultFor refusedResult
   found-nearest = go (answerOf k columns ts) refl
     where
       go : (o : Option (List ℕ)) → answerOf k columns ts ≡ o → Nearest k columns ts (foundFor k columns ts o)
@@ -144,7 +146,7 @@ module _ (k : ℕ) (columns : ℕ → List ℕ) (ts : List (List ℕ)) (small : 
           (ap (messageCost k columns) q) (is-from (marginOf k columns ts m) ∙ ap (marginOf k columns ts) q)
 
   pub found-sound : Sound k columns (foundOf k columns ts)
-  unfolding foundOf foundFor totalIs
+  unfolding foundOf foundWith totalIs Family.resultOf Family.resultFor refusedResult
   found-sound = go (answerOf k columns ts) refl
     where
       go : (o : Option (List ℕ)) → answerOf k columns ts ≡ o → Sound k columns (foundFor k columns ts o)

@@ -5,14 +5,17 @@
 --   totalIs answer             the total, if a codeword is near; total-near: where one is; total-none: where none is, there is none
 --   resultFor, resultOf        the result of an answer's message and of a list of test words, as the family has them
 --   nothingFound               none near, and zeros beside it
---   foundOf k columns tests    the answer with its total and its margin, its message with zeros behind it, its codeword, and how many test words
---                              have a codeword within T; or nothing found
+--   foundWith k r n            what a search returns for a result and a count of test words: nothing found for the number 9; else the answer with the
+--                              result's total and margin, its message with zeros behind it, and its codeword
+--   foundOf k columns tests    that for the result of a list of test words, and how many of these have a codeword within T
 --   found-same                 two findings are equal by their parts
 use mathlib.Core.Path.{_≡_, ap}
+use mathlib.Core.Bool.{cond}
 use mathlib.Core.List.{List}
 use mathlib.Core.Option.{Option, none, some}
 use Prim.Native.Nat.{ℕ}
 use native.Mathlib.Omega.{arith}
+use lib.Dec.{eqb}
 use lib.ListN.{take, replicate}
 use Rattle.refusals.specs.Refusal.{accepted, noneNear}
 use Rattle.lists.specs.Padded.{padded}
@@ -22,7 +25,7 @@ use Rattle.soft.specs.Blank.{openAt}
 use Rattle.totals.specs.declared.margin.Margin.{Margin}
 use Rattle.totals.specs.Margin.{marginIs, marginFrom}
 use Rattle.family.specs.Member.{m16}
-use Rattle.near.specs.Here.{reachIn, testsNear, messageCost, answerOf, marginOf}
+use Rattle.near.specs.Here.{reachIn, testsNear}
 use Rattle.near.specs.Result.{Result, refusedResult}
 use Rattle.near.specs.Result as Family
 use Rattle.answers.specs.declared.Answer.{Answer}
@@ -54,19 +57,17 @@ resultOf k columns tests = Family.resultOf m16 (openAt columns) (reachIn k colum
 unfoldable pub nothingFound : Found
 nothingFound = record { answer = NoneNear; message = replicate mostRate 0; codeword = replicate places 0; tests = 0 }
 
--- by the answer's message, if there is one
-unfoldable pub foundFor : ℕ → (ℕ → List ℕ) → List (List ℕ) → Option (List ℕ) → Found
-foundFor k columns tests none = nothingFound
-foundFor k columns tests (some m) =
-    record {
-      answer = Near (messageCost k columns m) (marginFrom (marginOf k columns tests m));
-      message = padded mostRate m;
-      codeword = encodeOf k m;
-      tests = testsNear k columns tests;
-    }
+-- the enum's case of a result is that of its number
+unfoldable pub foundWith : ℕ → Result → ℕ → Found
+foundWith k r n =
+    cond (eqb (r .number) noneNear) nothingFound
+    (record { answer = Near (r .total) (marginFrom (r .margin)); message = padded mostRate (r .message); codeword = encodeOf k (r .message); tests = n })
+
+abbrev pub foundFor : ℕ → (ℕ → List ℕ) → List (List ℕ) → Option (List ℕ) → Found
+foundFor k columns tests o = foundWith k (resultFor k columns tests o) (testsNear k columns tests)
 
 unfoldable pub foundOf : ℕ → (ℕ → List ℕ) → List (List ℕ) → Found
-foundOf k columns tests = foundFor k columns tests (answerOf k columns tests)
+foundOf k columns tests = foundWith k (resultOf k columns tests) (testsNear k columns tests)
 
 pub found-same : (f g : Found) → f .answer ≡ g .answer → f .message ≡ g .message → f .codeword ≡ g .codeword → f .tests ≡ g .tests → f ≡ g
 found-same f g a m c n = λ i. record { answer = a i; message = m i; codeword = c i; tests = n i }
