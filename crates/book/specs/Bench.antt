@@ -1,6 +1,6 @@
 -- Bench sheet, R6 and R7, of the book of the modem of 64 places, as document 02 has them.
 --
---   r6            a table of zero bytes, at either rate and with any doubt, is refused with 12: all its columns are blank
+--   r6            a table of zero bytes, at every rate and with any doubt up to 12, is refused with 12: all its columns are blank
 --   read bytes    an accepted reading
 --   r7-new        reading of a new session: byte 0 is 1, the rest 0
 --   r7            after place 0, not doubtful, with a column that is not blank and whose best symbol is 0: byte 4 is 1, the rest 0

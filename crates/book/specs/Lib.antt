@@ -49,3 +49,4 @@ pub mod AlikeCalls
 pub mod CallLaws
 pub mod Undone
 pub mod Captured
+pub mod Numbers

@@ -8,3 +8,4 @@ pub mod Table
 pub mod AnsweringLaws
 pub mod Scan
 pub mod Flags
+pub mod Numbers
