@@ -1,4 +1,6 @@
-// Prints what the bench sheet's columns C9 and C10 read, the doubtful places of a small table with doubt 3, how many they are, and what the zero word costs there.
+// Prints what the bench sheet's columns C9 and C10 read, the doubtful places of a small table with doubt 3, how many they are, what the zero word costs there,
+// and what columns from bit values read and cost.
+use columns::bits;
 use columns::column;
 use columns::costs;
 use io::print_decimal;
@@ -25,6 +27,18 @@ fn show_column(c: [u16; 16]) {
     end_line();
 }
 
+// The column of four bit values: best, second and gap, and what symbols 0, 5, 7, 8 and 15 cost.
+fn show_bits(values: [u8; 4]) {
+    let c = bits::column_from_bits(values);
+    show_column(c);
+    show(c[0] as u64);
+    show(c[5] as u64);
+    show(c[7] as u64);
+    show(c[8] as u64);
+    show(c[15] as u64);
+    end_line();
+}
+
 fn main() {
     let mut nine = [7u16; 16];
     nine[5] = 0;
@@ -48,4 +62,8 @@ fn main() {
     show(total::pinned(&table, &word) as u64);
     show(total::changed(total::changed_places(&table, &word)) as u64);
     end_line();
+    // 127, -1, 0 and -128; then the dearest symbol there is; then a blank column.
+    show_bits([127, 255, 0, 128]);
+    show_bits([128; 4]);
+    show_bits([0; 4]);
 }
