@@ -15,7 +15,7 @@
 --   ByCapture bytes r    opening a capture, the bytes of which are bytes: what `open_capture` promises
 --   Start book s         an accepted opening returned the session s: by a rate and a doubtful list, with a new book, or by a capture, with its book
 --   start-costs          the row of that book has columns of costs
---   start-follows        such a session follows that book; start-rate: its rate is one of the two
+--   start-follows        such a session follows that book; start-rate: its rate is one from 6 to 52
 --   one-start            and the book determines it: opened twice alike, sessions are equal
 --   CaptureStarts bytes r, capture-starts   every accepted capture is such an opening: its rate and list are ones that opening accepts, and each of its
 --                        records is accepted
