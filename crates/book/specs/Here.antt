@@ -4,8 +4,8 @@
 --   reportLength, tableLength, frameLength   the report's 14 bytes, the table's 2,048, and the 256 of a frame of bit values
 --   power                sixteen symbols are those of four bits
 --   test-count-here      with at most 12 doubtful places there are at most 4,096 test words, and the number of those with a codeword within T fits two bytes
---   pinnedIn, changedIn, markIn, marginIn, cheapestIn   the report's bytes 6, 7 and 8, the number in the next four, and the last byte: pinned-byte, changed-byte,
---                        mark-byte, margin-bytes, cheapest-byte
+--   pinnedIn, changedIn, runnerIn, marginIn, markIn   the report's bytes 6, 7 and 8, the number in the next four, and the last byte: pinned-byte, changed-byte,
+--                        runner-byte, margin-bytes, mark-byte
 --
 -- All others mean what they mean in Book, Opening, Delivery, Withdrawal, Columns, Entries, RowLaws, OpeningLaws, PlaceOrder, Closing, Table, Below, Bits,
 -- Sentences, Costs, Report, Marked and Repairs.
@@ -188,8 +188,8 @@ pinnedIn report = getD report 6 0
 abbrev pub changedIn : List ℕ → ℕ
 changedIn report = getD report 7 0
 
-abbrev pub markIn : List ℕ → ℕ
-markIn report = getD report 8 0
+abbrev pub runnerIn : List ℕ → ℕ
+runnerIn report = getD report 8 0
 
 abbrev pub marginIn : List ℕ → ℕ
 marginIn report = 16777216 * getD report 9 0 + 65536 * getD report 10 0 + 256 * getD report 11 0 + getD report 12 0
@@ -200,18 +200,18 @@ pinned-byte report = Report.number-byte 6 report
 pub changed-byte : (report : List ℕ) → Report.changedIn modem64 report ≡ changedIn report
 changed-byte report = Report.number-byte 7 report
 
-pub mark-byte : (report : List ℕ) → Report.markIn modem64 report ≡ markIn report
-mark-byte report = Report.number-byte 8 report
+pub runner-byte : (report : List ℕ) → Report.runnerIn modem64 report ≡ runnerIn report
+runner-byte report = Report.number-byte 8 report
 
 pub margin-bytes : (report : List ℕ) → Report.marginIn modem64 report ≡ marginIn report
 unfolding Report.numberIn
 margin-bytes report = omega arith
 
-abbrev pub cheapestIn : List ℕ → ℕ
-cheapestIn report = getD report 13 0
+abbrev pub markIn : List ℕ → ℕ
+markIn report = getD report 13 0
 
-pub cheapest-byte : (report : List ℕ) → Report.cheapestIn modem64 report ≡ cheapestIn report
-cheapest-byte report = Report.number-byte 13 report
+pub mark-byte : (report : List ℕ) → Report.markIn modem64 report ≡ markIn report
+mark-byte report = Report.number-byte 13 report
 
 abbrev pub Shows : List ℕ → ℕ → ℕ → ℕ → ℕ → Option ℕ → ℕ → Type 0
 Shows report total tests pinned changed margin cheapest = Report.Shows modem64 report total tests pinned changed margin cheapest

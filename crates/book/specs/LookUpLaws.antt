@@ -30,17 +30,17 @@ use Rattle.book.specs.CaptureCases.{bookIn, Fit, capture-fit}
 use Rattle.book.specs.RoundTrip.{size-range, length-right}
 use Rattle.book.specs.Here.{places, width}
 
-pub record Found (p n : ℕ) (bytes : List ℕ) : Type 0 where
+pub record RecordFound (p n : ℕ) (bytes : List ℕ) : Type 0 where
   pub within : recordWith p n bytes < n
   pub there : columnIn (recordsOf n bytes) p ≡ some (costsFrom width (take 32 (drop (1 + recordLength * recordWith p n bytes) bytes)))
 
-pub record-found : (p n : ℕ) (bytes : List ℕ) → among p (placesOf (recordsOf n bytes)) ≡ true → Found p n bytes
+pub record-found : (p n : ℕ) (bytes : List ℕ) → among p (placesOf (recordsOf n bytes)) ≡ true → RecordFound p n bytes
 unfolding recordWith recordsOf columnIn placesOf among
 record-found p zero bytes a = absurd (false≢true a)
 record-found p (suc n) bytes a = go (eqb (getD bytes 0 0) p) refl a (record-found p n (drop recordLength bytes))
   where
     go : (b : Bool) → eqb (getD bytes 0 0) p ≡ b → (b || among p (placesOf (recordsOf n (drop recordLength bytes)))) ≡ true
-        → (among p (placesOf (recordsOf n (drop recordLength bytes))) ≡ true → Found p n (drop recordLength bytes)) → Found p (suc n) bytes
+        → (among p (placesOf (recordsOf n (drop recordLength bytes))) ≡ true → RecordFound p n (drop recordLength bytes)) → RecordFound p (suc n) bytes
     go true e t ih = record { within = rw e (omega arith); there = rw e }
     go false e t ih =
         let f = ih t in
@@ -80,7 +80,7 @@ module _ (bytes : List ℕ) (p : ℕ) (h : p < places) (n : openCaptureOf bytes 
   records : List ℕ
   records = drop (5 + doubtIn bytes) bytes
 
-  found : Found p places records
+  found : RecordFound p places records
   unfolding records bookIn
   found =
       record-found p places records

@@ -35,7 +35,7 @@ use Rattle.book.specs.Table.{tableColumns, pickedOf, tableOf, table-acce
 use Rattle.book.specs.Below.{tableBelowOf, doubtFor, below-accepted, below-as-table}
 use Rattle.book.specs.Bits.{frameLength, tableMade, bitsOf, made-columns, bits-as-table}
 use Rattle.book.specs.Costs.{AreColumns, RowColumns, row-columns, table-costs}
-use Rattle.book.specs.Report.{cheapestIn, ShowsFor, closing-shows, table-shows}
+use Rattle.book.specs.Report.{markIn, ShowsFor, closing-shows, table-shows}
 
 bit-holds : (b : Bool) → bit b ≡ 1 → T b
 bit-holds true e = tt
@@ -51,13 +51,13 @@ module _ (𝓓 : Model) where
   CheapestIn book c = Cheapest (book .rate) (columnsOf 𝓓 (book .row)) (c .message)
 
   pub shows-cheapest : {k : ℕ} {columns : ℕ → List ℕ} {m report : List ℕ} (doubtful : List ℕ) → Known 𝓓 k → AreColumns 𝓓 columns → Word (width 𝓓) k m
-      → ShowsFor 𝓓 k columns doubtful m report → cheapestIn 𝓓 report ≡ 1 → Cheapest k columns m
+      → ShowsFor 𝓓 k columns doubtful m report → markIn 𝓓 report ≡ 1 → Cheapest k columns m
   unfolding Near.messageCost
   shows-cheapest {k} {columns} {m = m} doubtful known all word shows e =
       record {
         none-less = λ n other.
             marked-cheapest member (workable k known) columns (λ p l. all .at p l .whole) word other
-            (bit-holds (markedOf member k columns m) (sym (shows .cheapest-there) ∙ e));
+            (bit-holds (markedOf member k columns m) (sym (shows .mark-there) ∙ e));
       }
 
   -- ---- the message has k symbols
@@ -95,12 +95,12 @@ module _ (𝓓 : Model) where
     -- ---- closing, and table decoding
 
     pub closing-marked : Known 𝓓 (book .rate) → RowColumns 𝓓 (book .row) → length (book .doubtful) ≤ mostDoubt
-        → cheapestIn 𝓓 (closeOf 𝓓 book message report .report) ≡ 1 → CheapestIn book (closeOf 𝓓 book message report)
+        → markIn 𝓓 (closeOf 𝓓 book message report .report) ≡ 1 → CheapestIn book (closeOf 𝓓 book message report)
     closing-marked known all few mark =
         shows-cheapest (book .doubtful) known (row-columns 𝓓 (book .row) all) close-word (closing-shows 𝓓 book message report all few n) mark
 
   pub table-marked : {rate : ℕ} → Known 𝓓 rate → (table : List ℕ) (doubt : ℕ) (message report : List ℕ) → below 256 table ≡ true
-      → tableOf 𝓓 rate table doubt message report .number ≡ accepted → cheapestIn 𝓓 (tableOf 𝓓 rate table doubt message report .report) ≡ 1
+      → tableOf 𝓓 rate table doubt message report .number ≡ accepted → markIn 𝓓 (tableOf 𝓓 rate table doubt message report .report) ≡ 1
       → Cheapest rate (tableColumns 𝓓 table) (tableOf 𝓓 rate table doubt message report .message)
   table-marked {rate} known table doubt message report b n mark =
       let t = table-accepted 𝓓 rate table doubt message report n .1 in
@@ -111,21 +111,21 @@ module _ (𝓓 : Model) where
 
   pub below-marked : {rate : ℕ} → Known 𝓓 rate → (table : List ℕ) (threshold most : ℕ) (message report : List ℕ) → below 256 table ≡ true
       → tableBelowOf 𝓓 rate table threshold most message report .number ≡ accepted
-      → cheapestIn 𝓓 (tableBelowOf 𝓓 rate table threshold most message report .report) ≡ 1
+      → markIn 𝓓 (tableBelowOf 𝓓 rate table threshold most message report .report) ≡ 1
       → Cheapest rate (tableColumns 𝓓 table) (tableBelowOf 𝓓 rate table threshold most message report .message)
   below-marked {rate} known table threshold most message report b n =
       let a = below-accepted 𝓓 rate table threshold most message report n in
       let e = below-as-table 𝓓 table threshold most (a .0) (a .1) rate message report in
-      subst (λ (c : Closed). cheapestIn 𝓓 (c .report) ≡ 1 → Cheapest rate (tableColumns 𝓓 table) (c .message)) (sym e)
+      subst (λ (c : Closed). markIn 𝓓 (c .report) ≡ 1 → Cheapest rate (tableColumns 𝓓 table) (c .message)) (sym e)
       (table-marked known table (doubtFor 𝓓 table threshold most) message report b (sym (ap (λ (c : Closed). c .number) e) ∙ n))
 
   pub bits-marked : (bits : ℕ) → width 𝓓 ≡ 2 ^ bits → bits * 128 ≤ ceiling → {rate : ℕ} → Known 𝓓 rate → (frame : List ℕ)
       → length frame ≡ frameLength 𝓓 bits → (doubt : ℕ) (message report : List ℕ) → bitsOf 𝓓 bits rate frame doubt message report .number ≡ accepted
-      → cheapestIn 𝓓 (bitsOf 𝓓 bits rate frame doubt message report .report) ≡ 1
+      → markIn 𝓓 (bitsOf 𝓓 bits rate frame doubt message report .report) ≡ 1
       → Cheapest rate (bitColumns bits frame) (bitsOf 𝓓 bits rate frame doubt message report .message)
   bits-marked bits power most {rate} known frame whole doubt message report n =
       let e = bits-as-table 𝓓 bits frame power rate doubt message report whole in
-      subst₂ (λ (columns : ℕ → List ℕ) (c : Closed). cheapestIn 𝓓 (c .report) ≡ 1 → Cheapest rate columns (c .message))
+      subst₂ (λ (columns : ℕ → List ℕ) (c : Closed). markIn 𝓓 (c .report) ≡ 1 → Cheapest rate columns (c .message))
       (made-columns 𝓓 bits frame power whole) (sym e)
       (table-marked known (tableMade 𝓓 bits frame) doubt message report (bit-table-bytes bits frame (places 𝓓) most)
       (sym (ap (λ (c : Closed). c .number) e) ∙ n))

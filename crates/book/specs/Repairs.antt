@@ -77,7 +77,7 @@ use Rattle.book.specs.Entries.{Missing}
 use Rattle.book.specs.Closing.{reportLength, Closed, marginFor, reportFor, closeOf}
 use Rattle.book.specs.ClosingLaws.{Kept, close-kept}
 use Rattle.book.specs.OpeningLaws.{Known, rate-39, rate-52, rate-known, rate-blanks}
-use Rattle.book.specs.Report.{markIn, markOf, mark-none, margin-byte}
+use Rattle.book.specs.Report.{runnerIn, runnerOf, runner-none, margin-byte}
 use Rattle.book.specs.Sentences.{testsOf, totalFor, blanksIn, IsNear, near-found, Dearer, IsAnswer, Closes, closes}
 
 abbrev pub wrongAt : (ℕ → List ℕ) → List ℕ → List ℕ → ℕ → Bool
@@ -235,7 +235,7 @@ module _ (𝓓 : Model) where
   pub record Sure (k : ℕ) (columns : ℕ → List ℕ) (doubtful m : List ℕ) (c : Closed) : Type 0 where
     pub repaired : Repaired k columns doubtful m c
     pub absent : marginFor 𝓓 k columns doubtful m ≡ none
-    pub absent-byte : markIn 𝓓 (c .report) ≡ 0
+    pub absent-byte : runnerIn 𝓓 (c .report) ≡ 0
 
   abbrev pub Never : ℕ → (ℕ → List ℕ) → List ℕ → List ℕ → List ℕ → List ℕ → Closed → Type 0
   Never k columns doubtful m message report c = Repaired k columns doubtful m c ⊎ RefusedAs noneNear message report c
@@ -376,7 +376,7 @@ module _ (𝓓 : Model) where
             repaired = r;
             absent = absent;
             absent-byte =
-                ap (markIn 𝓓) (r .report) ∙ margin-byte 𝓓 (book .rate) (columnsOf 𝓓 (book .row)) (book .doubtful) m ∙ ap markOf absent ∙ mark-none;
+                ap (runnerIn 𝓓) (r .report) ∙ margin-byte 𝓓 (book .rate) (columnsOf 𝓓 (book .row)) (book .doubtful) m ∙ ap runnerOf absent ∙ runner-none;
           }
 
       -- with no doubtful place

@@ -3,10 +3,10 @@
 -- has.
 --
 --   numberIn n i bytes     the number in n bytes from byte i on, high byte first
---   totalIn, testsIn, pinnedIn, changedIn, markIn, marginIn, cheapestIn   the numbers that a report's bytes hold
---   markOf margin, amountOf margin   1 and the margin where there is one; 0 and 0 where there is none (mark-none)
+--   totalIn, testsIn, pinnedIn, changedIn, runnerIn, marginIn, markIn   the numbers that a report's bytes hold
+--   runnerOf margin, amountOf margin   1 and the margin where there is one; 0 and 0 where there is none (runner-none)
 --   margin-byte            the report's byte for that, of any columns
---   Shows report total tests pinned changed margin cheapest   the report has its length in bytes, and they hold these numbers: none of them is cut
+--   Shows report total tests pinned changed margin mark   the report has its length in bytes, and they hold these numbers: none of them is cut
 --   reads-back             numbers that fit their bytes are read off the report that is made of them
 --   test-words-few, test-count-fits   with no more doubtful places than the largest doubt there are at most 2 to the power of it test words, and the number
 --                          of those with a codeword within T fits its two bytes
@@ -88,30 +88,30 @@ bytes-below (suc n) v = both-below (bytesOf n (v / 256)) (v % 256 ∷ []) (bytes
 
 -- ---- a margin as two numbers
 
-unfoldable pub markOf : Option ℕ → ℕ
-markOf none = 0
-markOf (some d) = 1
+unfoldable pub runnerOf : Option ℕ → ℕ
+runnerOf none = 0
+runnerOf (some d) = 1
 
 unfoldable pub amountOf : Option ℕ → ℕ
 amountOf none = 0
 amountOf (some d) = d
 
-pub mark-none : markOf none ≡ 0
-unfolding markOf
-mark-none = refl
+pub runner-none : runnerOf none ≡ 0
+unfolding runnerOf
+runner-none = refl
 
-mark-small : (margin : Option ℕ) → markOf margin < 256 ^ 1
-unfolding markOf
-mark-small none = omega arith
-mark-small (some d) = omega arith
+runner-small : (margin : Option ℕ) → runnerOf margin < 256 ^ 1
+unfolding runnerOf
+runner-small none = omega arith
+runner-small (some d) = omega arith
 
 amount-le : (margin : Option ℕ) {b : ℕ} → ((d : ℕ) → margin ≡ some d → d ≤ b) → amountOf margin ≤ b
 unfolding amountOf
 amount-le none h = omega arith
 amount-le (some d) h = h d refl
 
-margin-parts : (margin : Option ℕ) → marginBytes margin ≡ bytesOf 1 (markOf margin) ++ bytesOf 4 (amountOf margin)
-unfolding marginBytes markOf amountOf
+margin-parts : (margin : Option ℕ) → marginBytes margin ≡ bytesOf 1 (runnerOf margin) ++ bytesOf 4 (amountOf margin)
+unfolding marginBytes runnerOf amountOf
 margin-parts none = refl
 margin-parts (some d) = refl
 
@@ -124,35 +124,35 @@ module _ (𝓓 : Model) where
   abbrev pub changedIn : List ℕ → ℕ
   changedIn report = numberIn wide (6 + wide) report
 
-  abbrev pub markIn : List ℕ → ℕ
-  markIn report = numberIn 1 (6 + wide + wide) report
+  abbrev pub runnerIn : List ℕ → ℕ
+  runnerIn report = numberIn 1 (6 + wide + wide) report
 
   abbrev pub marginIn : List ℕ → ℕ
   marginIn report = numberIn 4 (7 + wide + wide) report
 
-  abbrev pub cheapestIn : List ℕ → ℕ
-  cheapestIn report = numberIn 1 (11 + wide + wide) report
+  abbrev pub markIn : List ℕ → ℕ
+  markIn report = numberIn 1 (11 + wide + wide) report
 
-  pub record Shows (report : List ℕ) (total tests pinned changed : ℕ) (margin : Option ℕ) (cheapest : ℕ) : Type 0 where
+  pub record Shows (report : List ℕ) (total tests pinned changed : ℕ) (margin : Option ℕ) (mark : ℕ) : Type 0 where
     pub size : length report ≡ reportLength 𝓓
     pub bytes : below 256 report ≡ true
     pub total-there : totalIn report ≡ total
     pub tests-there : testsIn report ≡ tests
     pub pinned-there : pinnedIn report ≡ pinned
     pub changed-there : changedIn report ≡ changed
-    pub mark-there : markIn report ≡ markOf margin
+    pub runner-there : runnerIn report ≡ runnerOf margin
     pub margin-there : marginIn report ≡ amountOf margin
-    pub cheapest-there : cheapestIn report ≡ cheapest
+    pub mark-there : markIn report ≡ mark
 
   -- ---- numbers that fit their bytes
 
-  module _ (total tests pinned changed : ℕ) (margin : Option ℕ) (cheapest : ℕ) where
+  module _ (total tests pinned changed : ℕ) (margin : Option ℕ) (mark : ℕ) where
     whole : List ℕ
-    whole = reportOf wide total tests pinned changed margin cheapest
+    whole = reportOf wide total tests pinned changed margin mark
 
     -- the last byte
     last : List ℕ
-    last = bytesOf 1 cheapest
+    last = bytesOf 1 mark
 
     -- the bytes before each count of places, and those before the margin
     front : List ℕ
@@ -173,8 +173,8 @@ module _ (𝓓 : Model) where
     counts-length =
         omega (arith, length-append (front ++ bytesOf wide pinned) (bytesOf wide changed), pinned-length, bytesOf-length wide changed)
 
-    mark-length : length (counts ++ bytesOf 1 (markOf margin)) ≡ 7 + wide + wide
-    mark-length = omega (arith, length-append counts (bytesOf 1 (markOf margin)), counts-length, bytesOf-length 1 (markOf margin))
+    runner-length : length (counts ++ bytesOf 1 (runnerOf margin)) ≡ 7 + wide + wide
+    runner-length = omega (arith, length-append counts (bytesOf 1 (runnerOf margin)), counts-length, bytesOf-length 1 (runnerOf margin))
 
     from-pinned : whole ≡ front ++ (bytesOf wide pinned ++ (bytesOf wide changed ++ (marginBytes margin ++ last)))
     unfolding whole front last reportOf
@@ -183,29 +183,29 @@ module _ (𝓓 : Model) where
     from-changed : whole ≡ (front ++ bytesOf wide pinned) ++ (bytesOf wide changed ++ (marginBytes margin ++ last))
     from-changed = from-pinned ∙ sym (append-assoc front (bytesOf wide pinned) (bytesOf wide changed ++ (marginBytes margin ++ last)))
 
-    from-mark : whole ≡ counts ++ (bytesOf 1 (markOf margin) ++ (bytesOf 4 (amountOf margin) ++ last))
+    from-runner : whole ≡ counts ++ (bytesOf 1 (runnerOf margin) ++ (bytesOf 4 (amountOf margin) ++ last))
     unfolding counts
-    from-mark =
+    from-runner =
         from-changed ∙ sym (append-assoc (front ++ bytesOf wide pinned) (bytesOf wide changed) (marginBytes margin ++ last))
         ∙ ap (λ l. counts ++ (l ++ last)) (margin-parts margin)
-        ∙ ap (λ l. counts ++ l) (append-assoc (bytesOf 1 (markOf margin)) (bytesOf 4 (amountOf margin)) last)
+        ∙ ap (λ l. counts ++ l) (append-assoc (bytesOf 1 (runnerOf margin)) (bytesOf 4 (amountOf margin)) last)
 
-    from-margin : whole ≡ (counts ++ bytesOf 1 (markOf margin)) ++ (bytesOf 4 (amountOf margin) ++ last)
-    from-margin = from-mark ∙ sym (append-assoc counts (bytesOf 1 (markOf margin)) (bytesOf 4 (amountOf margin) ++ last))
+    from-margin : whole ≡ (counts ++ bytesOf 1 (runnerOf margin)) ++ (bytesOf 4 (amountOf margin) ++ last)
+    from-margin = from-runner ∙ sym (append-assoc counts (bytesOf 1 (runnerOf margin)) (bytesOf 4 (amountOf margin) ++ last))
 
     before : List ℕ
-    before = (counts ++ bytesOf 1 (markOf margin)) ++ bytesOf 4 (amountOf margin)
+    before = (counts ++ bytesOf 1 (runnerOf margin)) ++ bytesOf 4 (amountOf margin)
 
     before-length : length before ≡ 11 + wide + wide
     unfolding before
     before-length =
-        omega (arith, length-append (counts ++ bytesOf 1 (markOf margin)) (bytesOf 4 (amountOf margin)), mark-length, bytesOf-length 4 (amountOf margin))
+        omega (arith, length-append (counts ++ bytesOf 1 (runnerOf margin)) (bytesOf 4 (amountOf margin)), runner-length, bytesOf-length 4 (amountOf margin))
 
-    from-last : whole ≡ before ++ (bytesOf 1 cheapest ++ [])
+    from-last : whole ≡ before ++ (bytesOf 1 mark ++ [])
     unfolding before last
     from-last =
-        from-margin ∙ sym (append-assoc (counts ++ bytesOf 1 (markOf margin)) (bytesOf 4 (amountOf margin)) (bytesOf 1 cheapest))
-        ∙ ap (λ l. before ++ l) (sym (append-nil (bytesOf 1 cheapest)))
+        from-margin ∙ sym (append-assoc (counts ++ bytesOf 1 (runnerOf margin)) (bytesOf 4 (amountOf margin)) (bytesOf 1 mark))
+        ∙ ap (λ l. before ++ l) (sym (append-nil (bytesOf 1 mark)))
 
     report-below : below 256 whole ≡ true
     unfolding whole reportOf
@@ -216,31 +216,31 @@ module _ (𝓓 : Model) where
         (both-below (bytesOf wide changed) _ (bytes-below wide changed)
         (both-below (marginBytes margin) _
         (ap (below 256) (margin-parts margin)
-        ∙ both-below (bytesOf 1 (markOf margin)) _ (bytes-below 1 (markOf margin)) (bytes-below 4 (amountOf margin)))
-        (bytes-below 1 cheapest)))))
+        ∙ both-below (bytesOf 1 (runnerOf margin)) _ (bytes-below 1 (runnerOf margin)) (bytes-below 4 (amountOf margin)))
+        (bytes-below 1 mark)))))
 
-    mark-read : markIn whole ≡ markOf margin
-    mark-read =
-        ap (numberIn 1 (6 + wide + wide)) from-mark ∙ number-there 1 (6 + wide + wide) (markOf margin) counts _ counts-length (mark-small margin)
+    runner-read : runnerIn whole ≡ runnerOf margin
+    runner-read =
+        ap (numberIn 1 (6 + wide + wide)) from-runner ∙ number-there 1 (6 + wide + wide) (runnerOf margin) counts _ counts-length (runner-small margin)
 
     pub reads-back : total < 256 ^ 4 → tests < 256 ^ 2 → pinned < 256 ^ wide → changed < 256 ^ wide → amountOf margin < 256 ^ 4
-        → cheapest < 256 ^ 1 → Shows (reportOf wide total tests pinned changed margin cheapest) total tests pinned changed margin cheapest
+        → mark < 256 ^ 1 → Shows (reportOf wide total tests pinned changed margin mark) total tests pinned changed margin mark
     unfolding whole reportOf bytesOf
     reads-back a b c d e f =
         let a′ : total < 4294967296 = a in
         let b′ : tests < 65536 = b in
         record {
-          size = reportOf-length wide total tests pinned changed margin cheapest;
+          size = reportOf-length wide total tests pinned changed margin mark;
           bytes = report-below;
           total-there = omega arith;
           tests-there = omega arith;
           pinned-there = ap (numberIn wide 6) from-pinned ∙ number-there wide 6 pinned front _ front-length c;
           changed-there = ap (numberIn wide (6 + wide)) from-changed ∙ number-there wide (6 + wide) changed (front ++ bytesOf wide pinned) _ pinned-length d;
-          mark-there = mark-read;
+          runner-there = runner-read;
           margin-there =
               ap (numberIn 4 (7 + wide + wide)) from-margin
-              ∙ number-there 4 (7 + wide + wide) (amountOf margin) (counts ++ bytesOf 1 (markOf margin)) last mark-length e;
-          cheapest-there = ap (numberIn 1 (11 + wide + wide)) from-last ∙ number-there 1 (11 + wide + wide) cheapest before [] before-length f;
+              ∙ number-there 4 (7 + wide + wide) (amountOf margin) (counts ++ bytesOf 1 (runnerOf margin)) last runner-length e;
+          mark-there = ap (numberIn 1 (11 + wide + wide)) from-last ∙ number-there 1 (11 + wide + wide) mark before [] before-length f;
         }
 
   -- ---- the test words: document 02's 'up to 4,096 test words, and the test count still fits its two bytes'
@@ -265,10 +265,10 @@ module _ (𝓓 : Model) where
       (bit (markedOf member k columns m))
 
   -- whether there is a margin, of all columns
-  pub margin-byte : (k : ℕ) (columns : ℕ → List ℕ) (doubtful m : List ℕ) → markIn (reportFor 𝓓 k columns doubtful m) ≡ markOf (marginFor 𝓓 k columns doubtful m)
+  pub margin-byte : (k : ℕ) (columns : ℕ → List ℕ) (doubtful m : List ℕ) → runnerIn (reportFor 𝓓 k columns doubtful m) ≡ runnerOf (marginFor 𝓓 k columns doubtful m)
   unfolding reportFor whole
   margin-byte k columns doubtful m =
-      mark-read (totalOf (places 𝓓) columns (encodeOf member k m)) (testsFor 𝓓 k columns doubtful) (pinnedOf (places 𝓓) columns (encodeOf member k m))
+      runner-read (totalOf (places 𝓓) columns (encodeOf member k m)) (testsFor 𝓓 k columns doubtful) (pinnedOf (places 𝓓) columns (encodeOf member k m))
       (changedOf (places 𝓓) columns (encodeOf member k m)) (marginFor 𝓓 k columns doubtful m) (bit (markedOf member k columns m))
 
   pub report-shows : {columns : ℕ → List ℕ} → AreColumns 𝓓 columns → (k : ℕ) (doubtful m : List ℕ) → length doubtful ≤ mostDoubt

@@ -38,7 +38,7 @@ use Rattle.book.specs.Table.{closed, table-rate, checks-passed}
 use Rattle.book.specs.Below.{below-accepted, below-as-table, below-picked, doubtFor}
 use Rattle.book.specs.Bits.{bits-as-table, bits-refused, made-columns}
 use Rattle.book.specs.Table as Table
-use Rattle.book.specs.Here.{places, width, cheapestIn, cheapest-byte, columnsOf, closeOf, tableColumns, pickedOf, pickedBelow, tableOf, tableBelowOf, frameLength, power, tableMade, bitsOf, checksOf, AreColumns}
+use Rattle.book.specs.Here.{places, width, markIn, mark-byte, columnsOf, closeOf, tableColumns, pickedOf, pickedBelow, tableOf, tableBelowOf, frameLength, power, tableMade, bitsOf, checksOf, AreColumns}
 use Rattle.session.specs.declared.Session.{Session}
 use Rattle.session.specs.Answering.{Closing}
 use Rattle.session.specs.View.{held, bookOf, Good}
@@ -48,7 +48,7 @@ use Rattle.session.specs.Laws.{good-proper}
 
 pub record Told (k : ℕ) (columns : ℕ → List ℕ) (doubtful : List ℕ) (c : Closed) : Type 0 where
   pub shows : c .number ≡ accepted → Reported modem64 k columns doubtful c
-  pub cheapest : c .number ≡ accepted → cheapestIn (c .report) ≡ 1 → Cheapest modem64 k columns (c .message)
+  pub cheapest : c .number ≡ accepted → markIn (c .report) ≡ 1 → Cheapest modem64 k columns (c .message)
 
 pub record TableTold (rate : ℕ) (table : List ℕ) (doubt : ℕ) (message report : List ℕ) (c : Closed) : Type 0 where
   pub answers : c ≡ tableOf rate table doubt message report
@@ -88,7 +88,7 @@ module _ (rate : ℕ) (table : List ℕ) (message report : List ℕ) where
   table-told small doubt =
       record {
         shows = table-shows modem64 rate table doubt message report small;
-        cheapest = λ n mark. table-marked modem64 (table-known doubt n) table doubt message report small n (cheapest-byte _ ∙ mark);
+        cheapest = λ n mark. table-marked modem64 (table-known doubt n) table doubt message report small n (mark-byte _ ∙ mark);
       }
 
   pub below-told : below 256 table ≡ true → (threshold most : ℕ)
@@ -169,11 +169,11 @@ session-told s message report small good = record { shows = shows; cheapest = λ
         (report-shows modem64 columns (s .rate) (bookOf s .doubtful) (closeOf (bookOf s) message report .message)
         (list-short modem64 (bookOf s .doubtful) (good-proper s good .list-fit)))
 
-    cheapest : closeOf (bookOf s) message report .number ≡ accepted → cheapestIn (closeOf (bookOf s) message report .report) ≡ 1
+    cheapest : closeOf (bookOf s) message report .number ≡ accepted → markIn (closeOf (bookOf s) message report .report) ≡ 1
         → Cheapest modem64 (s .rate) (columnsOf (bookOf s .row)) (closeOf (bookOf s) message report .message)
     cheapest n mark =
         shows-cheapest modem64 (bookOf s .doubtful) (good-proper s good .rate-known) columns (close-word modem64 (bookOf s) message report n) (shows n)
-        (cheapest-byte _ ∙ mark)
+        (mark-byte _ ∙ mark)
 
 -- ---- look-ups
 

@@ -16,8 +16,8 @@ use mathlib.Core.Option.{Option, none, some}
 use Prim.Native.Nat.{ℕ, zero, suc, _/_, _%_}
 use lib.Dec.{ltb, eqb}
 use Rattle.io.specs.Digits.{glyph}
-use Rattle.book.specs.Report.{totalIn, testsIn, markOf, amountOf}
-use Rattle.book.specs.Here.{pinnedIn, changedIn, markIn, marginIn, pinned-byte, changed-byte, mark-byte, margin-bytes, Shows}
+use Rattle.book.specs.Report.{totalIn, testsIn, runnerOf, amountOf}
+use Rattle.book.specs.Here.{pinnedIn, changedIn, runnerIn, marginIn, pinned-byte, changed-byte, runner-byte, margin-bytes, Shows}
 
 abbrev pub space : ℕ
 space = 32
@@ -43,7 +43,7 @@ unfoldable pub numberLine : ℕ → ℕ → List ℕ
 numberLine n end = decimalOf n ++ (end ∷ [])
 
 unfoldable pub marginLine : List ℕ → List ℕ
-marginLine report = cond (eqb (markIn report) 1) (numberLine (marginIn report) newline) (dash ∷ newline ∷ [])
+marginLine report = cond (eqb (runnerIn report) 1) (numberLine (marginIn report) newline) (dash ∷ newline ∷ [])
 
 unfoldable pub headingOf : ℕ → ℕ → List ℕ → List ℕ
 headingOf rate d report =
@@ -55,9 +55,9 @@ unfoldable pub marginText : Option ℕ → List ℕ
 marginText none = dash ∷ newline ∷ []
 marginText (some d) = numberLine d newline
 
-margin-shows : (report : List ℕ) (margin : Option ℕ) → markIn report ≡ markOf margin → marginIn report ≡ amountOf margin
+margin-shows : (report : List ℕ) (margin : Option ℕ) → runnerIn report ≡ runnerOf margin → marginIn report ≡ amountOf margin
     → marginLine report ≡ marginText margin
-unfolding marginLine marginText markOf amountOf
+unfolding marginLine marginText runnerOf amountOf
 margin-shows report none e f = ap (λ n. cond (eqb n 1) (numberLine (marginIn report) newline) (dash ∷ newline ∷ [])) e
 margin-shows report (some d) e f =
     ap (λ n. cond (eqb n 1) (numberLine (marginIn report) newline) (dash ∷ newline ∷ [])) e ∙ ap (λ n. numberLine n newline) f
@@ -74,7 +74,7 @@ heading-shows rate d {report} {margin = margin} s =
       s .tests-there,
       sym (pinned-byte report) ∙ s .pinned-there,
       sym (changed-byte report) ∙ s .changed-there,
-      margin-shows report margin (sym (mark-byte report) ∙ s .mark-there) (sym (margin-bytes report) ∙ s .margin-there),
+      margin-shows report margin (sym (runner-byte report) ∙ s .runner-there) (sym (margin-bytes report) ∙ s .margin-there),
     )
 
 unfoldable pub messageLine : List ℕ → List ℕ

@@ -5,22 +5,22 @@ use mathlib.Core.List.{List, [], _∷_}
 use Prim.Native.Nat.{ℕ}
 use native.Mathlib.Omega.{arith}
 use borrow.Author.Tests.{eq-eqb, ne-eqb}
-use Rattle.book.specs.Here.{markIn, marginIn}
+use Rattle.book.specs.Here.{runnerIn, marginIn}
 use Rattle.text.specs.Text.{newline, dash, numberLine, marginLine}
 use Rattle.text.specs.Appended.{appended-as}
 use borrow.Author.Needs.{needs}
 use Rattle.text.proofs.put_margin.Statement.{statement}
 use Rattle.text.proofs.put_margin.Tie as tie
 
-absent : (report : List ℕ) → (markIn report ≡ 1 → ⊥) → dash ∷ newline ∷ [] ≡ marginLine report
+absent : (report : List ℕ) → (runnerIn report ≡ 1 → ⊥) → dash ∷ newline ∷ [] ≡ marginLine report
 unfolding marginLine
-absent report h = sym (ap (λ b. cond b (numberLine (marginIn report) newline) (dash ∷ newline ∷ [])) (ne-eqb (markIn report) 1 h))
+absent report h = sym (ap (λ b. cond b (numberLine (marginIn report) newline) (dash ∷ newline ∷ [])) (ne-eqb (runnerIn report) 1 h))
 
-present : (report : List ℕ) {n : ℕ} → markIn report ≡ 1 → n ≡ marginIn report → numberLine n newline ≡ marginLine report
+present : (report : List ℕ) {n : ℕ} → runnerIn report ≡ 1 → n ≡ marginIn report → numberLine n newline ≡ marginLine report
 unfolding marginLine
 present report h e =
     ap (λ x. numberLine x newline) e
-    ∙ sym (ap (λ b. cond b (numberLine (marginIn report) newline) (dash ∷ newline ∷ [])) (eq-eqb (markIn report) 1 h))
+    ∙ sym (ap (λ b. cond b (numberLine (marginIn report) newline) (dash ∷ newline ∷ [])) (eq-eqb (runnerIn report) 1 h))
 
 array-read-if1 : tie.Need-array-read-if1
 array-read-if1 c = search needs
