@@ -1,16 +1,21 @@
 -- What the numbers of a statement are: each is the largest of its kind.
 --
 --   Most P n          n is the largest number with P
---   Sure k b d        d doubtful places that are not blank are so few that no two codewords are near (near Rivals no-second)
---   Alone k b e       with e wrong settled and doubtful places together no other codeword than the sent one is near (book Repairs TooFar, Sure)
+--   Sure k b d        d doubtful places that are not blank are so few that no two codewords are near
+--   sure-few          the largest such d is the most that near Rivals no-second takes (FewDoubtful)
+--   Alone k b e       with e wrong settled and doubtful places together no other codeword than the sent one is near: the inequality of book
+--                     Repairs Alone, and of TooFar where none is doubtful
 --   BurstWithin T l   l bits in a row, four a symbol, lie within T symbols, wherever they begin
 use mathlib.Core.Path.{_≡_, sym, subst}
-use mathlib.Core.Logic.{⊎-elim}
+use mathlib.Core.List.{List}
+use mathlib.Core.Logic.{⊎-elim, _↔_}
+use lib.ListN.{length}
 use Prim.Native.Nat.{ℕ, _+_, _-_, _*_, _/_, _<_, _≤_}
 use native.Mathlib.Omega.{arith}
 use Rattle.lists.specs.Chosen.{lt-or-le}
 use Rattle.soft.specs.Column.{places}
-use Rattle.near.specs.Here.{mOf, blankLimit, reachOf}
+use Rattle.near.specs.Here.{mOf, blankLimit, reachOf, reachIn, blanksIn, FewDoubtful}
+use Rattle.near.specs.Rivals.{doubled}
 use Rattle.near.specs.Near as Near
 use Rattle.hermitian.specs.Present.{genus}
 use Rattle.candidate.specs.Ranged.{Ranged}
@@ -36,6 +41,11 @@ room h few = omega (arith, h .least, h .most)
 pub sure-most : {k b : ℕ} → Ranged k → b ≤ blankLimit k → Most (Sure k b) (places - mOf k - 1 - 2 * reachOf k b - b)
 unfolding Sure
 sure-most h few = record { holds = omega (arith, room h few); most = λ m l. omega (arith, room h few, l) }
+
+pub sure-few : (k : ℕ) {r : ℕ} (columns : ℕ → List ℕ) (doubtful : List ℕ) → Most (Sure k (blanksIn columns)) r
+    → FewDoubtful k columns doubtful (reachIn k columns) ↔ (length (doubled columns doubtful) ≤ r)
+unfolding Sure
+sure-few k columns doubtful most = (λ few. most .most (length (doubled columns doubtful)) few, λ l. omega (arith, l, most .holds))
 
 pub alone-most : {k b : ℕ} → Ranged k → b ≤ blankLimit k → Most (Alone k b) (places - mOf k - 1 - reachOf k b - b)
 unfolding Alone

@@ -45,12 +45,12 @@ fn doubtful(k: usize)
 {
     tell(
         k,
-        b"  [`book` Repairs `always-repaired`, `table-repaired`; `runs` Repaired `run-repaired`]\n\
+        b"  [`book` Repairs `always-repaired`; `book` TableRepairs `table-repaired`; `runs` Repaired `run-repaired`]\n\
         - The same with up to @d doubtful places beside, none blank: the sent symbol is best or second at each of\n\
         \x20 them, and best at all settled ones but @T at most. No other codeword is near, so that the report has no\n\
         \x20 margin.\n\
-        \x20 [`near` Rivals `no-second`; `book` Sure `always-sure`, `table-sure`, `below-sure`, `bits-sure`;\n\
-        \x20 `runs` Repaired `run-sure`]\n",
+        \x20 [`near` Rivals `no-second`; `book` Repairs `always-sure`; `book` TableRepairs `table-sure`, `below-sure`,\n\
+        \x20 `bits-sure`; `runs` Repaired `run-sure`]\n",
     );
 }
 
@@ -67,7 +67,8 @@ fn faded(k: usize)
     tell(
         k,
         b"- Any @B blank place@p, whatever was sent there, with the sent symbol best at all others.\n\
-        \x20 [`book` Repairs `faded-repaired`, `faded-right`, `table-faded`; `runs` Repaired `run-faded`]\n",
+        \x20 [`book` Repairs `faded-repaired`, `faded-right`; `book` TableRepairs `table-faded`; `runs` Repaired\n\
+        \x20 `run-faded`]\n",
     );
 }
 
@@ -78,10 +79,10 @@ fn together(k: usize)
         k,
         b"- With more doubtful places, up to 12, and these symbols best or second, the frame is never refused: the\n\
         \x20 answer is the sent message or one that costs no more.\n\
-        \x20 [`book` Repairs `always-found`, `table-found`; `runs` Repaired `run-found`]\n\
+        \x20 [`book` Repairs `always-found`; `book` TableRepairs `table-found`; `runs` Repaired `run-found`]\n\
         - Blank, wrong and doubtful places together: so many wrong settled places are repaired, with so many\n\
         \x20 doubtful ones beside them; the last number is explained below.\n\
-        \x20 [`near` Reach `reach-is`, `reach-only`; `numbers` Most `sure-most`, `alone-most`]\n\n\
+        \x20 [`near` Reach `reach-is`, `reach-only`; `numbers` Most `sure-most`, `sure-few`, `alone-most`]\n\n\
         | blank | wrong | doubtful | never another |\n\
         |---|---|---|---|\n",
     );
@@ -104,11 +105,12 @@ fn refused(k: usize)
         b"\n## Always refused, and never another message\n\n\
         - @f to @e wrong symbols, with no place doubtful and none blank: always refused as 'none near' (9), and\n\
         \x20 the buffers stay as they were.\n\
-        \x20 [`book` Repairs `always-refused`, `table-refused`; `runs` Repaired `run-refused`]\n\
+        \x20 [`book` Repairs `always-refused`; `book` TableRepairs `table-refused`; `runs` Repaired `run-refused`]\n\
         - Up to @e places that are doubtful, or settled and wrong, and none blank: the answer is the sent message\n\
         \x20 or 'none near', and never a message that nobody sent. It does not matter which symbols are best or\n\
         \x20 second at the doubtful places. With blank places: the last number of the table.\n\
-        \x20 [`book` Sure `never-another`, `table-never`, `below-never`, `bits-never`; `runs` Repaired `run-never`]\n\
+        \x20 [`book` Repairs `never-another`; `book` TableRepairs `table-never`, `below-never`, `bits-never`;\n\
+        \x20 `runs` Repaired `run-never`]\n\
         - More than @B blank place@p: always refused, with 12.\n\
         \x20 [`book` Table `table-too-blank`, `table-blank-only`; `runs` Demand3 `whole`]\n\
         - Beyond these numbers nothing is promised of a frame by itself: another message may be handed up.\n\n",

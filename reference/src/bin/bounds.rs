@@ -70,7 +70,8 @@ fn main() -> ExitCode {
 }
 
 fn try_all(tables: &str, pages: &str) -> Result<String, String> {
-    let read = |name: &str| std::fs::read_to_string(name).map_err(|error| format!("{name}: {error}"));
+    let read =
+        |name: &str| std::fs::read_to_string(name).map_err(|error| format!("{name}: {error}"));
     let (tables, pages) = (read(tables)?, read(pages)?);
     let mut random = Random::new(50, 0);
     let mut tried = Tried::default();
@@ -89,9 +90,15 @@ fn try_all(tables: &str, pages: &str) -> Result<String, String> {
     tried.check()
 }
 
-/// The rows of numbers of a text, by their first cell; other cells than numbers are left out.
+/// The numbers of each row of a text whose first cell is one; other cells than numbers are left out.
 fn rows(text: &str) -> impl Iterator<Item = Vec<usize>> + '_ {
-    text.lines().filter(|line| line.starts_with("| ")).map(|line| {
+    let first = |line: &&str| {
+        let cell = line
+            .strip_prefix("| ")
+            .and_then(|rest| rest.split(' ').next());
+        cell.is_some_and(|cell| cell.parse::<usize>().is_ok())
+    };
+    text.lines().filter(first).map(|line| {
         let cells = line.split([' ', '|', '^']);
         cells.filter_map(|cell| cell.parse().ok()).collect()
     })
@@ -100,18 +107,28 @@ fn rows(text: &str) -> impl Iterator<Item = Vec<usize>> + '_ {
 /// The lines of a rate's page.
 fn lines_of(pages: &str, rate: u64) -> Result<Vec<Line>, String> {
     let head = format!("# Rate {rate}\n");
-    let page = pages.split_once(&head).ok_or(format!("no page of rate {rate}"))?.1;
+    let page = pages
+        .split_once(&head)
+        .ok_or(format!("no page of rate {rate}"))?
+        .1;
     let page = page.split("\n# Rate").next().unwrap_or(page);
     let lines: Vec<Line> = rows(page)
         .filter_map(|row| match row[..] {
-            [blank, wrong, doubtful, never] => Some(Line { blank, wrong, doubtful, never }),
+            [blank, wrong, doubtful, never] => Some(Line {
+                blank,
+                wrong,
+                doubtful,
+                never,
+            }),
             _ => None,
         })
         .collect();
     let rising = lines.iter().enumerate().all(|(at, line)| line.blank == at);
     match rising && !lines.is_empty() {
         true => Ok(lines),
-        false => Err(format!("rate {rate}: the page's lines do not go up from no blank place")),
+        false => Err(format!(
+            "rate {rate}: the page's lines do not go up from no blank place"
+        )),
     }
 }
 
@@ -120,32 +137,54 @@ fn lines_of(pages: &str, rate: u64) -> Result<Vec<Line>, String> {
 fn row_of(tables: &str, rate: u64) -> Result<[usize; 13], String> {
     let found = rows(tables).find(|row| row.first() == Some(&(rate as usize)));
     let row = found.ok_or(format!("no row of rate {rate}"))?;
-    row.try_into().map_err(|row| format!("rate {rate}: the row has other numbers than 13: {row:?}"))
+    row.try_into()
+        .map_err(|row| format!("rate {rate}: the row has other numbers than 13: {row:?}"))
 }
 
 /// The tables say what the page says.
 fn agree(tables: &str, rate: u64, lines: &[Line]) -> Result<(), String> {
     let row = row_of(tables, rate)?;
-    let [_, wrong, doubtful, from, to, never, blank, ..] = row;
-    let first = Line { blank: 0, wrong, doubtful, never };
+    let [_, wrong, doubtful, from, to, never, blank, distance, ..] = row;
+    if distance != PLACES - Code::of_rate(rate).expect("a known rate").top {
+        return Err(format!("rate {rate}: another distance than 64 - M"));
+    }
+    let first = Line {
+        blank: 0,
+        wrong,
+        doubtful,
+        never,
+    };
     if first != lines[0] || from != wrong + 1 || to != never || blank + 1 != lines.len() {
         return Err(format!("rate {rate}: the table and the page differ"));
     }
-    let second = tables.split_once("\n| Rate | 0 |").ok_or("no table by blank places")?.1;
+    let second = tables
+        .split_once("\n| Rate | 0 |")
+        .ok_or("no table by blank places")?
+        .1;
     let columns: Vec<usize> = [&[0][..], &numbers(second.lines().next().unwrap_or(""))].concat();
-    let row = second.lines().find(|line| line.starts_with(&format!("| {rate} |")));
-    let cells: Vec<&str> = row.ok_or("no row by blank places")?.split('|').skip(2).collect();
+    let row = second
+        .lines()
+        .find(|line| line.starts_with(&format!("| {rate} |")));
+    let cells: Vec<&str> = row
+        .ok_or("no row by blank places")?
+        .split('|')
+        .skip(2)
+        .collect();
     for (blank, cell) in columns.into_iter().zip(cells) {
         let said = lines.get(blank).map(|line| line.wrong.to_string());
         if said.as_deref().unwrap_or("-") != cell.trim() {
-            return Err(format!("rate {rate}, {blank} blank: the second table and the page differ"));
+            return Err(format!(
+                "rate {rate}, {blank} blank: the second table and the page differ"
+            ));
         }
     }
     Ok(())
 }
 
 fn numbers(line: &str) -> Vec<usize> {
-    line.split([' ', '|']).filter_map(|cell| cell.parse().ok()).collect()
+    line.split([' ', '|'])
+        .filter_map(|cell| cell.parse().ok())
+        .collect()
 }
 
 /// How often each sort was tried, inside its bound and outside.
@@ -160,9 +199,19 @@ struct Tried {
 
 impl Tried {
     fn check(&self) -> Result<String, String> {
-        let Tried { inside, refused, other, margins, bursts } = self;
+        let Tried {
+            inside,
+            refused,
+            other,
+            margins,
+            bursts,
+        } = self;
         // Of the 47 rates 44 have a known codeword of least weight, with 1128 - 47 - 5 - 1 lines.
-        if *other < 44 * ROUNDS || *margins < 44 * ROUNDS || *refused < 47 * ROUNDS || *bursts < 45 * ROUNDS {
+        if *other < 44 * ROUNDS
+            || *margins < 44 * ROUNDS
+            || *refused < 47 * ROUNDS
+            || *bursts < 45 * ROUNDS
+        {
             return Err("a sort of frame was tried too seldom".to_string());
         }
         Ok(format!(
@@ -199,7 +248,12 @@ enum Role {
 impl<'a> Around<'a> {
     fn new(rate: u64, random: &'a mut Random, tried: &'a mut Tried) -> Around<'a> {
         let code = Code::of_rate(rate).expect("a known rate");
-        Around { rate, code, random, tried }
+        Around {
+            rate,
+            code,
+            random,
+            tried,
+        }
     }
 
     /// Whether the other codeword is at the least distance that is stated.
@@ -222,13 +276,18 @@ impl<'a> Around<'a> {
     /// what comes of it.
     fn came(&mut self, roles: &[(Role, usize)]) -> Came {
         let (sent, other, places) = self.two();
-        let mut columns: Columns = std::array::from_fn(|place| column(sent.get(place), None, SETTLED_GAP));
+        let mut columns: Columns =
+            std::array::from_fn(|place| column(sent.get(place), None, SETTLED_GAP));
         let mut doubt = 0;
         let mut at = 0;
         for (role, count) in roles {
             for place in &places[at..at + count] {
                 let (own, others) = (sent.get(*place), other.get(*place));
-                let others = if others == own { self.random.other_symbol(own) } else { others };
+                let others = if others == own {
+                    self.random.other_symbol(own)
+                } else {
+                    others
+                };
                 let third = (0..16).find(|symbol| ![own, others].contains(symbol));
                 columns[*place] = match role {
                     Role::Blank => [7; 16],
@@ -249,9 +308,17 @@ impl<'a> Around<'a> {
     fn decoded(&mut self, sent: &Row, columns: &Columns, doubt: u64) -> Came {
         let mut message = vec![LENT; self.rate as usize];
         let mut report = [LENT; REPORT_BYTES];
-        let number = PROVED_TABLE(self.rate, &table_of_columns(columns), doubt, &mut message, &mut report);
+        let number = PROVED_TABLE(
+            self.rate,
+            &table_of_columns(columns),
+            doubt,
+            &mut message,
+            &mut report,
+        );
         match number {
-            0 if self.code.codeword(&message) == *sent => Came::Sent { margin: margin_of(&report).is_some() },
+            0 if self.code.codeword(&message) == *sent => Came::Sent {
+                margin: margin_of(&report).is_some(),
+            },
             0 => Came::Other,
             _ => {
                 let kept = message.iter().chain(&report).all(|byte| *byte == LENT);
@@ -260,7 +327,13 @@ impl<'a> Around<'a> {
         }
     }
 
-    fn expect(&mut self, what: &str, line: Line, came: Came, wanted: &[Came]) -> Result<(), String> {
+    fn expect(
+        &mut self,
+        what: &str,
+        line: Line,
+        came: Came,
+        wanted: &[Came],
+    ) -> Result<(), String> {
         if !wanted.contains(&came) {
             return Err(format!("rate {}, {line:?}, {what}: {came:?}", self.rate));
         }
@@ -275,7 +348,12 @@ impl<'a> Around<'a> {
 
     /// Both sides of each number of a line.
     fn line(&mut self, line: Line) -> Result<(), String> {
-        let Line { blank, wrong, doubtful, never } = line;
+        let Line {
+            blank,
+            wrong,
+            doubtful,
+            never,
+        } = line;
         let lost = never.min(DOUBT_LIMIT);
         let blanks = (Role::Blank, blank);
         let came = self.came(&[blanks, (Role::Wrong, wrong)]);
@@ -307,7 +385,12 @@ impl<'a> Around<'a> {
 
     /// One more blank place than has a line, and all others right.
     fn too_blank(&mut self, blank: usize) -> Result<(), String> {
-        let line = Line { blank, wrong: 0, doubtful: 0, never: 0 };
+        let line = Line {
+            blank,
+            wrong: 0,
+            doubtful: 0,
+            never: 0,
+        };
         let came = self.came(&[(Role::Blank, blank)]);
         self.expect("one more blank", line, came, &[Came::Refused(12)])
     }
@@ -318,19 +401,38 @@ impl<'a> Around<'a> {
         if symbols == 0 {
             return Ok(());
         }
-        for (name, length, unit, whole) in [("symbols", symbols, 4, true), ("bits", frame_bits, 1, false)] {
+        for (name, length, unit, whole) in [
+            ("symbols", symbols, 4, true),
+            ("bits", frame_bits, 1, false),
+        ] {
             let start = self.random.below(unit_starts(length, unit));
             if self.status(start, length, unit)? != 0 {
-                return Err(format!("rate {}: a burst of {length} {name} is not repaired", self.rate));
+                return Err(format!(
+                    "rate {}: a burst of {length} {name} is not repaired",
+                    self.rate
+                ));
             }
             // Bits from the last of a symbol on touch one symbol more.
-            let start = if whole { start.min(SYMBOLS - length - 1) } else { start / 4 % 8 * 4 + 3 };
+            let start = if whole {
+                start.min(SYMBOLS - length - 1)
+            } else {
+                start / 4 % 8 * 4 + 3
+            };
             if self.status(start, length + 1, unit)? == 0 {
-                return Err(format!("rate {}: a burst of {} {name} is repaired", self.rate, length + 1));
+                return Err(format!(
+                    "rate {}: a burst of {} {name} is repaired",
+                    self.rate,
+                    length + 1
+                ));
             }
             self.tried.bursts += 2;
         }
-        let line = Line { blank: 0, wrong: 0, doubtful: 0, never: bits };
+        let line = Line {
+            blank: 0,
+            wrong: 0,
+            doubtful: 0,
+            never: bits,
+        };
         let start = self.random.below(4 * PLACES - bits + 1);
         let came = self.turned(start, bits);
         self.expect("bits in a row", line, came, &[ALONE])?;
@@ -345,13 +447,16 @@ impl<'a> Around<'a> {
         for bit in start..start + length {
             received[bit / 4] ^= 8 >> (bit % 4);
         }
-        let columns: Columns = std::array::from_fn(|place| column(received[place], None, SETTLED_GAP));
+        let columns: Columns =
+            std::array::from_fn(|place| column(received[place], None, SETTLED_GAP));
         self.decoded(&sent, &columns, 0)
     }
 
     /// The status of a superframe in which all bits from a start on are turned, in units of so many bits.
     fn status(&mut self, start: usize, length: usize, unit: usize) -> Result<u8, String> {
-        let sent: Vec<u8> = (0..WORDS * self.rate as usize).map(|_| self.random.symbol()).collect();
+        let sent: Vec<u8> = (0..WORDS * self.rate as usize)
+            .map(|_| self.random.symbol())
+            .collect();
         let mut frame = [0; FRAME_BYTES];
         (PROVED_SUPERFRAMES.build)(self.rate, &sent, &mut frame);
         for bit in start * unit..(start + length) * unit {
@@ -361,7 +466,10 @@ impl<'a> Around<'a> {
         let number = (PROVED_SUPERFRAMES.take_apart)(&frame, &mut messages, &mut status);
         match number == 0 && (status != 0 || messages == sent) {
             true => Ok(status),
-            false => Err(format!("rate {}: a superframe gives {number}, or another message", self.rate)),
+            false => Err(format!(
+                "rate {}: a superframe gives {number}, or another message",
+                self.rate
+            )),
         }
     }
 }
