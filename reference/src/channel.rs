@@ -2,6 +2,7 @@
 //!
 //! - [`Channel`], [`Channel::at`]: the noise of a rate at an Eb/N0.
 //! - [`Channel::values`]: what is received of one symbol.
+//! - [`torn`]: the costs of a place at which two symbols are nearly as likely.
 //! - [`LOST`], [`LOST_AS_ZERO`]: what a fade leaves of a symbol, and how document 01 takes it.
 //! - [`Channel::threshold`]: the gaps that stand for a ratio of likelihoods.
 //! - [`Channel::beyond`]: how likely more than T symbols are wrong, computed.
@@ -71,6 +72,21 @@ impl Channel {
         }
         1.0 - within
     }
+}
+
+/// A likelihood e times as large costs so much less in [`torn`], and every symbol but the two this much more.
+const COST_OF_E: f64 = 16.0;
+const FAR: u16 = 400;
+
+/// The column of a place at which the sent symbol is likelier than another one by a factor whose logarithm is
+/// normal, with this mean and twice as large a variance, as white noise makes it between any two signals.
+pub fn torn(sent: u8, other: u8, mean: f64, random: &mut Random) -> Column {
+    let lead = COST_OF_E * (mean + (2.0 * mean).sqrt() * normal(random));
+    let cost = |lead: f64| lead.round().clamp(0.0, f64::from(FAR)) as u16;
+    let mut column = [FAR; SYMBOLS];
+    column[usize::from(other)] = cost(lead);
+    column[usize::from(sent)] = cost(-lead);
+    column
 }
 
 /// A normal number, by Box and Muller.

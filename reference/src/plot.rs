@@ -1,15 +1,35 @@
 //! Curves of rates over decibels as an SVG drawing with a logarithmic axis.
 //!
-//! - [`Curve`]: its name and points; those of rate zero are left out of the drawing.
+//! - [`Curve`]: its name and points. A point of [`FEW`] failures or more has a full mark, one of fewer a hollow
+//!   one, since it may well be off by half, and one of none an arrow that points down from 3 over the number of
+//!   frames: with so many frames and no failure the rate is below that, nineteen times in twenty.
 //! - [`draw`]: the drawing.
 
 use std::fmt::Write;
+
+/// With fewer failures a point is uncertain.
+pub const FEW: u64 = 10;
+
+/// What is known at a point.
+#[derive(Clone, Copy, Debug, PartialEq)]
+enum Known {
+    Well,
+    Uncertain,
+    Bound,
+}
+
+/// Where a curve passes, and how well it is known there.
+struct Point {
+    decibels: f64,
+    rate: f64,
+    known: Known,
+}
 
 /// One curve.
 pub struct Curve {
     name: String,
     colour: &'static str,
-    points: Vec<(f64, f64)>,
+    points: Vec<Point>,
     style: Style,
 }
 
@@ -55,8 +75,29 @@ impl Curve {
         &self.name
     }
 
+    /// A point that is computed.
     pub fn add(&mut self, decibels: f64, rate: f64) {
-        self.points.push((decibels, rate));
+        let known = Known::Well;
+        self.points.push(Point {
+            decibels,
+            rate,
+            known,
+        });
+    }
+
+    /// A point at which so many of so many frames failed.
+    pub fn add_counted(&mut self, decibels: f64, failures: u64, frames: u64) {
+        let (failed, known) = match failures {
+            0 => (3, Known::Bound),
+            1..FEW => (failures, Known::Uncertain),
+            _ => (failures, Known::Well),
+        };
+        let rate = failed as f64 / frames as f64;
+        self.points.push(Point {
+            decibels,
+            rate,
+            known,
+        });
     }
 
     /// The attributes of its line.
@@ -69,16 +110,24 @@ impl Curve {
     }
 
     /// Its mark at a point of the drawing.
-    fn mark(&self, out: &mut String, x: &str, y: &str) {
+    fn mark(&self, out: &mut String, x: f64, y: f64, known: Known) {
         let colour = self.colour;
-        let fill = match self.style {
-            Style::Measured => format!("fill=\"{colour}\""),
-            Style::Compared => format!("fill=\"#ffffff\" stroke=\"{colour}\" stroke-width=\"1.5\""),
-            Style::Computed => return,
+        let fill = match (self.style, known) {
+            (Style::Computed, _) => return,
+            (_, Known::Bound) => {
+                let arrow = format!("M{x:.1} {y:.1}v14m-4 -6l4 6l4 -6M{:.1} {y:.1}h10", x - 5.0);
+                let stroke = format!("stroke=\"{colour}\" stroke-width=\"1.5\"");
+                return put(
+                    out,
+                    format_args!("<path d=\"{arrow}\" fill=\"none\" {stroke}/>"),
+                );
+            }
+            (Style::Measured, Known::Well) => format!("fill=\"{colour}\""),
+            _ => format!("fill=\"#ffffff\" stroke=\"{colour}\" stroke-width=\"1.5\""),
         };
         put(
             out,
-            format_args!("<circle cx=\"{x}\" cy=\"{y}\" r=\"3.5\" {fill}/>"),
+            format_args!("<circle cx=\"{x:.1}\" cy=\"{y:.1}\" r=\"3.5\" {fill}/>"),
         );
     }
 }
@@ -123,7 +172,7 @@ pub fn draw(title: &str, curves: &[Curve]) -> String {
         curves
             .iter()
             .flat_map(|curve| &curve.points)
-            .map(|point| point.0)
+            .map(|point| point.decibels)
     };
     let axes = Axes {
         low: (decibels().fold(f64::INFINITY, f64::min) / GRID).floor() * GRID,
@@ -206,16 +255,14 @@ fn grid(out: &mut String, axes: &Axes) {
     put(out, format_args!("<rect x=\"{LEFT}\" y=\"{TOP}\" width=\"{}\" height=\"{}\" fill=\"none\" stroke=\"#444444\"/>", RIGHT - LEFT, BOTTOM - TOP));
 }
 
+/// The line joins the points that have failures; a bound stands by itself.
 fn line(out: &mut String, axes: &Axes, curve: &Curve) {
     let least = 10f64.powi(-DECADES);
-    let shown = curve.points.iter().filter(|(_, rate)| *rate >= least);
-    let points: Vec<(f64, f64)> = shown
-        .map(|(decibels, rate)| (axes.x(*decibels), axes.y(*rate)))
-        .collect();
-    let path: Vec<String> = points
-        .iter()
-        .map(|(x, y)| format!("{x:.1},{y:.1}"))
-        .collect();
+    let at = |point: &Point| (axes.x(point.decibels), axes.y(point.rate), point.known);
+    let shown = curve.points.iter().filter(|point| point.rate >= least);
+    let points: Vec<(f64, f64, Known)> = shown.map(at).collect();
+    let joined = points.iter().filter(|point| point.2 != Known::Bound);
+    let path: Vec<String> = joined.map(|(x, y, _)| format!("{x:.1},{y:.1}")).collect();
     put(
         out,
         format_args!(
@@ -224,8 +271,8 @@ fn line(out: &mut String, axes: &Axes, curve: &Curve) {
             curve.stroke()
         ),
     );
-    for (x, y) in points {
-        curve.mark(out, &format!("{x:.1}"), &format!("{y:.1}"));
+    for (x, y, known) in points {
+        curve.mark(out, x, y, known);
     }
 }
 
@@ -242,7 +289,7 @@ fn legend(out: &mut String, curves: &[Curve]) {
             out,
             format_args!("<path d=\"M{} {y}h34\" {}/>", left + 10.0, curve.stroke()),
         );
-        curve.mark(out, &format!("{}", left + 27.0), &format!("{y}"));
+        curve.mark(out, left + 27.0, y, Known::Well);
         put(
             out,
             format_args!(
@@ -258,6 +305,25 @@ fn legend(out: &mut String, curves: &[Curve]) {
 #[cfg(test)]
 mod tests {
     use super::*;
+
+    /// A point of many failures is full, one of few hollow, and one of none an arrow that no line leads to.
+    #[test]
+    fn points_are_marked_by_what_is_known() {
+        let mut curve = Curve::measured("any".to_string(), 1);
+        for (decibels, failures) in [(3.0, 500), (3.5, FEW), (4.0, FEW - 1), (4.5, 0)] {
+            curve.add_counted(decibels, failures, 10_000);
+        }
+        let drawn = draw("title", &[curve]);
+        let seen = |part: &str| drawn.matches(part).count();
+        assert_eq!(seen("r=\"3.5\" fill=\"#0072b2\""), 3);
+        assert_eq!(seen("r=\"3.5\" fill=\"#ffffff\""), 1);
+        assert_eq!(seen("v14m-4 -6"), 1);
+        let line = drawn
+            .lines()
+            .find(|line| line.starts_with("<polyline"))
+            .unwrap();
+        assert_eq!(line.matches(',').count(), 3);
+    }
 
     /// Two points above the axis and one of rate zero: marks at the two and in the legend.
     #[test]
