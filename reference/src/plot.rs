@@ -142,6 +142,10 @@ const BOTTOM: f64 = 460.0;
 /// The axis goes down to 10 to the minus so much.
 const DECADES: i32 = 4;
 
+/// What the marks of a measured curve mean.
+const LEGEND: &str =
+    "full line: hollow mark, fewer than ten failures; arrow, no failure: below it, 19 times in 20";
+
 /// A line so many decibels apart.
 const GRID: f64 = 0.5;
 
@@ -182,7 +186,8 @@ pub fn draw(title: &str, curves: &[Curve]) -> String {
         "<svg xmlns=\"http://www.w3.org/2000/svg\" viewBox=\"0 0 {WIDTH} {HEIGHT}\" width=\"{WIDTH}\" height=\"{HEIGHT}\" \
          font-family=\"sans-serif\" font-size=\"14\">\n\
          <rect width=\"{WIDTH}\" height=\"{HEIGHT}\" fill=\"#ffffff\"/>\n\
-         <text x=\"{LEFT}\" y=\"30\" font-size=\"17\">{title}</text>\n"
+         <text x=\"{LEFT}\" y=\"30\" font-size=\"17\">{title}</text>\n\
+         <text x=\"{RIGHT}\" y=\"45\" font-size=\"11\" text-anchor=\"end\">{LEGEND}</text>\n"
     );
     grid(&mut out, &axes);
     for curve in curves {
