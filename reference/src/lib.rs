@@ -89,6 +89,9 @@
 //! ([`sent`]) and draws curves ([`plot`]), and `thresholds` by `bench/thresholds`, which decodes the same
 //! frames by doubt and by threshold. What a call costs is counted by [`counted`]. `bench/engines` counts
 //! calls that `compare engine` writes.
+//!
+//! A fifth, `bounds`, is started by `tests/statement`: it tries the numbers of the statement of each rate on
+//! the proved library, inside and outside.
 
 pub mod arrivals;
 pub mod below_counts;

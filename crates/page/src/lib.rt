@@ -50,7 +50,13 @@ fn doubtful(k: usize)
         \x20 them, and best at all settled ones but @T at most. No other codeword is near, so that the report has no\n\
         \x20 margin.\n\
         \x20 [`near` Rivals `no-second`; `book` Repairs `always-sure`; `book` TableRepairs `table-sure`, `below-sure`,\n\
-        \x20 `bits-sure`; `runs` Repaired `run-sure`]\n",
+        \x20 `bits-sure`; `runs` Repaired `run-sure`]\n\
+        - With more doubtful places as many fewer may be wrong: wrong settled and doubtful ones together up to @e,\n\
+        \x20 at most @T of them settled, none blank, and again no margin.\n\
+        \x20 [`book` Repairs `always-alone`; `book` TableRepairs `table-alone`; `runs` Repaired `run-alone`]\n\
+        - Beyond that, with up to 12 doubtful places and at most @T wrong settled ones, the frame is never refused:\n\
+        \x20 the answer is the sent message or one that costs no more.\n\
+        \x20 [`book` Repairs `always-found`; `book` TableRepairs `table-found`; `runs` Repaired `run-found`]\n",
     );
 }
 
@@ -77,10 +83,7 @@ fn together(k: usize)
 {
     tell(
         k,
-        b"- With more doubtful places, up to 12, and these symbols best or second, the frame is never refused: the\n\
-        \x20 answer is the sent message or one that costs no more.\n\
-        \x20 [`book` Repairs `always-found`; `book` TableRepairs `table-found`; `runs` Repaired `run-found`]\n\
-        - Blank, wrong and doubtful places together: so many wrong settled places are repaired, with so many\n\
+        b"- Blank, wrong and doubtful places together: so many wrong settled places are repaired, with so many\n\
         \x20 doubtful ones beside them; the last number is explained below.\n\
         \x20 [`near` Reach `reach-is`, `reach-only`; `numbers` Most `sure-most`, `sure-few`, `alone-most`]\n\n\
         | blank | wrong | doubtful | never another |\n\

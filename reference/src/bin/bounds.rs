@@ -367,7 +367,10 @@ impl<'a> Around<'a> {
         let came = self.came(&[blanks, (Role::Lost, lost), (Role::Wrong, never - lost)]);
         self.expect("never another", line, came, &[NONE_NEAR, ALONE])?;
         let came = self.came(&[blanks, (Role::Second, lost), (Role::Wrong, never - lost)]);
-        self.expect("never another, second", line, came, &[NONE_NEAR, ALONE])?;
+        // With no more than T wrong settled places it comes back.
+        let wanted = [ALONE, NONE_NEAR];
+        let wanted = &wanted[..1 + usize::from(never - lost > wrong)];
+        self.expect("never another, second", line, came, wanted)?;
         if !self.exact() {
             return Ok(());
         }
