@@ -4,7 +4,7 @@ use encoding::LEAST_RATE;
 ghost use Prim.Native.Nat.{_<_};
 ghost use Rattle.candidate.specs.Ranged.{Ranged};
 
-// A line for ten rates, from the smallest on.
+// From the smallest rate on.
 const POWERS_OF_TEN: [usize; 47] = [
     25,
     25,
