@@ -5,6 +5,7 @@ ghost use Rattle.code.specs.Calls.{encodeCall, readBackCall};
 ghost use Rattle.book.specs.Table.{closed};
 ghost use Rattle.book.specs.Here.{tableOf, bitsOf, tableBelowOf};
 ghost use Rattle.superframe.specs.Superframe.{buildOf, taken, takenOf};
+ghost use Rattle.captures.specs.Calls.{filled, decodeCaptureOf, sortCaptureOf, makeCaptureOf};
 
 #[no_mangle]
 pub extern "C" fn hermitian_encode(
@@ -85,4 +86,34 @@ pub extern "C" fn hermitian_take_superframe_apart(
     let answer = taking_apart::take_apart(frame, messages);
     *status = answer.status;
     answer.refusal
+}
+
+#[no_mangle]
+pub extern "C" fn hermitian_decode_capture(
+    capture: &[u8],
+    message: &mut [u8],
+    report: &mut [u8],
+) -> u8
+    ensures { λ r. ⌜ closed r (now (message .exit)) (now (report .exit)) ≡ decodeCaptureOf (now (capture .entry)) (now (message .entry)) (now (report .entry)) ⌝ }
+{
+    captures::decode_capture(capture, message, report)
+}
+
+#[no_mangle]
+pub extern "C" fn hermitian_sort_capture(capture: &[u8], sorted: &mut [u8]) -> u8
+    ensures { λ r. ⌜ filled r (now (sorted .exit)) ≡ sortCaptureOf (now (capture .entry)) (now (sorted .entry)) ⌝ }
+{
+    captures::sort_capture(capture, sorted)
+}
+
+#[no_mangle]
+pub extern "C" fn hermitian_make_capture(
+    rate: usize,
+    doubtful: &[u8],
+    table: &[u8],
+    capture: &mut [u8],
+) -> u8
+    ensures { λ r. ⌜ filled r (now (capture .exit)) ≡ makeCaptureOf rate (now (doubtful .entry)) (now (table .entry)) (now (capture .entry)) ⌝ }
+{
+    captures::make_capture(rate, doubtful, table, capture)
 }

@@ -25,7 +25,7 @@ use Rattle.session.specs.View.{bookOf}
 use Rattle.session.specs.Calls.{refusedWith, openedOf, Opening}
 use Rattle.session.specs.Laws.{refused-opens, opens}
 use Rattle.capture.specs.Rest.{rest-whole}
-use Rattle.opening.proofs.Delivering.{opening-agreed}
+use Rattle.capture.specs.Delivering.{opening-agreed}
 
 module _ (bytes : List ℕ) where
   pub too-short : length bytes < captureLength 0 → Opening (openCaptureOf bytes) (refusedWith wrongLength)

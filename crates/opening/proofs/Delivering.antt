@@ -6,21 +6,17 @@ use native.Mathlib.Omega.{arith}
 use lib.ListN.{getD, take, drop}
 use lib.Seq.{drop-drop}
 use Rattle.refusals.specs.Refusal.{accepted}
-use Rattle.book.specs.Model.{modem64}
 use Rattle.book.specs.Book.{Entry, Outcome}
 use Rattle.book.specs.Capture.{recordLength, recordsOf}
-use Rattle.book.specs.Here.{places, width, refusedOpening, deliverRow}
-use Rattle.book.specs.Columns.{agree-refl, agree-sym, agree-trans}
-use Rattle.book.specs.RowDelivery.{row-none, row-on, row-refused}
-use Rattle.book.specs.AlikeDelivery.{Agreed, agreed-path, agreed-trans, row-alike}
+use Rattle.book.specs.Here.{places, width, deliverRow}
+use Rattle.book.specs.AlikeDelivery.{Agreed, agreed-path, agreed-trans}
 use Rattle.soft.specs.Column.{costsFrom}
 use Rattle.session.specs.declared.Session.{Session}
-use Rattle.session.specs.declared.Opened.{Opened}
 use Rattle.session.specs.declared.Delivered.{Delivered}
 use Rattle.session.specs.View.{bookOf, Good}
 use Rattle.session.specs.Calls.{refusedWith, Opening, Delivery}
-use Rattle.session.specs.Laws.{refused-opens}
 use Rattle.capture.specs.Rest.{rest-first}
+use Rattle.capture.specs.Delivering.{row-turn, row-stop, row-end}
 
 record-step : (records : List ℕ) (i : ℕ) → i < places
     → recordsOf (places - i) (drop (recordLength * i) records)
@@ -51,11 +47,6 @@ whole start records = deliverRow (bookOf start) (recordsOf places records)
 abbrev left : Session → List ℕ → ℕ → Outcome
 left current records i = deliverRow (bookOf current) (recordsOf (places - i) (drop (recordLength * i) records))
 
--- an opening by an outcome that agrees with another is one by that
-pub opening-agreed : {o q : Outcome} {r : Opened} → Agreed o q → Opening q r → Opening o r
-opening-agreed a d =
-    record { number = d .number ∙ sym (a .same-number); book = agree-trans (d .book) (agree-sym (a .same-book)); good = d .good }
-
 module _ (start current : Session) (records column : List ℕ) (i : ℕ) (r : Delivered) (h : i < places) (good : Good current)
     (same : Agreed (whole start records) (left current records i))
     (read : column ≡ costsFrom width (take (recordLength * i + recordLength - (recordLength * i + 1)) (drop (recordLength * i + 1) records)))
@@ -77,24 +68,19 @@ module _ (start current : Session) (records column : List ℕ) (i : ℕ) (r : De
 
   pub turn : r .refusal ≡ accepted → Agreed (whole start records) (left (r .session) records (i + 1))
   unfolding entry rest
-  turn n =
-      agreed-trans next
-      (agreed-trans (agreed-path (row-on modem64 (bookOf current) entry rest (sym (d .number good) ∙ n)))
-      (row-alike modem64 (agree-sym (d .book good)) rest))
+  turn n = row-turn (whole start records) current good entry rest r next d n
 
   pub stop : (r .refusal ≡ accepted → ⊥) → Opening (whole start records) (refusedWith (r .refusal))
-  unfolding entry rest
-  stop n =
-      opening-agreed
-      (agreed-trans next
-      (agreed-path (row-refused modem64 (bookOf current) entry rest (λ e. n (d .number good ∙ e)) ∙ ap refusedOpening (sym (d .number good)))))
-      (refused-opens (r .refusal))
+  unfolding entry
+  stop n = row-stop (whole start records) current good entry rest r next d n
 
 pub finish : (start current : Session) (records : List ℕ) (i : ℕ) → places ≤ i → Good current
     → Agreed (whole start records) (left current records i)
     → Opening (whole start records) (record { refusal = accepted; session = current })
 finish start current records i h good same =
     let n : places - i ≡ 0 = omega arith in
-    opening-agreed same
-    (rw (n, no-records-left (drop (recordLength * i) records), row-none modem64 (bookOf current))
-    (record { number = refl; book = agree-refl (bookOf current); good = good }))
+    row-end (whole start records) current good
+    (agreed-trans same
+    (agreed-path
+    (ap (λ k. deliverRow (bookOf current) (recordsOf k (drop (recordLength * i) records))) n
+    ∙ ap (deliverRow (bookOf current)) (no-records-left (drop (recordLength * i) records)))))
