@@ -1,6 +1,7 @@
 /* What the modem's firmware calls: encoding, reading back, table decoding by doubt or by
  * threshold and decoding from bit values for the Hermitian code y^4 + y = x^5 over GF(16), 64
- * places, and superframes of eight codewords. Link libmodem.a (rt staticlib modem).
+ * places, superframes of eight codewords, and captures of received frames. Link libhermitian
+ * (dist/make), or libmodem.a (rt staticlib modem).
  *
  * A call returns 0, or the number of its refusal. A refused call leaves every buffer as
  * it was; the status byte of a superframe is no such buffer, and then becomes 0. The library
@@ -27,6 +28,12 @@
  *   superframe
  *             exactly 516 bytes: the version, 1; the length, 513, as 2 and 1; the rate; then
  *             512 symbols: place p of word v is byte 4 + 8p + v
+ *   doubtful  a doubtful list: 0 to 12 places, one byte each, 0 to 63 and strictly rising
+ *   capture   exactly 2117 + d bytes, where d places are doubtful: the version, 1 with up to 8
+ *             doubtful places and 2 with more; the number of bytes that follow, 2114 + d, in
+ *             two bytes, high byte first; the rate; d; the d places; then 64 records of 33
+ *             bytes, a place and its column as in a table. Records may be in any order, each
+ *             place once; every capture that is written has them in place order
  *
  * The rate. A codeword holds the values of a function of order at most M = k + 5. With b blank
  * places T is the largest number with 2T + b < 58 - M; a codeword that differs from some test
@@ -62,6 +69,12 @@
 extern "C" {
 #endif
 
+/* The library's version, as in the file VERSION; its major number changes where a caller has to. */
+#define HERMITIAN_VERSION "1.0.0"
+#define HERMITIAN_VERSION_MAJOR 1
+#define HERMITIAN_VERSION_MINOR 0
+#define HERMITIAN_VERSION_PATCH 0
+
 #define HERMITIAN_PLACES 64
 #define HERMITIAN_TABLE_BYTES 2048
 #define HERMITIAN_BIT_VALUES 256
@@ -71,15 +84,21 @@ extern "C" {
 #define HERMITIAN_MOST_DOUBT 12
 #define HERMITIAN_SUPERFRAME_BYTES 516
 #define HERMITIAN_SUPERFRAME_WORDS 8
+#define HERMITIAN_CAPTURE_BYTES(doubtful) (2117 + (doubtful))
+#define HERMITIAN_MOST_CAPTURE_BYTES 2129
 
 enum hermitian_refusal {
     HERMITIAN_ACCEPTED = 0,
     HERMITIAN_UNKNOWN_RATE = 1, /* the rate is not one of 6 to 52 */
     HERMITIAN_WRONG_SIZE = 2,   /* a buffer of the wrong size, or no 64 bytes from the start */
     HERMITIAN_NO_SYMBOL = 3,    /* a symbol above 15 */
-    HERMITIAN_WRONG_DOUBT = 4,  /* a doubt above 12, or a maximum of 0 or above 12 */
+    HERMITIAN_WRONG_DOUBT = 4,  /* a doubt above 12, a maximum of 0 or above 12, or a faulty doubtful list */
+    HERMITIAN_NO_PLACE = 5,     /* a place above 63 in a record of a capture */
+    HERMITIAN_PLACE_TAKEN = 6,  /* a place that an earlier record of the capture has */
     HERMITIAN_NO_CODEWORD = 8,  /* the word is not a codeword */
     HERMITIAN_NONE_NEAR = 9,    /* no codeword is near */
+    HERMITIAN_WRONG_VERSION = 10, /* a capture whose version is not 1 or 2 */
+    HERMITIAN_WRONG_LENGTH = 11, /* a capture of a wrong size, or whose length is wrong */
     HERMITIAN_TOO_BLANK = 12,   /* more than 52 - k blank places at rate k */
     HERMITIAN_WRONG_SUPERFRAME = 14 /* a superframe not of 516 bytes, or its version or length wrong */
 };
@@ -163,6 +182,104 @@ uint8_t hermitian_build_superframe(size_t rate,
 uint8_t hermitian_take_superframe_apart(const uint8_t *superframe, size_t superframe_length,
                                         uint8_t *messages, size_t messages_length,
                                         uint8_t *status);
+
+/* Decodes a capture, as a session does that was opened with its rate and doubtful list, got its
+ * records and is closed: writes the message of the near codeword of least total cost, and its
+ * report. k is the rate that the capture names, so a caller reads byte 3 of it first, or lends
+ * exactly as many bytes as it expects.
+ * Checks, in this order: capture of 2117 to 2129 bytes; version; length; rate; doubtful list, and
+ * that its length suits the version; records, one after the other: place range, place taken;
+ * message buffer of k and report of 14 bytes; blank places; nearness.
+ * Refusals: 11, 10, 11, 1, 4, 5 or 6, 2, 12, 9. */
+uint8_t hermitian_decode_capture(const uint8_t *capture, size_t capture_length,
+                                 uint8_t *message, size_t message_length,
+                                 uint8_t *report, size_t report_length);
+
+/* Writes a capture with its records in place order. One that is in place order stays as it is, and
+ * what was written decodes as the capture does.
+ * Checks, in this order: those of a capture as above; a buffer of the capture's size.
+ * Refusals: 11, 10, 11, 1, 4, 5 or 6, 2. */
+uint8_t hermitian_sort_capture(const uint8_t *capture, size_t capture_length,
+                               uint8_t *sorted, size_t sorted_length);
+
+/* Writes the capture of a rate, a doubtful list and a table, its records in place order.
+ * Checks, in this order: rate; doubtful list; table of 2048 bytes, and a capture buffer of 2117 and
+ * one byte for each doubtful place. Refusals: 1, 4, 2. */
+uint8_t hermitian_make_capture(size_t rate,
+                               const uint8_t *doubtful, size_t doubtful_length,
+                               const uint8_t *table, size_t table_length,
+                               uint8_t *capture, size_t capture_length);
+
+/* The fields of a report, by name. They are read here, in C, and not by the library. */
+static inline uint32_t hermitian_report_number(const uint8_t *report, size_t at)
+{
+    return (uint32_t)report[at] << 24 | (uint32_t)report[at + 1] << 16 | (uint32_t)report[at + 2] << 8 | report[at + 3];
+}
+
+/* The sum of the answer's costs over the 64 places. */
+static inline uint32_t hermitian_report_total(const uint8_t *report)
+{
+    return hermitian_report_number(report, 0);
+}
+
+/* The test words with a codeword within T. */
+static inline uint16_t hermitian_report_tests(const uint8_t *report)
+{
+    return (uint16_t)(report[4] << 8 | report[5]);
+}
+
+/* The places where the answer's symbol costs 65535, which means 'at least'. */
+static inline uint8_t hermitian_report_pinned(const uint8_t *report)
+{
+    return report[6];
+}
+
+/* The places, not blank, where the answer is not the best symbol. */
+static inline uint8_t hermitian_report_changed(const uint8_t *report)
+{
+    return report[7];
+}
+
+/* 1 if another codeword is near, and so there is a margin; else 0. */
+static inline uint8_t hermitian_report_has_margin(const uint8_t *report)
+{
+    return report[8];
+}
+
+/* How much more than the answer the cheapest other near codeword costs; 0 where there is none. */
+static inline uint32_t hermitian_report_margin(const uint8_t *report)
+{
+    return hermitian_report_number(report, 9);
+}
+
+/* 1 if it is known that none of all 16^k codewords costs less than the answer; else 0. */
+static inline uint8_t hermitian_report_mark(const uint8_t *report)
+{
+    return report[13];
+}
+
+/* What a returned number means, in a few words; 7 and 13 are given by no call here. */
+static inline const char *hermitian_refusal_text(uint8_t refusal)
+{
+    switch (refusal) {
+    case 0: return "accepted";
+    case 1: return "rate not one of 6 to 52";
+    case 2: return "a buffer of the wrong size, or no 64 bytes from the start";
+    case 3: return "a symbol above 15";
+    case 4: return "doubt above 12, a maximum of 0 or above 12, or a faulty doubtful list";
+    case 5: return "a place above 63";
+    case 6: return "a place already taken";
+    case 7: return "writing or closing with a place missing";
+    case 8: return "not a codeword";
+    case 9: return "none near";
+    case 10: return "capture version not 1 or 2";
+    case 11: return "capture size or length wrong";
+    case 12: return "too many blank places";
+    case 13: return "a place that is not taken";
+    case 14: return "a superframe not of 516 bytes, or its version or length wrong";
+    default: return "no refusal of this library";
+    }
+}
 
 #ifdef __cplusplus
 }

@@ -63,10 +63,12 @@
 //! [`superframe_turns`]; they are counted, with what wrong rules would answer ([`superframe_counts`],
 //! [`superframe_slips`]).
 //!
+//! [`whole_captures`] makes captures to be decoded, sorted and made as the firmware does it, and counts them.
+//!
 //! Calls that cross as numbers and byte slices are linked: with the feature `proved`, and with
 //! `MODEM_LIB_DIR` naming the folder of `libmodem.a`, `compare code`, `compare tables`, `compare below`,
 //! `compare bits`, `compare fades`, `compare rates`, `compare marks`, `compare sure` and `compare superframes`
-//! run the trials of [`trials`] on both libraries.
+//! run the trials of [`trials`] on both libraries, and `compare captures` the calls of [`whole_captures`].
 //!
 //! Sessions and captures are compared by stream: a program reads calls on its standard input and writes
 //! answers on its standard output, laid out as in [`calls`]; `compare run` starts it on the lists of
@@ -157,6 +159,7 @@ pub mod sure_frames;
 pub mod trials;
 pub mod version_counts;
 pub mod versions;
+pub mod whole_captures;
 pub mod withdrawal_lists;
 pub mod withdrawals;
 pub mod worst;

@@ -4,8 +4,10 @@
 //! - [`PROVED_TABLE`]: table decoding; [`PROVED_BELOW`]: with a threshold; [`PROVED_BITS`]: decoding
 //!   from bit values.
 //! - [`PROVED_SUPERFRAMES`]: building superframes and taking them apart.
+//! - [`PROVED_CAPTURES`]: decoding, sorting and making captures.
 
 use crate::trials::{Coding, DecodeBelow, DecodeBits, DecodeTable, Superframes};
+use crate::whole_captures::Captures;
 
 extern "C" {
     fn hermitian_encode(
@@ -73,6 +75,32 @@ extern "C" {
         messages: *mut u8,
         messages_length: usize,
         status: *mut u8,
+    ) -> u8;
+
+    fn hermitian_decode_capture(
+        capture: *const u8,
+        capture_length: usize,
+        message: *mut u8,
+        message_length: usize,
+        report: *mut u8,
+        report_length: usize,
+    ) -> u8;
+
+    fn hermitian_sort_capture(
+        capture: *const u8,
+        capture_length: usize,
+        sorted: *mut u8,
+        sorted_length: usize,
+    ) -> u8;
+
+    fn hermitian_make_capture(
+        rate: usize,
+        doubtful: *const u8,
+        doubtful_length: usize,
+        table: *const u8,
+        table_length: usize,
+        capture: *mut u8,
+        capture_length: usize,
     ) -> u8;
 }
 
@@ -148,5 +176,29 @@ pub const PROVED_SUPERFRAMES: Superframes = Superframes {
     take_apart: |frame, messages, status| unsafe {
         let (to, room) = (messages.as_mut_ptr(), messages.len());
         hermitian_take_superframe_apart(frame.as_ptr(), frame.len(), to, room, status)
+    },
+};
+
+/// The proved library's captures.
+pub const PROVED_CAPTURES: Captures = Captures {
+    decode: |capture, message, report| unsafe {
+        let (to, room) = (message.as_mut_ptr(), message.len());
+        let (second, other) = (report.as_mut_ptr(), report.len());
+        hermitian_decode_capture(capture.as_ptr(), capture.len(), to, room, second, other)
+    },
+    sort: |capture, out| unsafe {
+        let (to, room) = (out.as_mut_ptr(), out.len());
+        hermitian_sort_capture(capture.as_ptr(), capture.len(), to, room)
+    },
+    make: |rate, doubtful, table, out| unsafe {
+        hermitian_make_capture(
+            rate as usize,
+            doubtful.as_ptr(),
+            doubtful.len(),
+            table.as_ptr(),
+            table.len(),
+            out.as_mut_ptr(),
+            out.len(),
+        )
     },
 };

@@ -49,6 +49,7 @@ compare sure SEED PROGRAM ..                the proved decoding on both sides of
                                             (feature proved), by doubt, by threshold and from bit values, and
                                             a program on a session for each frame
 compare superframes SEED                    the proved building and taking apart of superframes (feature proved)
+compare captures SEED COUNT                 the proved decoding, sorting and making of captures (feature proved)
 LETTERS are those of the calls wanted, of OCDRWXLU.
 The count of frames with a margin is printed; fewer than one in six are a failure.
 The counts of frames with blank places are printed, by kind, by rate and number of these places, and
@@ -81,6 +82,8 @@ against the rule, or a reading at rate 39 or 49 with a byte above 81 that is not
 The counts of superframes are printed, built and taken apart, with bursts, words beyond repair and faults,
 with the wrong rules that would answer otherwise; one that is missing is a failure, and so is a call that
 does not come to what it is made for.
+The counts of captures decoded, sorted and made are printed, by number, with the wrong rules that would
+answer otherwise; a number, rate or doubt that is missing is a failure, and so is a wrong rule told too seldom.
 The counts of marked and of unmarked answers are printed; fewer than one in 25 frames of either are a
 failure. Those of frames for the mark are printed, at each rate with the excess one below the slack, equal
 to it and one above, with blank places, pinned ones and pinned seconds, with another codeword that costs as
@@ -193,6 +196,8 @@ fn run(arguments: &[String]) -> Result<(), String> {
         ["sure", seed, _, ..] => proved::sure(number(seed)?, &arguments[2..]),
         #[cfg(feature = "proved")]
         ["superframes", seed] => proved::superframes(number(seed)?),
+        #[cfg(feature = "proved")]
+        ["captures", seed, count] => proved::captures(number(seed)?, number(count)?),
         _ => Err(USAGE.to_string()),
     }
 }
@@ -274,7 +279,9 @@ mod proved {
     use reference::code::RATE_COUNT;
     use reference::mark_counts::MarkCounts;
     use reference::mark_frames::{FEW_MARK_TURNS, MARK_TURNS};
-    use reference::proved::{PROVED, PROVED_BELOW, PROVED_BITS, PROVED_SUPERFRAMES, PROVED_TABLE};
+    use reference::proved::{
+        PROVED, PROVED_BELOW, PROVED_BITS, PROVED_CAPTURES, PROVED_SUPERFRAMES, PROVED_TABLE,
+    };
     use reference::rate_counts::{Part, RateCounts};
     use reference::rates::{FEW_TURNS, TURNS};
     use reference::streams::{
@@ -290,6 +297,7 @@ mod proved {
         Difference, Tally, Trial, REFERENCE, REFERENCE_BELOW, REFERENCE_BITS,
         REFERENCE_SUPERFRAMES, REFERENCE_TABLE,
     };
+    use reference::whole_captures::compare_captures;
 
     pub fn code(seed: u64, count: u64) -> Result<(), String> {
         let both = [&REFERENCE, &PROVED];
@@ -380,6 +388,13 @@ mod proved {
         let tally = report("superframes", superframe_trial, both, seed, count)?;
         super::output(format!("superframes: {}\n", tally.superframes).as_bytes())?;
         tally.superframes.check()
+    }
+
+    /// Whole captures, each call with the next sort of capture, fault and size.
+    pub fn captures(seed: u64, count: u64) -> Result<(), String> {
+        let counts = compare_captures(&PROVED_CAPTURES, seed, count)?;
+        super::output(format!("{count} calls on captures alike ({counts})\n").as_bytes())?;
+        counts.check()
     }
 
     pub fn tables(seed: u64, count: u64) -> Result<(), String> {
