@@ -628,7 +628,7 @@ mod tests {
     fn wrong_rules_are_found() {
         assert!(compare_captures(&REFERENCE_CAPTURES, 70, 300).is_ok());
         for (name, slip) in &WHOLE_SLIPS {
-            assert!(compare_captures(slip, 70, 900).is_err(), "{name}");
+            assert!(compare_captures(slip, 70, 3000).is_err(), "{name}");
         }
     }
 
