@@ -3,6 +3,7 @@
 import os
 import pathlib
 import random
+import resource
 import subprocess
 import sys
 import tempfile
@@ -20,9 +21,16 @@ class Run(unittest.TestCase):
         self.addCleanup(folder.cleanup)
         self.folder = pathlib.Path(folder.name)
 
-    def run_it(self, *words, given=None, status=0):
-        """Runs the command; it ends with that status, and has a word on the error stream exactly if it is refused or makes no sense."""
-        made = subprocess.run([sys.executable, COMMAND, *map(str, words)], input=given, capture_output=True, check=False, timeout=60)
+    def run_it(self, *words, given=None, status=0, limit=None):
+        """Runs the command, with a limit on the size of files if there is one: it ends with that status, and in words."""
+
+        def limited():
+            if limit is not None:
+                resource.setrlimit(resource.RLIMIT_FSIZE, (limit, limit))
+
+        made = subprocess.run(
+            [sys.executable, COMMAND, *map(str, words)], input=given, capture_output=True, check=False, timeout=60, preexec_fn=limited
+        )
         self.assertEqual(made.returncode, status, made.stderr.decode())
         self.assertNotIn("Traceback", made.stderr.decode())
         return made.stdout, made.stderr.decode()
@@ -125,6 +133,9 @@ class Sorted(Run):
         self.run_it("sort", EXAMPLE, self.folder, status=2)
         self.assertEqual(list(self.folder.iterdir()), [])
         kept = self.file("kept", b"as it was")
+        self.run_it("sort", EXAMPLE, kept, status=2, limit=1000)
+        self.assertEqual(kept.read_bytes(), b"as it was")
+        self.assertEqual(list(self.folder.iterdir()), [kept])
         self.run_it("sort", self.file("short", b"short"), kept, status=1)
         self.assertEqual(kept.read_bytes(), b"as it was")
 
@@ -138,9 +149,9 @@ class Told(Run):
         held = bytearray(EXAMPLE.read_bytes())
         held[3] = 40
         held[5] = 9
-        held[6 + 33 * 20 + 1 + 2 * 5] = 1
+        held[6 + 33 * 20 + 1 + 2 * 12] = 1
         shown, _ = self.run_it("diff", EXAMPLE, self.file("other", held), status=1)
-        self.assertEqual(shown.decode().splitlines(), ["rate 39 and 40", "doubtful 0 and 9", "place 20 symbol 5 costs 40 and 296"])
+        self.assertEqual(shown.decode().splitlines(), ["rate 39 and 40", "doubtful 0 and 9", "place 20 symbol c costs 40 and 296"])
 
 
 class Made(Run):
