@@ -2,7 +2,7 @@
  * with as many as there may be, and by a threshold above all gaps with the maxima 1 and the largest, with no wrong place, one, six and so many
  * that none is near, and without and with a blank place, at rates 39 and 49, and with none, T - 1, T and T + 1 wrong places at rates 6, 20 and
  * 52, and the paint that is left is counted. At rate 39 the tree is deepest where six places are wrong and one is blank: there it takes every
- * doubtful place before it decides. */
+ * doubtful place before it decides. Then the same of a capture of that frame with twelve doubtful places, made, sorted and decoded. */
 #include <pthread.h>
 #include <stdio.h>
 #include <stdlib.h>
@@ -14,11 +14,12 @@ enum { STACK = 1 << 20, PAINT = 0xa5, ROOM = 1 << 12 };
 
 struct job {
     size_t rate, wrong, blanks, doubt;
-    int below, decode;
+    int below, decode, capture;
     uint8_t answer;
 };
 
 static uint8_t table[HERMITIAN_TABLE_BYTES], message[HERMITIAN_MOST_RATE], report[HERMITIAN_REPORT_BYTES];
+static uint8_t doubtful[HERMITIAN_MOST_DOUBT], capture[HERMITIAN_MOST_CAPTURE_BYTES], sorted[HERMITIAN_MOST_CAPTURE_BYTES];
 
 static void cost(size_t place, size_t symbol, unsigned value)
 {
@@ -29,7 +30,14 @@ static void cost(size_t place, size_t symbol, unsigned value)
 static void *run(void *given)
 {
     struct job *job = given;
-    if (job->decode && job->below)
+    size_t size = HERMITIAN_CAPTURE_BYTES(job->doubt);
+    if (job->decode && job->capture == 1)
+        job->answer = hermitian_make_capture(job->rate, doubtful, job->doubt, table, sizeof table, capture, size);
+    else if (job->decode && job->capture == 2)
+        job->answer = hermitian_sort_capture(capture, size, sorted, size);
+    else if (job->decode && job->capture == 3)
+        job->answer = hermitian_decode_capture(capture, size, message, job->rate, report, sizeof report);
+    else if (job->decode && job->below)
         job->answer = hermitian_decode_table_below(job->rate, table, sizeof table, UINT16_MAX, job->doubt, message, job->rate, report, sizeof report);
     else if (job->decode)
         job->answer = hermitian_decode_table(job->rate, table, sizeof table, job->doubt, message, job->rate, report, sizeof report);
@@ -52,6 +60,34 @@ static size_t touched(struct job *job)
         left++;
     free(stack);
     return STACK - left;
+}
+
+/* The frame with the deepest tree: rate 39, six settled places wrong, one blank, and twelve doubtful, which are right. */
+static void captures(void)
+{
+    uint8_t word[HERMITIAN_PLACES] = {0};
+    size_t count = 0;
+    for (size_t t = 0; t < sizeof message; t++)
+        message[t] = (uint8_t)(t * 7 % 16);
+    hermitian_encode(39, message, 39, word, sizeof word, 0);
+    for (size_t p = 0; p < HERMITIAN_PLACES; p++) {
+        size_t at = p * 27 % 64, best = at < 6 ? (word[p] + 1) % 16 : word[p];
+        for (size_t s = 0; s < 16; s++)
+            cost(p, s, 500);
+        cost(p, best, at == 12 ? 500 : 0);
+        if (at >= HERMITIAN_PLACES - HERMITIAN_MOST_DOUBT) {
+            cost(p, (best + 3) % 16, 5);
+            doubtful[count++] = (uint8_t)p;
+        }
+    }
+    const char *names[] = {"made", "sorted", "decoded"};
+    for (int call = 1; call <= 3; call++) {
+        struct job job = {.rate = 39, .doubt = HERMITIAN_MOST_DOUBT, .capture = call};
+        size_t idle = touched(&job);
+        job.decode = 1;
+        size_t used = touched(&job) - idle;
+        printf("a capture with %zu doubtful places %s: %zu bytes of stack, answer %u\n", job.doubt, names[call - 1], used, job.answer);
+    }
 }
 
 int main(void)
@@ -88,5 +124,6 @@ int main(void)
             }
     }
     printf("the most of all: %zu bytes of stack\n", most);
+    captures();
     return 0;
 }

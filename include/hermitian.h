@@ -49,8 +49,9 @@
  * with pinned places the mark speaks of the sums as they stand, and not of true costs.
  *
  * Stack: table decoding touches some 14 kB of it without doubt, some 50 kB with eight
- * doubtful places and some 67 kB with twelve (bench/stack); taking a superframe apart some
- * 14 kB (bench/superframes).
+ * doubtful places and some 67 kB with twelve, and decoding a capture as much; making and
+ * sorting one some 15 kB (bench/stack); taking a superframe apart some 14 kB
+ * (bench/superframes).
  *
  * What C cannot check and the caller must see to:
  *   - a pointer is not null, also where its length is 0, and its bytes may be read, or
