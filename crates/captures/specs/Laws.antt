@@ -11,11 +11,10 @@
 --   sort-decodes                 it decodes as the capture does
 --   sort-again                   and stays as it is
 use mathlib.Core.Bool.{true, false}
-use mathlib.Core.Path.{_≡_, refl, sym, ap, _∙_, subst}
+use mathlib.Core.Path.{_≡_, sym, ap, _∙_, subst}
 use mathlib.Core.List.{List}
 use mathlib.Core.Logic.{_↔_, _≢_}
 use Prim.Native.Nat.{ℕ}
-use native.Mathlib.Omega.{arith}
 use lib.ListN.{length}
 use borrow.Author.Tests.{eq-eqb, ne-eqb}
 use Rattle.refusals.specs.Refusal.{accepted, wrongSize}
@@ -28,9 +27,9 @@ use Rattle.book.specs.Capture.{captureLength, captureOf}
 use Rattle.book.specs.Writing.{writeOf}
 use Rattle.book.specs.CaptureOpening.{recordsIn, openCaptureOf}
 use Rattle.book.specs.CaptureCases.{bookIn, capture-fit, capture-proper}
-use Rattle.book.specs.PlaceOrder.{InPlaceOrder, order-proper, order-agree}
-use Rattle.book.specs.RoundTrip.{capture-length, written-order, open-written, write-accepted, write-whole, none-missing, written-opened, open-then-write}
-use Rattle.book.specs.AlikeCalls.{capture-alike, writing-alike}
+use Rattle.book.specs.PlaceOrder.{InPlaceOrder, order-agree}
+use Rattle.book.specs.RoundTrip.{written-order, open-written, write-accepted, write-whole, none-missing, written-opened, open-then-write}
+use Rattle.book.specs.AlikeCalls.{writing-alike}
 use Rattle.book.specs.Sentences.{closing-alike}
 use Rattle.book.specs.Here.{someMissing, columnsOf, Proper, ordered, decodeOf, closeOf}
 use Rattle.captures.specs.Calls.{filled, closeOpened, writeOpened, decodeCaptureOf, sortCaptureOf}

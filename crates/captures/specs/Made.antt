@@ -23,7 +23,7 @@ use Rattle.soft.specs.ColumnLaws.{column-length}
 use Rattle.soft.specs.Doubt.{mostDoubt}
 use Rattle.code.specs.Encoding.{knownRate}
 use Rattle.book.specs.Model.{modem64}
-use Rattle.book.specs.Book.{Book, Outcome}
+use Rattle.book.specs.Book.{Book}
 use Rattle.book.specs.Opening as BookOpening
 use Rattle.book.specs.Delivery as BookDelivery
 use Rattle.book.specs.RowLaws as BookRows
@@ -34,7 +34,7 @@ use Rattle.book.specs.Below.{below-fit, below-as-session}
 use Rattle.book.specs.Capture.{captureLength, captureOf}
 use Rattle.book.specs.CaptureOpening.{openCaptureOf}
 use Rattle.book.specs.RoundTrip.{open-written, write-size, write-accepted}
-use Rattle.book.specs.Here.{places, width, someMissing, fitDoubt, openOf, refusedOpening, wide, Proper, ordered, closeOf, tableLength, tableColumns, pickedOf, pickedBelow, tableOf, tableBelowOf}
+use Rattle.book.specs.Here.{places, width, someMissing, fitDoubt, wide, Proper, ordered, closeOf, tableLength, tableColumns, pickedOf, pickedBelow, tableOf, tableBelowOf}
 use Rattle.captures.specs.Calls.{filled, writeOpened, decodeCaptureOf, sortCaptureOf, upFrom, tableEntries, deliverTable, openTable, makeCaptureOf}
 use Rattle.captures.specs.Laws.{written-decodes, written-sorts}
 
