@@ -17,7 +17,7 @@ use Rattle.family.specs.Evaluation.{encode-beyond}
 use Rattle.candidate.specs.Candidate.{symbolIn}
 use Rattle.family.specs.Member.{m16}
 use Rattle.near.specs.Held as Family
-use Rattle.rows.specs.Rows.{xOrder}
+use Rattle.coefficients.specs.Bytes.{xOrder}
 
 -- what stands at the order of a symbol
 pub symbol-at : (function : List ℕ) (t : ℕ) {o : ℕ} → t < longest → o ≡ orderOf xOrder (t % longest) → getD function o 0 ≡ symbolIn function t

@@ -13,7 +13,7 @@ use Rattle.lists.specs.Answers.{Found}
 use Rattle.algebra.specs.Coefficients.{Below, Lead, below-mono}
 use Rattle.galois.specs.Field16.{GF, K16}
 use Rattle.hermitian.specs.Division.{quotient}
-use Rattle.rows.specs.Rows.{xOrder, coef, coef-at}
+use Rattle.coefficients.specs.Bytes.{xOrder, coef, coef-at}
 use Rattle.division.specs.Dividing.{Divided}
 use Rattle.values.specs.Holds.{Holds}
 use Rattle.parts.specs.Parts.{valuesOf, firstOf, secondOf, first-is, second-is}

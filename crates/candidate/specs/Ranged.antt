@@ -12,7 +12,7 @@ use Prim.Native.Nat.{ℕ, _≤_}
 use native.Mathlib.Omega.{arith}
 use Rattle.hermitian.specs.Orders.{orderOf-most}
 use Rattle.hermitian.specs.Repair.{limit}
-use Rattle.rows.specs.Rows.{xOrder}
+use Rattle.coefficients.specs.Bytes.{xOrder}
 use Rattle.code.specs.Encoding.{leastRate, mostRate, knownRate}
 use Rattle.code.specs.Rates.{known-bounds}
 use Rattle.near.specs.Here.{mOf, reachOf, Workable, genus-4, limitOf, workable as within}

@@ -1,4 +1,4 @@
--- The mask of the first lane of each four, by computed tests, and what one plane's shifts and products come to in the lanes of four.
+-- The mask of the first lane of each four repeats four lanes, by a computed test, and what one plane's shifts and products come to in the lanes of four.
 use mathlib.Core.Bool.{Bool}
 use mathlib.Core.Path.{_≡_, ap, _∙_}
 use mathlib.Core.List.{List, [], _∷_}
@@ -12,32 +12,14 @@ use Rattle.algebra.specs.Sum.{sum-ext}
 use Rattle.algebra.specs.Coefficients.{unit}
 use Rattle.galois.specs.Gf16.{gf16}
 use Rattle.galois.specs.Field16.{K16}
-use Rattle.family.specs.Extraction.{atZero}
 use Rattle.planes.specs.Bits.{bitAt, fromBits}
 use Rattle.planes.specs.Lanes.{lane}
 use Rattle.planes.specs.Elements.{element}
 use Rattle.planes.specs.Arrays.{planesIn, elementAt, productOf, product-element}
-use Rattle.coefficients.specs.Moved.{Marks, Repeats, folded, element-folded, placedAt, element-placed, repeatedAt, element-repeated}
+use Rattle.coefficients.specs.Moved.{Repeats, folded, element-folded, placedAt, element-placed, repeatedAt, element-repeated}
+use Rattle.coefficients.specs.Marked.{marks-16}
 use Rattle.coefficients.specs.Reading.{marks, metOf, repeatOf, Fibre, Entry}
 open Field K16 using (_⊗_)
-
-marked : ℕ → Bool
-marked p = eqb (bitAt marks p) (atZero (p % 4) 1)
-
-marked-at : (p : ℕ) → p < 64 → bitAt marks p ≡ atZero (p % 4) 1
-unfolding every marked bitAt
-marked-at p h = eqb→eq _ _ (every-at 64 marked tt p h)
-
-marks-16 : Marks 4 64 marks
-marks-16 =
-    record {
-      at-blocks = λ x h. let e : x * 4 % 4 ≡ 0 = omega arith in marked-at (x * 4) h ∙ ap (λ k. atZero k 1) e;
-      between = λ x k a b h. marked-at (x * 4 + k) h ∙ off x k a b;
-    }
-  where
-    off : (x k : ℕ) → 0 < k → k < 4 → atZero ((x * 4 + k) % 4) 1 ≡ 0
-    off x zero a b = absurd (omega arith)
-    off x (suc k) a b = let e : (x * 4 + suc k) % 4 ≡ suc k = omega arith in ap (λ k. atZero k 1) e
 
 again : ℕ → ℕ → Bool
 again a p = eqb (bitAt (a * marks) p) (bitAt a (p % 4))

@@ -8,20 +8,13 @@ use Rattle.lists.specs.Listed.{listed-ext}
 use Rattle.algebra.specs.Field.{Field, zero-mul, one-mul}
 use Rattle.algebra.specs.Sum.{sum, sum-nil, sum-suc, sum-ext, sum-single}
 use Rattle.algebra.specs.Coefficients.{unit, unit-at, unit-off}
-use Rattle.galois.specs.Field16.{K16, toF, toF-zero, toF-injective}
+use Rattle.galois.specs.Field16.{K16, toF-injective}
 use Rattle.family.specs.Member.{m16, places}
-use Rattle.planes.specs.Bits.{fromBits}
-use Rattle.planes.specs.Lanes.{lane, lane-zero}
-use Rattle.planes.specs.Elements.{element}
-use Rattle.planes.specs.Arrays.{planesIn, elementAt, Carries, sumOf, sum-element, symbolAt, symbol-lt, element-symbol}
+use Rattle.planes.specs.Arrays.{planesIn, elementAt, none-element, Carries, sumOf, sum-element, symbolAt, symbol-lt, element-symbol}
 use Rattle.planes.specs.Words.{wordOf, wordOf-element}
 use Rattle.coefficients.specs.Duals as Duals
 use Rattle.coefficients.specs.Reading.{Fibre, Entry, yDualAt, xDualAt, FibreSums, Gathered, coefficientsOf}
-open Field K16 using (_⊕_, _⊗_, 𝟘)
-
-none-element : (p : ℕ) → elementAt (0 ∷ 0 ∷ 0 ∷ 0 ∷ []) p ≡ 𝟘
-unfolding element lane fromBits planesIn
-none-element p = ap toF (lane-zero 4 p) ∙ toF-zero
+open Field K16 using (_⊕_, _⊗_)
 
 -- ---- over the powers of y
 module _ (values : List ℕ) where

@@ -4,4 +4,4 @@ pub mod orders;
 pub mod tables;
 
 // The first lane of each four.
-const MARKS: u64 = 0x1111_1111_1111_1111;
+pub const MARKS: u64 = 0x1111_1111_1111_1111;

@@ -21,7 +21,7 @@ fn repeat(plane: u64, x: usize) -> u64
 }
 
 // What x adds at each order.
-fn entry(sums: Planes, dual: Planes, x: usize) -> Planes
+pub fn entry(sums: Planes, dual: Planes, x: usize) -> Planes
     requires { ⌜ x < 16 ⌝ }
     ensures { λ r. ⌜ Entry sums dual x r ⌝ }
 {

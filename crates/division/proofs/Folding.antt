@@ -13,7 +13,7 @@ use lib.ListN.{length, getD, set, replicate, getD-replicate, length-set}
 use lib.Seq.{getD-set-same, getD-set-other}
 use Rattle.lists.specs.Listed.{listed, listed-length, listed-at, listed-by}
 use Rattle.lists.specs.Passed.{Passed}
-use Rattle.rows.specs.Rows.{plainWidth}
+use Rattle.coefficients.specs.Bytes.{plainWidth}
 use Rattle.division.specs.Parts.{lowerAt, lower-first, lower-next, foldedAt, folded-here, folded-off, folded-beyond, yAt}
 
 -- what is stored at o

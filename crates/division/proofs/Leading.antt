@@ -13,7 +13,7 @@ use lib.ListN.{length, getD}
 use Rattle.algebra.specs.Field.{Field}
 use Rattle.algebra.specs.Coefficients.{Below, below-pred, lead-unique, lead-below}
 use Rattle.galois.specs.Field16.{K16, toF, toF-mod, toF-zero, toF-ne-zero}
-use Rattle.rows.specs.Rows.{coef, coef-at, coef-beyond}
+use Rattle.coefficients.specs.Bytes.{coef, coef-at, coef-beyond}
 use Rattle.division.specs.Parts.{LeadFound}
 open Field K16 using (𝟘)
 

@@ -21,7 +21,7 @@ use Rattle.algebra.specs.Coefficients.{choose-yes, choose-no, plus, scale, shif
 use Rattle.galois.specs.Gf16.{times, inverse}
 use Rattle.galois.specs.Field16.{GF, K16, toF, toF-zero, times-lt}
 use Rattle.hermitian.specs.Division.{quotientAt, divideStep, remainder, remainder-nil, remainder-suc, quotient}
-use Rattle.rows.specs.Rows.{coef, coef-at}
+use Rattle.coefficients.specs.Bytes.{coef, coef-at}
 use Rattle.division.specs.Parts.{cut, yAt, LeadFound}
 use Rattle.division.specs.Dividing.{nextAt, yOnce, yPowers, Roomy, Divided, next-is, step-is}
 open Field K16 using (𝟘)

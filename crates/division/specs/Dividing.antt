@@ -26,7 +26,7 @@ use Rattle.galois.specs.Field16.{GF, K16, toF, toF-add, toF-times, toF-inverse,
 use Rattle.hermitian.specs.Present.{Present, decPresent}
 use Rattle.hermitian.specs.Ring.{timesY, powY, powY-nil, powY-suc, below-powY, timesMonomial}
 use Rattle.hermitian.specs.Division.{quotientAt, divideStep, quotient}
-use Rattle.rows.specs.Rows.{plainWidth, coef, coef-at, coef-beyond}
+use Rattle.coefficients.specs.Bytes.{plainWidth, coef, coef-at, coef-beyond}
 use Rattle.division.specs.Parts.{cut, cut-below, coef-cut, yAt, coef-y}
 open Field K16 using (_⊕_, _⊗_, 𝟘, inv)
 

@@ -20,8 +20,7 @@ use Rattle.algebra.specs.Field.{Field}
 use Rattle.algebra.specs.Coefficients.{choose, choose-yes, choose-no, Below, Lead, shift, shift-high, shift-low}
 use Rattle.galois.specs.Field16.{GF, K16, toF, toF-add, toF-zero}
 use Rattle.hermitian.specs.Ring.{timesY, top, descent, top-at, top-off}
-use Rattle.rows.specs.Rows.{plainWidth, coef, coef-at}
-use Rattle.rows.specs.Bytes.{coef-listed}
+use Rattle.coefficients.specs.Bytes.{plainWidth, coef, coef-at, coef-listed}
 open Field K16 using (_⊕_, _⊗_, 𝟘)
 
 unfoldable pub lowerAt : List ℕ → ℕ → ℕ

@@ -3,7 +3,7 @@ ghost use mathlib.Core.Path.{_≡_};
 ghost use Prim.Native.Nat.{_<_, _-_, _*_, _/_, _%_};
 ghost use lib.ListN.{length};
 ghost use Rattle.lists.specs.Listed.{listed};
-ghost use Rattle.rows.specs.Rows.{plainWidth};
+ghost use Rattle.coefficients.specs.Bytes.{plainWidth};
 ghost use Rattle.division.specs.Dividing.{lessAt, nextAt, yPowers, Divided};
 use galois::inverse;
 use galois::product;

@@ -2,7 +2,7 @@
 ghost use mathlib.Core.Path.{_≡_};
 ghost use Prim.Native.Nat.{_<_};
 ghost use Rattle.lists.specs.Listed.{listed};
-ghost use Rattle.rows.specs.Rows.{plainWidth};
+ghost use Rattle.coefficients.specs.Bytes.{plainWidth};
 ghost use Rattle.division.specs.Parts.{yAt, LeadFound};
 
 // The highest order whose coefficient is not zero; 0 where all are.

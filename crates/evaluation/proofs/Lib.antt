@@ -1,1 +1,3 @@
-pub mod Evaluating
+pub mod Tabled
+pub mod Broadened
+pub mod Turns

@@ -1,5 +1,5 @@
-// Evaluation: the monomials of each place from a constant table, and the values of a function by dot products with them.
+// Evaluation: the values of a function at all places at once, in planes, from the constant powers of x and the constant y by place.
 // It knows of no message and no rate.
-pub mod monomials;
-pub mod table;
+pub mod powers;
+pub mod sums;
 pub mod value;

@@ -13,7 +13,7 @@ use Rattle.algebra.specs.Coefficients.{unit, unit-at, unit-off}
 use Rattle.galois.specs.Field16.{K16, toF, value, value-toF, toF-zero, toF-one, value-zero}
 use Rattle.hermitian.specs.Interpolant.{without-joined, with-joined, gap-joined}
 use Rattle.hermitian.specs.Frobenius.{frobenius}
-use Rattle.rows.specs.Rows.{coef, coef-at}
+use Rattle.coefficients.specs.Bytes.{coef, coef-at}
 use Rattle.basis.specs.Choice.{Chosen, none, one}
 use Rattle.interpolant.specs.LeastQ.{byteKey, readingLength}
 use Rattle.interpolant.specs.Reading.{byteOf}

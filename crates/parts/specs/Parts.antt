@@ -23,7 +23,7 @@ use Rattle.planes.specs.Rows.{valueAt}
 use Rattle.coefficients.specs.Reading.{coefficientsOf}
 use Rattle.coefficients.specs.Recovery.{coefficients-recovered}
 use Rattle.values.specs.Holds.{Holds, first-value}
-use Rattle.rows.specs.Rows.{coef, coef-at}
+use Rattle.coefficients.specs.Bytes.{coef, coef-at}
 open Field K16 using (_⊕_, _⊗_)
 
 unfoldable pub valuesOf : List ℕ → ℕ → ℕ → GF

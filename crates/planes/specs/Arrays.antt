@@ -4,6 +4,7 @@
 --   elementAt a p      the element at lane p
 --   Carries v a        the array holds v p at each of the 64 places p
 --   symbolAt a p       the symbol at lane p: a number below 16 (symbol-lt); element-symbol: the element's
+--   none-element       planes of zeros hold zero
 --   sumOf a b, sum-element           the sum in every lane
 --   productOf a b, product-element   the product in every lane
 --   spreadOf c, spread-carries       one symbol at every place
@@ -24,7 +25,7 @@ use Rattle.galois.specs.Gf16.{gf16}
 use Rattle.galois.specs.Field16.{GF, K16, toF, toF-times, toF-zero}
 use Rattle.family.specs.Member.{m16, places}
 use Rattle.planes.specs.Bits.{bitAt, bitAt-at, bitAt-first, bitAt-spread, fromBits}
-use Rattle.planes.specs.Lanes.{Planes, lane}
+use Rattle.planes.specs.Lanes.{Planes, lane, lane-zero}
 use Rattle.planes.specs.Elements as Elements
 use Rattle.planes.specs.Product as Product
 use Rattle.planes.specs.Product.{ones, twos, fours, eights, lane-product}
@@ -69,6 +70,10 @@ symbol-lt a p = omega arith
 
 pub element-symbol : (a : List ℕ) (p : ℕ) → elementAt a p ≡ toF (symbolAt a p)
 element-symbol a p = Elements.element-lane gf16 (planesIn a) p ∙ ap toF (sym (symbol-lane a p))
+
+pub none-element : (p : ℕ) → elementAt (0 ∷ 0 ∷ 0 ∷ 0 ∷ []) p ≡ 𝟘
+unfolding Elements.element lane fromBits planesIn
+none-element p = ap toF (lane-zero 4 p) ∙ toF-zero
 
 -- ---- all lanes
 abbrev entry : List ℕ → ℕ → ℕ

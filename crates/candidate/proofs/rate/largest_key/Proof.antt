@@ -5,7 +5,7 @@ use native.Mathlib.Nat.{mod-eq-of-lt}
 use native.Mathlib.Omega.{arith}
 use Rattle.hermitian.specs.Orders.{orderOf}
 use Rattle.hermitian.specs.Repair.{limit}
-use Rattle.rows.specs.Rows.{xOrder}
+use Rattle.coefficients.specs.Bytes.{xOrder}
 use Rattle.code.specs.Rates.{longest}
 use Rattle.near.specs.Here.{mOf, reachOf, limitOf}
 use Rattle.near.specs.Interpolated as Interpolated

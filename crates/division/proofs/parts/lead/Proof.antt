@@ -3,7 +3,7 @@ use Prim.Native.Nat.{_≤_}
 use borrow.Author.Needs.{needs}
 use Rattle.algebra.specs.Coefficients.{Below}
 use Rattle.galois.specs.Field16.{K16}
-use Rattle.rows.specs.Rows.{coef}
+use Rattle.coefficients.specs.Bytes.{coef}
 use Rattle.division.proofs.Leading.{all-below, one-lower, lead-here, lead-nowhere}
 use Rattle.division.proofs.parts.lead.Statement.{statement}
 use Rattle.division.proofs.parts.lead.Tie as tie
