@@ -1,34 +1,45 @@
--- `extracted` meets its contract: the loop stores each message symbol.
-use mathlib.Core.Path.{_≡_, refl}
+-- `extracted` meets its contract: the loop stores each message symbol, which is the coefficient of its order.
+use mathlib.Core.Path.{_≡_, refl, ap, _∙_}
 use Prim.Native.Nat.{_-_}
-use lib.ListN.{replicate}
+use lib.ListN.{length, replicate}
 use Rattle.lists.specs.Filled.{Filled, filled-start, filled-turn, filled-end}
-use Rattle.family.specs.Member.{m16}
-use Rattle.code.specs.Extraction.{messageAt, momentsOf, extractOf}
-use Rattle.reading_back.proofs.Turns.{message-entry}
+use Rattle.lists.specs.Words.{allBelow}
+use Rattle.coefficients.specs.Reading.{coefficientsOf}
+use Rattle.code.specs.Extraction.{messageAt}
 use Rattle.code.specs.Rates.{order-fits}
+use Rattle.family.specs.Extraction as Extraction
+use Rattle.reading_back.proofs.Shown.{shown-word, message-entry}
 use borrow.Author.Needs.{needs}
 use Rattle.reading_back.proofs.extracted.Statement.{statement}
 use Rattle.reading_back.proofs.extracted.Tie as tie
-use Rattle.family.specs.Extraction as Extraction
 
 abbrev Inv-loop : tie.InvT-loop
-Inv-loop word moments out₀ t₀ out t = (moments ≡ momentsOf word) × Filled (replicate 58 0) (messageAt word) t out
+Inv-loop word shown out₀ t₀ out t = (shown ≡ coefficientsOf word) × Filled (replicate 58 0) (messageAt word) t out
 
 abbrev μ-loop : tie.MeasureT-loop
-μ-loop word moments out₀ t₀ out t = 58 - t
+μ-loop word shown out₀ t₀ out t = 58 - t
 
-moments-requires : tie.Need-moments-requires Inv-loop μ-loop
-moments-requires c κs = search needs
+word-of-requires : tie.Need-word-of-requires Inv-loop μ-loop
+word-of-requires c κs = search needs
+
+planes-requires : tie.Need-planes-requires Inv-loop μ-loop
+planes-requires c κs = search needs
+
+coefficients-requires : tie.Need-coefficients-requires Inv-loop μ-loop
+coefficients-requires c κs = search needs
 
 loop-holds : tie.Need-loop-holds Inv-loop μ-loop
-loop-holds c = (c .moments .ensures, filled-start _ _)
+loop-holds c =
+    let same = c .before .before .word-of .ensures in
+    (c .coefficients .ensures
+    ∙ ap coefficientsOf (shown-word _ _ (ap length same ∙ c .before .before .before .before .pre .0) (ap (allBelow 16) same ∙ c .before .before .before .before .pre .1) (c .before .planes .ensures) ∙ same),
+    filled-start _ _)
 
 order-requires : tie.Need-order-requires Inv-loop μ-loop
 order-requires c κs = search needs
 
-symbol-requires : tie.Need-symbol-requires Inv-loop μ-loop
-symbol-requires c κs = order-fits _ (c .order .ensures)
+array-read-out : tie.Need-array-read-out Inv-loop μ-loop
+array-read-out c = order-fits _ (c .order .ensures) .1
 
 array-write-out : tie.Need-array-write-out Inv-loop μ-loop
 array-write-out c = search needs
@@ -41,8 +52,8 @@ loop-less c = search needs
 
 loop-again : tie.Need-loop-again Inv-loop μ-loop
 loop-again c =
-    let inv = c .before .before .before .loop .inv in
-    (inv .0, filled-turn 0 (inv .1) _ (search needs) (message-entry m16 _ _ (c .before .before .loop-test .taken) (inv .0) (c .before .order .ensures) (c .symbol .ensures)))
+    let inv = c .before .before .loop .inv in
+    (inv .0, filled-turn 0 (inv .1) _ (search needs) (message-entry _ _ (c .before .loop-test .taken) (inv .0) (c .order .ensures)))
 
 returns : tie.Need-returns Inv-loop μ-loop
 unfolding Extraction.extractOf
@@ -54,10 +65,12 @@ extracted-spec =
     (tie.spec
     Inv-loop
     μ-loop
-    moments-requires
+    word-of-requires
+    planes-requires
+    coefficients-requires
     loop-holds
     order-requires
-    symbol-requires
+    array-read-out
     array-write-out
     add-t
     loop-less

@@ -62,7 +62,7 @@ returns-4 : tie.Need-returns-4
 returns-4 c = read-symbol m16 knownRate _ _ _ (known (c .before .before .before .before)) (c .before .before .before .if2 .left) (c .before .before .if3 .left) (sym (c .before .symbols-only .ensures) ∙ not-true _ (c .if4 .taken))
 
 extracted-requires : tie.Need-extracted-requires
-extracted-requires c κs = search needs
+extracted-requires c κs = (search needs, sym (c .before .symbols-only .ensures) ∙ not-false _ (c .if4 .left))
 
 array-share-prefix-found : tie.Need-array-share-prefix-found
 array-share-prefix-found c = omega (arith, found-length c, few (c .before))

@@ -1,0 +1,18 @@
+-- `word_of` meets its contract: a copy of 64 bytes into 64 leaves nothing of what stood there.
+use mathlib.Core.Path.{_≡_, refl, sym, _∙_}
+use Rattle.lists.specs.Over.{over-same}
+use borrow.Author.Needs.{needs}
+use Rattle.reading_back.proofs.word_of.Statement.{statement}
+use Rattle.reading_back.proofs.word_of.Tie as tie
+
+slice-aggregate-copy : tie.Need-slice-aggregate-copy
+slice-aggregate-copy c = search needs
+
+copy-requires : tie.Need-copy-requires
+copy-requires c κs = search needs
+
+returns : tie.Need-returns
+returns c = c .before .copy .ensures ∙ over-same _ _ (sym (c .before .before .before .before .pre))
+
+pub word-of-spec : {M : Type 1} → statement M
+word-of-spec = tie.close (tie.spec slice-aggregate-copy copy-requires returns)
