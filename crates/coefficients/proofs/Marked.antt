@@ -12,7 +12,7 @@ use Rattle.algebra.specs.Sum.{sum-ext}
 use Rattle.algebra.specs.Coefficients.{unit}
 use Rattle.galois.specs.Gf16.{gf16}
 use Rattle.galois.specs.Field16.{K16}
-use Rattle.planes.specs.Bits.{bitAt, fromBits}
+use Rattle.packing.specs.Bits.{bitAt, fromBits}
 use Rattle.planes.specs.Lanes.{lane}
 use Rattle.planes.specs.Elements.{element}
 use Rattle.planes.specs.Arrays.{planesIn, elementAt, productOf, product-element}

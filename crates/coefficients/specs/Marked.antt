@@ -8,7 +8,7 @@ use native.Mathlib.Omega.{arith}
 use lib.Dec.{eqb, eqb→eq}
 use Rattle.lists.specs.Every.{every, every-at}
 use Rattle.family.specs.Extraction.{atZero}
-use Rattle.planes.specs.Bits.{bitAt}
+use Rattle.packing.specs.Bits.{bitAt}
 use Rattle.coefficients.specs.Moved.{Marks}
 use Rattle.coefficients.specs.Reading.{marks}
 

@@ -18,7 +18,7 @@ use Rattle.algebra.specs.Field.{Field, zero-add, zero-mul, one-mul}
 use Rattle.algebra.specs.Sum.{sum, sum-nil, sum-suc, sum-ext, sum-append}
 use Rattle.algebra.specs.Coefficients.{unit, unit-at, unit-off}
 use Rattle.galois.specs.BinaryField.{Gf, K, toF, toF-zero}
-use Rattle.planes.specs.Bits.{bitAt, bitAt-down, bitAt-kept}
+use Rattle.packing.specs.Bits.{bitAt, bitAt-down, bitAt-kept}
 use Rattle.planes.specs.Lanes.{Planes, lane, lane-like, lane-down, lane-up, lane-under, lane-kept, lane-emptied}
 use Rattle.planes.specs.Elements.{element, element-like, element-lane, element-xor}
 

@@ -13,7 +13,7 @@ use Rattle.galois.specs.Field16.{GF, K16, toF, toF-zero}
 use Rattle.hermitian.specs.Keys.{IsKey}
 use Rattle.family.specs.Member.{m16, places}
 use Rattle.planes.specs.Arrays.{Carries, symbolsOf}
-use Rattle.planes.specs.Bits.{fromBits}
+use Rattle.packing.specs.Bits.{fromBits}
 use Rattle.planes.specs.Lanes.{lane, lane-zero}
 use Rattle.planes.specs.Elements as Elements
 use Rattle.planes.specs.Rows.{valueAt, partOf}

@@ -1,7 +1,9 @@
 // Encoding: a message as a function, symbol t at the t-th present order, and its values at all places; and the call.
 // It knows of no costs, no doubt and no session.
 ghost use mathlib.Core.Path.{_≡_};
-ghost use Prim.Native.Nat.{_%_};
+ghost use Prim.Native.Nat.{_+_, _%_, min};
+ghost use lib.ListN.{replicate};
+ghost use Rattle.lists.specs.Filled.{Filled};
 ghost use Rattle.lists.specs.Over.{over};
 ghost use Rattle.lists.specs.Words.{allBelow};
 ghost use Rattle.hermitian.specs.Present.{Present};
@@ -68,13 +70,37 @@ fn coefficient(message: &[u8], order: usize) -> u8
     0
 }
 
-fn function_of(message: &[u8]) -> [u8; 64]
-    ensures { λ r. ⌜ r ≡ functionOf (now (message .entry)) ⌝ }
+// The coefficients of the orders below 12, among which some are missing, and zeros behind them.
+fn lowest(message: &[u8]) -> [u8; 64]
+    ensures { λ r. ⌜ Filled (replicate 64 0) (coefficientOf (now (message .entry))) 12 r ⌝ }
 {
     let mut out = [0u8; 64];
     let mut order = 0;
-    while order < 64 {
+    while order < 12 {
         out[order] = coefficient(message, order);
+        order += 1;
+    }
+    out
+}
+
+// Where a message of so many symbols ends among the orders: from 12 on none is missing.
+fn end_of(symbols: usize) -> usize
+    ensures { λ r. ⌜ r ≡ min (symbols + 6) 64 ⌝ }
+{
+    if 58 <= symbols {
+        return 64;
+    }
+    symbols + 6
+}
+
+fn function_of(message: &[u8]) -> [u8; 64]
+    ensures { λ r. ⌜ r ≡ functionOf (now (message .entry)) ⌝ }
+{
+    let end = end_of(message.len());
+    let mut out = lowest(message);
+    let mut order = 12;
+    while order < end {
+        out[order] = message[order - 6];
         order += 1;
     }
     out
@@ -96,16 +122,18 @@ pub fn known_rate(rate: usize) -> bool
     rate <= MOST_RATE
 }
 
-// Whether every byte is a symbol.
+// Whether every byte is a symbol: their bits together then make one.
 pub fn symbols_only(bytes: &[u8]) -> bool
     ensures { λ r. ⌜ r ≡ allBelow 16 (now (bytes .entry)) ⌝ }
 {
+    let mut all = 0u8;
     let mut i = 0;
     while i < bytes.len() {
-        if 16 <= bytes[i] {
-            return false;
-        }
+        all = all | bytes[i];
         i += 1;
+    }
+    if 16 <= all {
+        return false;
     }
     true
 }

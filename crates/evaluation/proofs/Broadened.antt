@@ -11,7 +11,7 @@ use Rattle.algebra.specs.Sum.{sum, sum-nil, sum-suc, sum-single}
 use Rattle.algebra.specs.Coefficients.{unit, unit-at, unit-off}
 use Rattle.galois.specs.Gf16.{gf16}
 use Rattle.galois.specs.Field16.{GF, K16}
-use Rattle.planes.specs.Bits.{fromBits}
+use Rattle.packing.specs.Bits.{fromBits}
 use Rattle.planes.specs.Lanes.{Planes, lane, lane-up, lane-down}
 use Rattle.planes.specs.Elements.{element, element-like, element-xor}
 use Rattle.planes.specs.Arrays.{planesIn, elementAt}

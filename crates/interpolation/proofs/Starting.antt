@@ -12,7 +12,7 @@ use Rattle.galois.specs.Field16.{K16, toF, toF-zero, toF-one}
 use Rattle.hermitian.specs.Keys.{key, zPower, first, first-even, first-odd}
 use Rattle.family.specs.Member.{m16, places, py}
 use Rattle.planes.specs.Arrays.{elementAt, Carries, symbolsOf, spreadOf, spread-carries, productOf, product-element}
-use Rattle.planes.specs.Bits.{fromBits}
+use Rattle.packing.specs.Bits.{fromBits}
 use Rattle.planes.specs.Lanes.{lane, lane-zero}
 use Rattle.planes.specs.Elements as Elements
 use Rattle.planes.specs.Rows.{valueAt, joinedOf, whole-joined, slope-joined}

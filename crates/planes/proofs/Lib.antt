@@ -1,5 +1,4 @@
 pub mod Multiplied
-pub mod Packed
 pub mod Unpacked
 pub mod Raising
 pub mod Moving

@@ -12,7 +12,7 @@ use Rattle.algebra.specs.Field.{Field, add-zero}
 use Rattle.galois.specs.Gf16.{gf16, times}
 use Rattle.galois.specs.Field16.{K16, toF, toF-times}
 use Rattle.family.specs.Member.{m16, places}
-use Rattle.planes.specs.Bits.{bitAt, bitAt-at, bitAt-zero, bitAt-suc, bitAt-first, bitAt-up, bitAt-under, bitAt-kept}
+use Rattle.packing.specs.Bits.{bitAt, bitAt-at, bitAt-zero, bitAt-suc, bitAt-first, bitAt-up, bitAt-under, bitAt-kept}
 use Rattle.planes.specs.Elements as Elements
 use Rattle.planes.specs.Arrays.{planesIn, elementAt, Carries, onlyAt, only-here, only-off, sumOf, sum-element, symbolAt, element-symbol}
 use Rattle.planes.specs.Rows.{valueAt, wholeOf, slopeOf, joinedOf, value-whole, value-slope, whole-joined, slope-joined, Moved}

@@ -7,7 +7,7 @@ use lib.ListN.{getD}
 use Rattle.algebra.specs.Field.{Field, add-assoc, mul-assoc, one-mul, zero-mul, add-mul}
 use Rattle.galois.specs.Field16.{GF, K16, toF, toF-add, toF-times, toF-zero, toF-one}
 use Rattle.galois.specs.Binary as Binary
-use Rattle.planes.specs.Bits.{fromBits}
+use Rattle.packing.specs.Bits.{fromBits}
 use Rattle.planes.specs.Lanes.{lane, lane-zero}
 use Rattle.planes.specs.Elements as Elements
 use Rattle.planes.specs.Rows.{partOf, valueAt, rowSum, value-sum, doubledRow, value-doubled, factor, factor-split, MultiplesOf, AddedBy}

@@ -9,7 +9,7 @@ use lib.Dec.{eqb, eqb→eq, lit<}
 use lib.ListN.{length, getD, set}
 use Rattle.lists.specs.Every.{every, every-at}
 use Rattle.lists.specs.Filled.{Filled, filled-turn}
-use Rattle.planes.specs.Bits.{bitAt, bitAt-at, bitAt-kept, bitAt-down}
+use Rattle.packing.specs.Bits.{bitAt, bitAt-at, bitAt-kept, bitAt-down}
 use Rattle.planes.specs.Arrays.{symbolAt, symbol-lt}
 use Rattle.planes.specs.Words.{apartOf, fourOf}
 

@@ -24,7 +24,7 @@ use Rattle.algebra.specs.Field.{Field}
 use Rattle.galois.specs.Gf16.{gf16}
 use Rattle.galois.specs.Field16.{GF, K16, toF, toF-times, toF-zero}
 use Rattle.family.specs.Member.{m16, places}
-use Rattle.planes.specs.Bits.{bitAt, bitAt-at, bitAt-first, bitAt-spread, fromBits}
+use Rattle.packing.specs.Bits.{bitAt, bitAt-at, bitAt-first, bitAt-spread, fromBits}
 use Rattle.planes.specs.Lanes.{Planes, lane, lane-zero}
 use Rattle.planes.specs.Elements as Elements
 use Rattle.planes.specs.Product as Product

@@ -13,7 +13,7 @@ use lib.Dec.{T, eqb, eqb→eq}
 use Rattle.lists.specs.Every.{every, every-at}
 use Rattle.algebra.specs.Field.{Field}
 use Rattle.galois.specs.BinaryField.{Gf, GF, K, toF, toF-add, toF-mod}
-use Rattle.planes.specs.Bits.{bitAt}
+use Rattle.packing.specs.Bits.{bitAt}
 use Rattle.planes.specs.Lanes.{Planes, lane, lane-by, lane-xor}
 
 module _ (𝓕 : Gf) where

@@ -17,7 +17,7 @@ use lib.Dec.{T, eqb, eqb→eq}
 use lib.Bits.{bitAnd, bitXor, and-zero-r, and-mask}
 use lib.Pow.{pow-pos}
 use Rattle.lists.specs.Every.{every₂, every₂-at}
-use Rattle.planes.specs.Bits.{bitAt, bitAt-lt, bitAt-zero, bitAt-xor, bitAt-and, bitAt-down, bitAt-up, bitAt-under, bitAt-kept, fromBits, fromBits-lt, fromBits-ext, fromBits-xor, bitAt-fromBits, fromBits-bitAt}
+use Rattle.packing.specs.Bits.{bitAt, bitAt-lt, bitAt-zero, bitAt-xor, bitAt-and, bitAt-down, bitAt-up, bitAt-under, bitAt-kept, fromBits, fromBits-lt, fromBits-ext, fromBits-xor, bitAt-fromBits, fromBits-bitAt}
 
 abbrev pub Planes : Type 0
 Planes = ℕ → ℕ

@@ -1,4 +1,3 @@
-pub mod Bits
 pub mod Lanes
 pub mod Elements
 pub mod Product

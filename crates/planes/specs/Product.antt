@@ -12,7 +12,7 @@ use lib.Dec.{lit<}
 use Rattle.lists.specs.Every.{every, every₂}
 use Rattle.galois.specs.Binary as Binary
 use Rattle.galois.specs.Gf16.{times}
-use Rattle.planes.specs.Bits.{bitAt, bitAt-xor, bitAt-and, fromBits}
+use Rattle.packing.specs.Bits.{bitAt, bitAt-xor, bitAt-and, fromBits}
 use Rattle.planes.specs.Lanes.{Planes, lane, Bitwise, lanewise}
 
 module _ (f g : Planes) where

@@ -25,7 +25,7 @@ use Rattle.algebra.specs.Field.{Field}
 use Rattle.galois.specs.Gf16.{gf16}
 use Rattle.galois.specs.Field16.{GF, K16, toF, toF-add, toF-times, toF-mod}
 use Rattle.family.specs.Member.{m16, places, px}
-use Rattle.planes.specs.Bits.{fromBits}
+use Rattle.packing.specs.Bits.{fromBits}
 use Rattle.planes.specs.Lanes.{Planes, lane}
 use Rattle.planes.specs.Elements as Elements
 use Rattle.planes.specs.Product.{doubledOf, lane-doubled}

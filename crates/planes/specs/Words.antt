@@ -1,6 +1,6 @@
 -- Words and planes: the planes of a word's symbols, and the word that planes hold.
 --
---   bitsOf b word              bit b of each symbol; planeOf b word: the plane of these bits
+--   planeOf b word             the plane of bit b of each symbol
 --   planes-carry               four of them hold the word
 --   wordOf a                   the word that four planes hold: wordOf-at, wordOf-element
 --   apartOf x a, fourOf x a    the bits, and the symbols, of the four lanes from 4x on, in bytes of their own
@@ -14,12 +14,10 @@ use Rattle.lists.specs.Listed.{listed, listed-at}
 use Rattle.galois.specs.Gf16.{gf16}
 use Rattle.galois.specs.Field16.{toF}
 use Rattle.family.specs.Member.{m16, places}
-use Rattle.planes.specs.Bits.{bitAt, bitAt-lt, fromBits, bitAt-fromBits}
+use Rattle.packing.specs.Bits.{bitAt, bitAt-lt, fromBits, bitAt-fromBits}
+use Rattle.packing.specs.Sixteens.{bitsOf}
 use Rattle.planes.specs.Elements as Elements
 use Rattle.planes.specs.Arrays.{planesIn, elementAt, Carries, symbolsOf, symbolAt, element-symbol}
-
-unfoldable pub bitsOf : ℕ → List ℕ → ℕ → ℕ
-bitsOf b word p = bitAt (getD word p 0) b
 
 unfoldable pub planeOf : ℕ → List ℕ → ℕ
 planeOf b word = fromBits (places m16) (bitsOf b word)

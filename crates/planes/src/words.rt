@@ -2,32 +2,24 @@
 ghost use mathlib.Core.Path.{_≡_};
 ghost use Prim.Native.Nat.{_<_};
 ghost use Rattle.planes.specs.Arrays.{Carries, symbolsOf};
-ghost use Rattle.planes.specs.Words.{planeOf, apartOf, fourOf, wordOf};
+ghost use Rattle.planes.specs.Words.{apartOf, fourOf, wordOf};
 use crate::PLACES;
 use crate::Planes;
-
-// One bit of the symbols at all places.
-fn plane(word: [u8; PLACES], bit: u8) -> u64
-    requires { ⌜ bit < 4 ⌝ }
-    ensures { λ r. ⌜ r ≡ planeOf bit word ⌝ }
-{
-    let mut out = 0u64;
-    let mut place = PLACES;
-    while 0 < place {
-        place -= 1;
-        out = out * 2 + ((word[place] >> bit) % 2) as u64;
-    }
-    out
-}
+use packing::joined;
+use packing::sixteen;
 
 // Symbols count modulo 16.
 pub fn planes(word: [u8; PLACES]) -> Planes
     ensures { λ r. ⌜ Carries (symbolsOf word) r ⌝ }
 {
-    let one = plane(word, 0);
-    let two = plane(word, 1);
-    let four = plane(word, 2);
-    let eight = plane(word, 3);
+    let a = sixteen(word, 0);
+    let b = sixteen(word, 16);
+    let c = sixteen(word, 32);
+    let d = sixteen(word, 48);
+    let one = joined(a, b, c, d, 0);
+    let two = joined(a, b, c, d, 1);
+    let four = joined(a, b, c, d, 2);
+    let eight = joined(a, b, c, d, 3);
     [one, two, four, eight]
 }
 

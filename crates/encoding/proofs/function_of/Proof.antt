@@ -1,25 +1,39 @@
--- `function_of` meets its contract: the loop stores the coefficient of each order.
-use mathlib.Core.Path.{refl}
-use Prim.Native.Nat.{_-_}
-use lib.ListN.{replicate}
-use Rattle.lists.specs.Filled.{Filled, filled-start, filled-turn, filled-end}
-use Rattle.code.specs.Evaluation.{coefficientOf, functionOf}
+-- `function_of` meets its contract: from order 12 on the symbols stand one after the other, and behind the last of them zeros.
+use mathlib.Core.Path.{_≡_, refl}
+use Prim.Native.Nat.{_+_, _-_, _≤_, min}
+use native.Mathlib.Omega.{arith}
+use lib.ListN.{length, replicate}
+use Rattle.lists.specs.Filled.{Filled, filled-turn}
+use Rattle.hermitian.specs.Present.{genus}
+use Rattle.family.specs.Member.{m16}
+use Rattle.family.specs.Evaluation as Evaluation
+use Rattle.code.specs.Evaluation.{coefficientOf}
+use Rattle.encoding.proofs.Symbols.{filled-rest, large-coefficient, large-beyond}
 use borrow.Author.Needs.{needs}
 use Rattle.encoding.proofs.function_of.Statement.{statement}
 use Rattle.encoding.proofs.function_of.Tie as tie
-use Rattle.family.specs.Evaluation as Evaluation
 
 abbrev Inv-loop : tie.InvT-loop
-Inv-loop message out₀ order₀ out order = Filled (replicate 64 0) (coefficientOf message) order out
+Inv-loop message end out₀ order₀ out order =
+    (12 ≤ order) × (order ≤ 64) × (end ≡ min (length message + 6) 64) × Filled (replicate 64 0) (coefficientOf message) order out
 
 abbrev μ-loop : tie.MeasureT-loop
-μ-loop message out₀ order₀ out order = 64 - order
+μ-loop message end out₀ order₀ out order = end - order
+
+end-of-requires : tie.Need-end-of-requires Inv-loop μ-loop
+end-of-requires c κs = search needs
+
+lowest-requires : tie.Need-lowest-requires Inv-loop μ-loop
+lowest-requires c κs = search needs
 
 loop-holds : tie.Need-loop-holds Inv-loop μ-loop
-loop-holds c = filled-start _ _
+loop-holds c = (search needs, search needs, c .before .end-of .ensures, c .lowest .ensures)
 
-coefficient-requires : tie.Need-coefficient-requires Inv-loop μ-loop
-coefficient-requires c κs = search needs
+sub-out : tie.Need-sub-out Inv-loop μ-loop
+sub-out c = search needs
+
+shared-slice-read-out : tie.Need-shared-slice-read-out Inv-loop μ-loop
+shared-slice-read-out c = search needs
 
 array-write-out : tie.Need-array-write-out Inv-loop μ-loop
 array-write-out c = search needs
@@ -31,11 +45,16 @@ loop-less : tie.Need-loop-less Inv-loop μ-loop
 loop-less c = search needs
 
 loop-again : tie.Need-loop-again Inv-loop μ-loop
-loop-again c = filled-turn 0 (c .before .before .loop .inv) _ (search needs) (c .coefficient .ensures)
+unfolding genus
+loop-again c =
+    let inv = c .before .before .loop .inv in
+    (search needs, search needs, inv .2, filled-turn 0 (inv .3) _ (search needs) (large-coefficient m16 _ _ (inv .0)))
 
 returns : tie.Need-returns Inv-loop μ-loop
-unfolding Evaluation.functionOf
-returns c = filled-end 0 (c .before .loop .inv) 64 refl (c .loop-test .left)
+unfolding Evaluation.functionOf genus
+returns c =
+    let inv = c .before .loop .inv in
+    filled-rest 64 refl (inv .3) (λ k l h. large-beyond m16 64 _ k (omega arith) (omega arith) h)
 
 pub function-of-spec : {M : Type 1} → statement M
 function-of-spec =
@@ -43,8 +62,11 @@ function-of-spec =
     (tie.spec
     Inv-loop
     μ-loop
+    end-of-requires
+    lowest-requires
     loop-holds
-    coefficient-requires
+    sub-out
+    shared-slice-read-out
     array-write-out
     add-order
     loop-less

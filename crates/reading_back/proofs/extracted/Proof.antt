@@ -30,10 +30,11 @@ coefficients-requires c κs = search needs
 
 loop-holds : tie.Need-loop-holds Inv-loop μ-loop
 loop-holds c =
-    let same = c .before .before .word-of .ensures in
-    (c .coefficients .ensures
-    ∙ ap coefficientsOf (shown-word _ _ (ap length same ∙ c .before .before .before .before .pre .0) (ap (allBelow 16) same ∙ c .before .before .before .before .pre .1) (c .before .planes .ensures) ∙ same),
-    filled-start _ _)
+    let same = c .before .before .word-of .ensures in (
+      c .coefficients .ensures
+          ∙ ap coefficientsOf (shown-word _ _ (ap length same ∙ c .before .before .before .before .pre .0) (ap (allBelow 16) same ∙ c .before .before .before .before .pre .1) (c .before .planes .ensures) ∙ same),
+      filled-start _ _,
+    )
 
 order-requires : tie.Need-order-requires Inv-loop μ-loop
 order-requires c κs = search needs

@@ -2,7 +2,7 @@
 use Rattle.lists.specs.Every.{every}
 use Rattle.galois.specs.Binary as Binary
 use Rattle.hermitian.specs.Orders.{isPresent}
-use Rattle.planes.specs.Bits.{bitAt, fromBits}
+use Rattle.packing.specs.Bits.{bitAt, fromBits}
 use Rattle.planes.specs.Lanes.{lane}
 use Rattle.planes.specs.Arrays.{planesIn}
 use Rattle.evaluation.specs.Values as Values

@@ -1,7 +1,7 @@
 use Rattle.lists.specs.Every.{every}
 use Rattle.galois.specs.Gf16.{gf16}
 use Rattle.family.specs.Member.{m16, places}
-use Rattle.planes.specs.Bits.{bitAt, fromBits}
+use Rattle.packing.specs.Bits.{bitAt, fromBits}
 use Rattle.planes.specs.Lanes.{lane}
 use Rattle.planes.specs.Elements.{carries-tested}
 use Rattle.planes.specs.Arrays.{planesIn}

@@ -9,6 +9,7 @@
 --   bitAt-ones, bitAt-spread 2 ^ n − 1 has every bit below n, and its multiple by a bit has that bit there
 --   fromBits n f             the number with the bits f 0, …, f (n − 1), lowest first
 --   fromBits-lt, fromBits-ext, fromBits-xor   below 2 ^ n; equal bits; sums of bits
+--   fromBits-append          of m + n bits: the last n stand above the first m
 --   bitAt-fromBits           its bits are f's
 --   bitsFrom n i f           the number with the bits f i, …, f (n − 1): one step down doubles it and adds a bit
 --   fromBits-bitAt           the number with the bits of a is a, below 2 ^ n
@@ -117,6 +118,23 @@ fromBits-xor zero f g b c = refl
 fromBits-xor (suc n) f g b c =
     ap (λ (x : ℕ). x * 2 + bitXor (f 0) (g 0)) (fromBits-xor n _ _ (λ k. b (suc k)) (λ k. c (suc k)))
     ∙ sym (xor-block 1 (fromBits n (λ k. f (suc k))) (fromBits n (λ k. g (suc k))) (f 0) (g 0) (b 0) (c 0))
+
+pub fromBits-append : (m n : ℕ) (f : ℕ → ℕ) → fromBits (m + n) f ≡ fromBits m f + fromBits n (λ k. f (m + k)) * 2 ^ m
+fromBits-append zero n f =
+    let z : 0 + n ≡ n = omega arith in
+    ap (λ (k : ℕ). fromBits k f) z ∙ fromBits-ext n _ _ (λ k l. let s : k ≡ 0 + k = omega arith in ap f s)
+    ∙ omega (arith, fromBits-nil f)
+fromBits-append (suc m) n f =
+    let e : suc m + n ≡ suc (m + n) = omega arith in
+    let above : fromBits n (λ k. f (suc (m + k))) ≡ fromBits n (λ k. f (suc m + k)) =
+    fromBits-ext n _ _ (λ k l. let s : suc (m + k) ≡ suc m + k = omega arith in ap f s) in
+    ap (λ (k : ℕ). fromBits k f) e ∙ fromBits-suc (m + n) f
+    ∙ ap (λ (x : ℕ). x * 2 + f 0) (fromBits-append m n (λ k. f (suc k)) ∙ ap (λ (x : ℕ). fromBits m (λ k. f (suc k)) + x * 2 ^ m) above)
+    ∙ moved (fromBits m (λ k. f (suc k))) (fromBits n (λ k. f (suc m + k))) (f 0) (2 ^ m)
+    ∙ ap₂ (λ (x y : ℕ). x + fromBits n (λ k. f (suc m + k)) * y) (sym (fromBits-suc m f)) (sym (pow-suc 2 m))
+  where
+    moved : (a b c t : ℕ) → (a + b * t) * 2 + c ≡ (a * 2 + c) + b * (t * 2)
+    moved a b c t = omega arith
 
 pub bitAt-fromBits : (n : ℕ) (f : ℕ → ℕ) → ((k : ℕ) → f k < 2) → (k : ℕ) → k < n → bitAt (fromBits n f) k ≡ f k
 bitAt-fromBits zero f b k h = absurd (omega arith)
