@@ -9,7 +9,7 @@ use Rattle.algebra.specs.Coefficients.{scale}
 use Rattle.galois.specs.Gf16.{times}
 use Rattle.galois.specs.Field16.{K16, toF, value}
 use Rattle.hermitian.specs.Interpolant.{without-joined, with-joined}
-use Rattle.rows.specs.Rows.{coef, coef-at, value-times-toF}
+use Rattle.coefficients.specs.Bytes.{coef, coef-at, value-times-toF}
 use Rattle.interpolant.specs.LeastQ.{byteKey}
 use Rattle.interpolant.specs.Reading.{byteOf}
 use Rattle.parts.specs.Parts.{polynomialOf}

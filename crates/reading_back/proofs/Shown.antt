@@ -29,9 +29,9 @@ shown-word word a size below held =
     (listed-by 0 (places m16) word (symbolAt a) size
     (λ p h. toF-injective _ _ (allBelow-at (symbols m16) word (true-T _ below) p (omega arith)) (symbol-lt a p) (sym (held .lanes p h) ∙ element-symbol a p)))
 
-pub message-entry : (v : List ℕ) (t : ℕ) {shown : List ℕ} {o : ℕ} → t < longest → shown ≡ coefficientsOf v → o ≡ orderOf 4 (t % longest) → getD shown o 0 ≡ messageAt v t
+pub message-entry : (v : List ℕ) (t : ℕ) {shown : List ℕ} {o : ℕ} → t < longest → shown ≡ coefficientsOf v → o ≡ orderOf (m16 .w) (t % longest) → getD shown o 0 ≡ messageAt v t
 unfolding Duals.coefficientsOf coefficientAt Extraction.messageAt
 message-entry v t {shown} {o} h e q =
     let fits = order-fits t q in
     ap (λ l. getD l o 0) e ∙ listed-at (places m16) o (coefficientAt m16 v) 0 (fits .1) ∙ present-yes m16 o _ (fits .0)
-    ∙ ap (Extraction.extractedAt m16 v) (q ∙ ap (orderOf 4) (mod-eq-of-lt h))
+    ∙ ap (Extraction.extractedAt m16 v) (q ∙ ap (orderOf (m16 .w)) (mod-eq-of-lt h))
