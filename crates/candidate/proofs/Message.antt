@@ -9,7 +9,7 @@ use lib.Seq.{take-all}
 use Rattle.lists.specs.Listed.{listed, listed-length}
 use Rattle.lists.specs.Filled.{Filled}
 use Rattle.lists.specs.Over.{over}
-use Rattle.lists.specs.Padded.{padded, padded-over}
+use Rattle.lists.specs.Padded.{padded, padded-over, padded-take}
 use Rattle.hermitian.specs.Orders.{orderOf}
 use Rattle.code.specs.Encoding.{encodeOf, mostRate}
 use Rattle.code.specs.Rates.{longest}
@@ -33,6 +33,12 @@ message-end w k t out f e h =
     h .stored ∙ ap (λ n. listed n f ++ drop n zeros) e
     ∙ sym (ap₂ (λ (a b : List ℕ). a ++ b) (take-all (length zeros) (listed k f) l) (ap (λ n. drop n zeros) (listed-length k f)))
     ∙ padded-over w (listed k f)
+
+-- a message is read back from the front
+pub message-front : {k : ℕ} {message : List ℕ} (f : ℕ → ℕ) → k ≤ mostRate → message ≡ padded mostRate (listed k f) → take k message ≡ listed k f
+message-front {k} {message} f small e =
+    let size = listed-length k f in
+    ap (take k) e ∙ ap (λ n. take n (padded mostRate (listed k f))) (sym size) ∙ padded-take mostRate (listed k f) (omega (arith, size))
 
 -- the first k symbols of a message, lent as a part
 pub lent-message : (k : ℕ) (message : List ℕ) → k ≤ mostRate → length message ≡ mostRate

@@ -6,8 +6,8 @@ use Prim.Native.Nat.{ℕ, _+_, _*_, _<_}
 use native.Mathlib.Omega.{arith}
 use lib.ListN.{take}
 use Rattle.lists.specs.Count.{count-le}
-use Rattle.lists.specs.Listed.{listed, listed-length}
-use Rattle.lists.specs.Padded.{padded, padded-take}
+use Rattle.lists.specs.Listed.{listed}
+use Rattle.lists.specs.Padded.{padded}
 use Rattle.lists.specs.Words.{Word}
 use Rattle.lists.specs.Answers.{Found}
 use Rattle.algebra.specs.Coefficients.{Below, Lead, below-mono}
@@ -27,6 +27,7 @@ use Rattle.near.specs.Held.{Held, message-in, held-lead, held-divides}
 use Rattle.candidate.specs.declared.Candidate.{Candidate}
 use Rattle.candidate.specs.Candidate.{symbolIn, CandidateOf}
 use Rattle.candidate.specs.Ranged.{Ranged, workable}
+use Rattle.candidate.proofs.Message.{message-front}
 
 module _ {k : ℕ} (rate : Ranged k) (word row function : List ℕ) (divided : Divided (firstOf word row) (secondOf row) (mOf k) function) where
   candidate-is : listed k (symbolIn function) ≡ messageFrom m16 k (coef function)
@@ -59,10 +60,7 @@ pub candidate-made : {k : ℕ} → Ranged k → (word row function q0 q1 : List 
     → CandidateOf k word row r
 candidate-made {k} rate word row function q0 q1 m r q0-is q1-is m-is quotient-is message-is encoded =
     let divided = subst (λ n. Divided (firstOf word row) (secondOf row) n function) m-is (subst₂ (λ p q. Divided p q m function) q0-is q1-is quotient-is) in
-    let size = listed-length k (symbolIn function) in
-    let front : take k (r .message) ≡ listed k (symbolIn function) =
-    ap (take k) message-is ∙ ap (λ n. take n (padded mostRate (listed k (symbolIn function)))) (sym size)
-    ∙ padded-take mostRate (listed k (symbolIn function)) (omega (arith, size, rate .most)) in
+    let front = message-front (symbolIn function) (rate .most) message-is in
     record {
       word-of = subst (Word symbols k) (sym front) (candidate-word rate word row function divided);
       behind = message-is ∙ ap (padded mostRate) (sym front);

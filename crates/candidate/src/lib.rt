@@ -11,8 +11,9 @@ ghost use Rattle.soft.specs.Blank.{flagAt};
 ghost use Rattle.soft.specs.Column.{places};
 ghost use Rattle.soft.specs.Total.{differingIn};
 ghost use Rattle.candidate.specs.Ranged.{Ranged};
-ghost use Rattle.candidate.specs.Candidate.{symbolIn, CandidateOf};
+ghost use Rattle.candidate.specs.Candidate.{symbolIn, CandidateOf, ShownOf};
 use crate::rate::top_order;
+use coefficients::orders::coefficients;
 use division::dividing::divide;
 use encoding::MOST_RATE;
 use encoding::codeword_of;
@@ -20,6 +21,7 @@ use encoding::order;
 use parts::orders::with_z;
 use parts::orders::without_z;
 use planes::PLACES;
+use planes::Planes;
 use planes::rows::Row;
 use totals::total::differing_in;
 
@@ -61,6 +63,18 @@ pub fn candidate_of(row: Row, k: usize, word: Word) -> Candidate
     ensures { λ r. ⌜ CandidateOf k word row r ⌝ }
 {
     let function = divide(without_z(row, word), with_z(row), top_order(k));
+    let message = message_of(function, k);
+    let codeword = encoded(message, k);
+    Candidate { message, codeword }
+}
+
+// What values at the places show: the message in the coefficients of the function that has them, and its codeword. Where they are a codeword of
+// the rate, it is this one.
+pub fn shown(values: Planes, k: usize) -> Candidate
+    requires { ⌜ Ranged k ⌝ }
+    ensures { λ r. ⌜ ShownOf k values r ⌝ }
+{
+    let function = coefficients(values);
     let message = message_of(function, k);
     let codeword = encoded(message, k);
     Candidate { message, codeword }

@@ -1,3 +1,4 @@
 pub mod Settling
 pub mod Asking
 pub mod Doubling
+pub mod Guessing

@@ -1,3 +1,4 @@
 pub mod Places
 pub mod Call
 pub mod Laws
+pub mod Guess

@@ -1,5 +1,7 @@
 // The search for the nearest codeword as one call: what may be asked, the settled places' basis, and the tree from there. Blank places are
 // neither settled nor doubled. It knows of no session and no buffers.
+mod guess;
+
 ghost use mathlib.Core.Path.{_≡_};
 ghost use Prim.Native.Nat.{_≤_};
 ghost use lib.ListN.{take};
@@ -9,6 +11,7 @@ ghost use Rattle.doubt.specs.Picked.{PickedOf};
 ghost use Rattle.near.specs.Here.{Places};
 ghost use Rattle.chase.specs.Places.{arePlaces, Flagged};
 ghost use Rattle.chase.specs.Call.{wellFormed, nearestOf};
+use crate::guess::first_known;
 use answers::Found;
 use answers::none_near;
 use answers::told;
@@ -30,6 +33,9 @@ use encoding::MOST_RATE;
 use encoding::known_rate;
 use interpolation::settle::settle;
 use known::Undecided;
+use known::below;
+use known::governs;
+use known::tests_within;
 use tree::search;
 
 // Whether a place's flag is 1; past the last place there is none.
@@ -136,19 +142,25 @@ pub fn nearest(rate: usize, costs: &[u16], doubtful: [u8; MOST_DOUBT], doubt: us
         return none_near();
     }
     let word = best_word(costs);
-    let m = top_order(rate);
-    let limit = largest_key(rate, blank);
     let doubled = doubled_places(doubtful, doubt, counts);
     let places = doubled.places;
     let count = doubled.count;
-    let flags = settled_places(places, count, counts);
-    let mut leads = [0usize; CLASSES];
-    let rows = settle(word, flags, m, limit, &mut leads);
     let undecided = Undecided {
         doubtful: places,
         doubt: count,
         left: count,
     };
+    let known = first_known(word, rate);
+    if governs(known, word, rate, undecided, counts, blank) {
+        let codeword = known.codeword;
+        let tests = tests_within(codeword, word, costs, rate, undecided, counts, blank);
+        return told(below(known, tests, costs));
+    }
+    let m = top_order(rate);
+    let limit = largest_key(rate, blank);
+    let flags = settled_places(places, count, counts);
+    let mut leads = [0usize; CLASSES];
+    let rows = settle(word, flags, m, limit, &mut leads);
     told(search(
         rows,
         leads,
@@ -156,7 +168,7 @@ pub fn nearest(rate: usize, costs: &[u16], doubtful: [u8; MOST_DOUBT], doubt: us
         costs,
         rate,
         undecided,
-        none_near(),
+        known,
         counts,
         blank,
     ))

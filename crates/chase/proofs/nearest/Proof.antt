@@ -1,17 +1,19 @@
--- The root of the tree: all settled places are decided.
+-- The root of the tree: the known codeword governs it, or all settled places are decided.
 use mathlib.Core.Bool.{true}
-use mathlib.Core.Path.{_≡_, sym, _∙_, subst}
+use mathlib.Core.Path.{_≡_, sym, _∙_}
 use mathlib.Core.Logic.{inl, inr}
+use Prim.Native.Nat.{_≤_}
 use native.Mathlib.Omega.{arith}
 use borrow.Author.Tests.{not-true, not-false}
 use Rattle.soft.specs.Column.{symbols, columnOf}
 use Rattle.chase.specs.Call.{Asked, wellFormed}
 use Rattle.chase.specs.Laws.{asked-form}
-use Rattle.answers.specs.Answered.{Sound, sound-nothing}
 use Rattle.candidate.specs.Ranged.{top-small, limit-small}
 use Rattle.candidate.specs.Marked.{Marked}
-use Rattle.candidate.specs.Ranged.{known-range}
-use Rattle.chase.proofs.Settling.{blank-number, marked, picked-few, root}
+use Rattle.candidate.specs.Ranged.{Ranged, known-range}
+use Rattle.near.specs.Here.{blankLimit}
+use Rattle.known.specs.Known.{Fits}
+use Rattle.chase.proofs.Settling.{blank-number, marked, picked-few, root, root-known}
 use Rattle.chase.proofs.Asking.{unasked, unasked-rate, unasked-doubt, unasked-form, unasked-blank}
 use borrow.Author.Needs.{needs}
 use Rattle.chase.proofs.nearest.Statement.{statement}
@@ -80,48 +82,74 @@ few-blank c =
 best-word-requires : tie.Need-best-word-requires
 best-word-requires c κs = search needs
 
-top-order-requires : tie.Need-top-order-requires
-top-order-requires c κs = search needs
-
-largest-key-requires : tie.Need-largest-key-requires
-largest-key-requires c κs =
-    let a = c .before .before in
-    (known-range _ (may-ask a .known), few-blank a .few)
-
 doubled-places-requires : tie.Need-doubled-places-requires
-doubled-places-requires c κs = may-ask (c .before .before .before) .few
+doubled-places-requires c κs = may-ask (c .before) .few
 
-settled-places-requires : tie.Need-settled-places-requires
-settled-places-requires c κs = picked-few _ _ (may-ask (c .before .before .before .before .before) .few) (c .before .doubled-places .ensures)
+first-known-requires : tie.Need-first-known-requires
+first-known-requires c κs = known-range _ (may-ask (c .before .before .before) .known)
 
-settle-requires : tie.Need-settle-requires
-settle-requires c κs =
-    let r = known-range _ (may-ask (c .before .before .before .before .before .before .before) .known) in
-    let m = top-small r in
-    let m-is = c .before .before .before .before .before .top-order .ensures in
-    (omega (arith, m, m-is), omega (arith, limit-small r (c .before .before .before .before .before .before .before .before .before .blanks .result), c .before .before .before .before .largest-key .ensures))
+-- what is asked of the known codeword, by a doubled place's number
+askable : (c : tie.After-first-known)
+    → Ranged (c .before .before .before .before .before .before .before .before .before .before .before .before .before .before .args .rate) × Fits (record { doubtful = c .before .before .doubled-places .result .places; doubt = c .before .before .doubled-places .result .count; left = c .before .before .doubled-places .result .count }) × (c .before .before .before .before .before .before .blanks .result ≤ blankLimit (c .before .before .before .before .before .before .before .before .before .before .before .before .before .before .args .rate))
+askable c =
+    let a = c .before .before .before .before in
+    (known-range _ (may-ask a .known), (picked-few _ _ (may-ask a .few) (c .before .before .doubled-places .ensures), omega arith), few-blank a .few)
 
-none-near-requires-6 : tie.Need-none-near-requires-6
-none-near-requires-6 c κs = search needs
+governs-requires : tie.Need-governs-requires
+governs-requires c κs = askable c
 
-search-requires : tie.Need-search-requires
-search-requires c κs =
-    let a = c .before .before .before .before .before .before .before .before .before in (
-      known-range _ (may-ask a .known),
-      (picked-few _ _ (may-ask a .few) (c .before .before .before .before .before .doubled-places .ensures), search needs),
-      subst (Sound _ _) (sym (c .none-near6 .ensures)) (sound-nothing (known-range _ (may-ask a .known) .most)),
-      few-blank a,
-    )
+tests-within-requires : tie.Need-tests-within-requires
+tests-within-requires c κs = askable (c .before .before .before)
+
+below-requires : tie.Need-below-requires
+below-requires c κs = search needs
 
 told-requires : tie.Need-told-requires
 told-requires c κs = search needs
 
 returns-6 : tie.Need-returns-6
 returns-6 c =
-    let a = c .before .before .before .before .before .before .before .before .before .before .before in
+    let a = c .before .before .before .before .before .before .before .before .before .before in
     c .told .ensures
-    ∙ root _ _ _ _ _ _ _ _ _ _ _ _ _ _ (may-ask a) (few-blank a) (c .before .before .before .before .before .before .before .before .before .before .best-word .ensures) (c .before .before .before .before .before .before .before .doubled-places .ensures)
-    (c .before .before .before .before .before .settled-places .ensures) (c .before .before .before .before .before .before .before .before .before .top-order .ensures) (c .before .before .before .before .before .before .before .before .largest-key .ensures) (c .before .before .before .settle .ensures)
+    ∙ root-known _ _ _ _ _ _ _ _ _ (may-ask a) (few-blank a) (c .before .before .before .before .before .before .before .before .before .best-word .ensures) (c .before .before .before .before .before .before .before .before .doubled-places .ensures) _ _ _
+    (c .before .before .before .before .before .before .first-known .ensures .sound _) (c .before .before .before .before .before .governs .ensures) (c .before .before .before .before .if6 .taken) (c .before .before .tests-within .ensures) (c .before .below .ensures)
+
+top-order-requires : tie.Need-top-order-requires
+top-order-requires c κs = search needs
+
+largest-key-requires : tie.Need-largest-key-requires
+largest-key-requires c κs =
+    let a = c .before .before .before .before .before .before .before in
+    (known-range _ (may-ask a .known), few-blank a .few)
+
+settled-places-requires : tie.Need-settled-places-requires
+settled-places-requires c κs = picked-few _ _ (may-ask (c .before .before .before .before .before .before .before .before) .few) (c .before .before .before .before .before .before .doubled-places .ensures)
+
+settle-requires : tie.Need-settle-requires
+settle-requires c κs =
+    let r = known-range _ (may-ask (c .before .before .before .before .before .before .before .before .before .before) .known) in
+    let m = top-small r in
+    let m-is = c .before .before .before .top-order .ensures in
+    (omega (arith, m, m-is), omega (arith, limit-small r (c .before .before .before .before .before .before .before .before .before .before .before .before .blanks .result), c .before .before .largest-key .ensures))
+
+search-requires : tie.Need-search-requires
+search-requires c κs =
+    let a = c .before .before .before .before .before .before .before .before .before .before .before in (
+      known-range _ (may-ask a .known),
+      (picked-few _ _ (may-ask a .few) (c .before .before .before .before .before .before .before .before .before .doubled-places .ensures), search needs),
+      c .before .before .before .before .before .before .before .first-known .ensures .sound _,
+      few-blank a,
+    )
+
+told-requires-2 : tie.Need-told-requires-2
+told-requires-2 c κs = search needs
+
+returns-7 : tie.Need-returns-7
+returns-7 c =
+    let a = c .before .before .before .before .before .before .before .before .before .before .before .before .before in
+    c .told2 .ensures
+    ∙ root _ _ _ _ _ _ _ _ _ (may-ask a) (few-blank a) (c .before .before .before .before .before .before .before .before .before .before .before .before .best-word .ensures) (c .before .before .before .before .before .before .before .before .before .before .before .doubled-places .ensures) _ _ _ _ _
+    (c .before .before .before .before .settled-places .ensures) (c .before .before .before .before .before .before .top-order .ensures) (c .before .before .before .before .before .largest-key .ensures) (c .before .before .settle .ensures)
     (c .before .search .ensures .0) (c .before .search .ensures .1)
 
 pub nearest-spec : {M : Type 1} → statement M
@@ -143,12 +171,17 @@ nearest-spec =
     none-near-requires-5
     returns-5
     best-word-requires
+    doubled-places-requires
+    first-known-requires
+    governs-requires
+    tests-within-requires
+    below-requires
+    told-requires
+    returns-6
     top-order-requires
     largest-key-requires
-    doubled-places-requires
     settled-places-requires
     settle-requires
-    none-near-requires-6
     search-requires
-    told-requires
-    returns-6)
+    told-requires-2
+    returns-7)

@@ -1,0 +1,14 @@
+-- A codeword that is shown is sound beside 'none near'.
+use Rattle.chase.proofs.Guessing.{known-shown}
+use borrow.Author.Needs.{needs}
+use Rattle.chase.proofs.guess.known_of.Statement.{statement}
+use Rattle.chase.proofs.guess.known_of.Tie as tie
+
+shown-requires : tie.Need-shown-requires
+shown-requires c κs = search needs
+
+returns : tie.Need-returns
+returns c = known-shown (c .before .before .shown .ensures)
+
+pub known-of-spec : {M : Type 1} → statement M
+known-of-spec = tie.close (tie.spec shown-requires returns)

@@ -1,0 +1,75 @@
+-- None of the places passed has the y.
+use mathlib.Core.Path.{_≡_, sym, ap, _∙_, subst}
+use Prim.Native.Nat.{ℕ, _≤_, _-_, _+_, _*_, _%_, _<_}
+use native.Mathlib.Nat.{mod-eq-of-lt}
+use native.Mathlib.Omega.{arith}
+use Rattle.curve.specs.Curve.{yOf}
+use Rattle.chase.specs.Guess.{PlaceAt}
+use Rattle.chase.proofs.Guessing.{Passed, passed-start, passed-turn, placed-here, placed-nowhere}
+use borrow.Author.Needs.{needs}
+use Rattle.chase.proofs.guess.place_at.Statement.{statement}
+use Rattle.chase.proofs.guess.place_at.Tie as tie
+
+abbrev Inv-loop : tie.InvT-loop
+Inv-loop x y first r₀ r = (first ≡ x % 16 * 4) × (r ≤ 4) × Passed x y r
+
+abbrev μ-loop : tie.MeasureT-loop
+μ-loop x y first r₀ r = 4 - r
+
+-- what is read is the y of the place
+met : (x r first y : ℕ) → first ≡ x % 16 * 4 → r < 4 → y ≡ yOf ((first + r) % 64) → y ≡ yOf (x % 16 * 4 + r)
+met x r first y e h q =
+    let s : (first + r) % 64 ≡ x % 16 * 4 + r = omega arith in
+    q ∙ ap yOf s
+
+mul-first : tie.Need-mul-first Inv-loop μ-loop
+mul-first c = search needs
+
+loop-holds : tie.Need-loop-holds Inv-loop μ-loop
+loop-holds c = (search needs, search needs, passed-start _ _)
+
+add-y-at : tie.Need-add-y-at Inv-loop μ-loop
+add-y-at c = search needs
+
+y-at-requires : tie.Need-y-at-requires Inv-loop μ-loop
+y-at-requires c κs = search needs
+
+add-result : tie.Need-add-result Inv-loop μ-loop
+add-result c = search needs
+
+returns : tie.Need-returns Inv-loop μ-loop
+returns c =
+    let i = c .before .before .before .loop .inv in
+    subst (PlaceAt _ _) (ap (λ n. n + c .before .before .before .loop .r) (sym (i .0)))
+    (placed-here _ _ _ (i .2) (search needs) (sym (met _ _ _ _ (i .0) (search needs) (c .before .y-at .ensures)) ∙ c .if1 .taken))
+
+add-r : tie.Need-add-r Inv-loop μ-loop
+add-r c = search needs
+
+loop-less : tie.Need-loop-less Inv-loop μ-loop
+loop-less c = search needs
+
+loop-again : tie.Need-loop-again Inv-loop μ-loop
+loop-again c =
+    let i = c .before .before .before .loop .inv in
+    (i .0, search needs, passed-turn _ _ _ (i .2) (λ e. c .if1 .left (met _ _ _ _ (i .0) (search needs) (c .before .y-at .ensures) ∙ e)))
+
+returns-2 : tie.Need-returns-2 Inv-loop μ-loop
+returns-2 c = placed-nowhere _ _ _ (c .before .loop .inv .2) (search needs)
+
+pub place-at-spec : {M : Type 1} → statement M
+place-at-spec =
+    tie.close
+    (tie.spec
+    Inv-loop
+    μ-loop
+    mul-first
+    loop-holds
+    add-y-at
+    y-at-requires
+    add-result
+    returns
+    add-r
+    loop-less
+    loop-again
+    returns-2)
