@@ -5,8 +5,10 @@ mod guess;
 ghost use mathlib.Core.Path.{_≡_};
 ghost use Prim.Native.Nat.{_≤_};
 ghost use lib.ListN.{take};
+ghost use Rattle.soft.specs.Column.{symbols, columnOf};
 ghost use Rattle.soft.specs.Blank.{flagAt, unblanked};
 ghost use Rattle.soft.specs.Doubt.{mostDoubt};
+ghost use Rattle.summary.specs.Summary.{SummaryOf};
 ghost use Rattle.doubt.specs.Picked.{PickedOf};
 ghost use Rattle.near.specs.Here.{Places};
 ghost use Rattle.chase.specs.Places.{arePlaces, Flagged};
@@ -21,10 +23,8 @@ use candidate::rate::largest_key;
 use candidate::rate::top_order;
 use columns::bit::bit;
 use columns::blank::blanks;
-use columns::blank::open_places;
 use columns::costs::COSTS;
 use columns::costs::PLACES;
-use columns::word::best_word;
 use doubt::MOST_DOUBT;
 use doubt::Picked;
 use doubt::with_place;
@@ -36,6 +36,8 @@ use known::Undecided;
 use known::below;
 use known::governs;
 use known::tests_within;
+use summary::Summary;
+use summary::summary_of;
 use tree::search;
 
 // Whether a place's flag is 1; past the last place there is none.
@@ -118,10 +120,17 @@ fn well_formed(rate: usize, costs: &[u16], doubtful: [u8; MOST_DOUBT], doubt: us
     are_places(doubtful, doubt)
 }
 
-// The answer by a table of costs and a list of doubtful places. Arguments that no session has, find nothing, and so do too many blank places.
-// The ranges of the rate and of the doubt follow from `well_formed`; they stand first so that the compiler knows them in all that the search
-// does.
-pub fn nearest(rate: usize, costs: &[u16], doubtful: [u8; MOST_DOUBT], doubt: usize) -> Found
+// The answer by a table of costs, a summary of its columns and a list of doubtful places. Arguments that no session has, find nothing, and so do
+// too many blank places. The ranges of the rate and of the doubt follow from `well_formed`; they stand first so that the compiler knows them in all
+// that the search does.
+pub fn nearest_by(
+    rate: usize,
+    costs: &[u16],
+    doubtful: [u8; MOST_DOUBT],
+    doubt: usize,
+    summary: Summary,
+) -> Found
+    requires { ⌜ SummaryOf (columnOf symbols (now costs)) summary ⌝ }
     ensures { λ r. ⌜ r ≡ nearestOf rate (now (costs .entry)) doubtful doubt ⌝ }
 {
     if rate < LEAST_RATE {
@@ -136,12 +145,12 @@ pub fn nearest(rate: usize, costs: &[u16], doubtful: [u8; MOST_DOUBT], doubt: us
     if !well_formed(rate, costs, doubtful, doubt) {
         return none_near();
     }
-    let counts = open_places(costs);
+    let counts = summary.counts;
     let blank = blanks(counts);
     if blank_limit(rate) < blank {
         return none_near();
     }
-    let word = best_word(costs);
+    let word = summary.best;
     let doubled = doubled_places(doubtful, doubt, counts);
     let places = doubled.places;
     let count = doubled.count;
@@ -172,4 +181,11 @@ pub fn nearest(rate: usize, costs: &[u16], doubtful: [u8; MOST_DOUBT], doubt: us
         counts,
         blank,
     ))
+}
+
+// The same by the costs alone.
+pub fn nearest(rate: usize, costs: &[u16], doubtful: [u8; MOST_DOUBT], doubt: usize) -> Found
+    ensures { λ r. ⌜ r ≡ nearestOf rate (now (costs .entry)) doubtful doubt ⌝ }
+{
+    nearest_by(rate, costs, doubtful, doubt, summary_of(costs))
 }

@@ -7,6 +7,7 @@ use refusals::PLACE_MISSING;
 use refusals::WRONG_DOUBT;
 use refusals::WRONG_SIZE;
 use session::Session;
+use summary::summary_of;
 use totals::report::REPORT_BYTES;
 ghost use Rattle.session.specs.Answering.{Closing};
 
@@ -35,5 +36,6 @@ pub fn close(session: Session, message: &mut [u8], report: &mut [u8]) -> u8
         return opened.refusal;
     }
     let costs = session.costs;
-    decode(rate, &costs, doubtful, doubt, message, report)
+    let summary = summary_of(&costs);
+    decode(rate, &costs, doubtful, doubt, message, report, summary)
 }

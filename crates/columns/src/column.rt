@@ -1,21 +1,20 @@
-// A column's best symbol, second symbol and gap, and the gap as it counts for choosing doubtful places. All are read off the symbols' numbers, the
-// cost sixteen times and the symbol: the least of them is the best symbol's, and the next is the second's.
-use crate::costs::CEILING;
+// A column's best symbol, second symbol and gap. All are read off the symbols' numbers, the cost sixteen times and the symbol: the least of them is
+// the best symbol's, and the next is the second's.
 use crate::costs::SYMBOLS;
 use crate::least::larger;
 use crate::least::lesser;
 ghost use mathlib.Core.Path.{_≡_};
-ghost use Prim.Native.Nat.{_+_, _*_, _/_, _%_, _≤_, _<_, min, max};
-ghost use Rattle.soft.specs.Column.{symbols, bestOf, secondOf, gapOf, countedGap, doubtGapOf};
+ghost use Prim.Native.Nat.{_+_, _*_, _/_, _%_, _<_, min, max};
+ghost use Rattle.soft.specs.Column.{symbols, bestOf, secondOf, gapOf};
 ghost use Rattle.columns.specs.Two.{above, TwoOf};
 
 // Above the numbers of all symbols: 65,536 costs times the symbols.
 const ABOVE: u32 = 65536 * SYMBOLS as u32;
 
 // The numbers of the best and of the second symbol.
-struct Two {
-    best: u32,
-    second: u32,
+pub struct Two {
+    pub best: u32,
+    pub second: u32,
 }
 
 // Equal costs are in the order of the symbols.
@@ -33,7 +32,7 @@ fn next_with(next: u32, least: u32, number: u32) -> u32
     lesser(next, larger(least, number))
 }
 
-fn two_least(column: [u16; SYMBOLS]) -> Two
+pub fn two_least(column: [u16; SYMBOLS]) -> Two
     ensures { λ r. ⌜ TwoOf column r ⌝ }
 {
     let mut least = ABOVE;
@@ -50,14 +49,14 @@ fn two_least(column: [u16; SYMBOLS]) -> Two
 }
 
 // The symbol of a number.
-fn symbol_in(number: u32) -> u8
+pub fn symbol_in(number: u32) -> u8
     ensures { λ r. ⌜ r ≡ number % symbols ⌝ }
 {
     (number % SYMBOLS as u32) as u8
 }
 
 // The cost of a number.
-fn cost_in(number: u32) -> u16
+pub fn cost_in(number: u32) -> u16
     requires { ⌜ number < above ⌝ }
     ensures { λ r. ⌜ r ≡ number / symbols ⌝ }
 {
@@ -81,26 +80,4 @@ pub fn gap(column: [u16; SYMBOLS]) -> u16
 {
     let found = two_least(column);
     cost_in(found.second) - cost_in(found.best)
-}
-
-// A second cost at the ceiling reads 'at least', so that the difference from a lower best only bounds the gap.
-fn counted(best: u16, second: u16) -> u16
-    requires { ⌜ best ≤ second ⌝ }
-    ensures { λ r. ⌜ r ≡ countedGap best second ⌝ }
-{
-    if second != CEILING {
-        return second - best;
-    }
-    if CEILING <= best {
-        return 0;
-    }
-    CEILING
-}
-
-// The gap as it counts for choosing doubtful places.
-pub fn doubt_gap(column: [u16; SYMBOLS]) -> u16
-    ensures { λ r. ⌜ r ≡ doubtGapOf column ⌝ }
-{
-    let found = two_least(column);
-    counted(cost_in(found.best), cost_in(found.second))
 }

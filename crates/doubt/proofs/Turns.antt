@@ -1,29 +1,47 @@
 -- Single steps of the functions, over plain lists and numbers.
 --
+--   counted-none, counted-full, counted-plain   the gap as it counts: without one, with the second cost at the ceiling, and elsewhere
 --   key-open, key-blank    the key of a place, from its gap
 --   places-start, places-turn   the places chosen so far, in an array of w
 --   skipped-places, skipped-count   without doubt there are none
-use mathlib.Core.Bool.{Bool, true, false, cond, true≢false, false≢true}
+use mathlib.Core.Bool.{Bool, cond}
 use mathlib.Core.Path.{_≡_, sym, ap, ap₂, _∙_}
 use mathlib.Core.List.{List}
+use mathlib.Core.Logic.{_≢_}
 use Prim.Native.Nat.{ℕ, _+_, _*_, _<_, _≤_}
+use native.Mathlib.Decide.{ℕ-discrete}
 use native.Mathlib.Numerals.{add-one}
 use native.Mathlib.Omega.{arith}
 use lib.ListN.{length, set, replicate}
 use Rattle.lists.specs.Count.{count, kept, kept-nil, kept-suc, kept-length}
 use Rattle.lists.specs.Padded.{padded, padded-nil, padded-if}
-use Rattle.soft.specs.Blank.{openAt}
-use Rattle.soft.specs.Doubt.{gapAt, doubtfulOf}
+use Rattle.soft.specs.Column.{ceiling, countedGap}
+use Rattle.soft.specs.ColumnLaws.{counted-pinned, counted-open, counted-level}
+use Rattle.soft.specs.Doubt.{doubtfulOf}
 use Rattle.soft.specs.DoubtLaws.{doubtful-none}
-use Rattle.doubt.specs.Keys.{KeyOf}
+use Rattle.doubt.specs.Summed.{gapBy, KeyBy}
+
+-- the gap as it counts, by the best cost and the plain gap
+pub counted-none : (least gap : ℕ) → gap ≡ 0 → 0 ≡ countedGap least (least + gap)
+counted-none least gap e = go (ℕ-discrete (least + gap) ceiling)
+  where
+    go : Dec (least + gap ≡ ceiling) → 0 ≡ countedGap least (least + gap)
+    go (yes f) = omega (arith, counted-level least (least + gap) (omega arith))
+    go (no f) = omega (arith, counted-open least (least + gap) f)
+
+pub counted-full : (least gap : ℕ) → gap ≢ 0 → least + gap ≡ ceiling → ceiling ≡ countedGap least (least + gap)
+counted-full least gap n e = sym (counted-pinned least (least + gap) e (omega arith))
+
+pub counted-plain : (least gap : ℕ) → least + gap ≢ ceiling → gap ≡ countedGap least (least + gap)
+counted-plain least gap n = omega (arith, counted-open least (least + gap) n)
 
 -- the key of a place
-module _ {n far : ℕ} {columns : ℕ → List ℕ} {p key : ℕ} where
-  pub key-open : true ≡ openAt columns p → key ≡ gapAt columns p * n + p → key < far → KeyOf n far columns p key
-  key-open o e l = record { ordered = λ _. (e, l); behind = λ b. absurd (true≢false (o ∙ b)) }
+module _ {n far least gap flag p key : ℕ} where
+  pub key-open : flag ≡ 1 → key ≡ gapBy least gap * n + p → key < far → KeyBy n far least gap flag p key
+  key-open o e l = record { ordered = λ _. (e, l); behind = λ b. absurd (b o) }
 
-  pub key-blank : false ≡ openAt columns p → far ≤ key → KeyOf n far columns p key
-  key-blank b l = record { ordered = λ o. absurd (false≢true (b ∙ o)); behind = λ _. l }
+  pub key-blank : flag ≢ 1 → far ≤ key → KeyBy n far least gap flag p key
+  key-blank b l = record { ordered = λ o. absurd (b o); behind = λ _. l }
 
 -- the doubtful places in an array of w
 module _ (w : ℕ) where

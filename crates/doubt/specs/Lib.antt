@@ -1,3 +1,4 @@
 pub mod Keys
 pub mod Bound
+pub mod Summed
 pub mod Picked

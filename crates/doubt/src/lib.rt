@@ -1,22 +1,25 @@
 // The doubtful places of a table: of those that are not blank the ones of smallest gap, as it counts for choosing, so many as are asked for or as
 // a threshold takes in. It knows of no word and no code.
 use columns::bit::bit;
-use columns::blank::is_open;
-use columns::column::doubt_gap;
+use columns::costs::CEILING;
 use columns::costs::PLACES;
-use columns::costs::column_of;
 use columns::least::lesser;
+use summary::Summary;
+use summary::summary_of;
 ghost use mathlib.Core.Path.{_≡_};
 ghost use mathlib.Core.Bool.{cond};
-ghost use Prim.Native.Nat.{_<_};
+ghost use mathlib.Core.List.{List};
+ghost use Prim.Native.Nat.{ℕ, _+_, _<_};
 ghost use lib.ListN.{length, set};
 ghost use Rattle.lists.specs.Least.{leastOf};
-ghost use Rattle.soft.specs.Column.{places, symbols, columnOf};
+ghost use Rattle.soft.specs.Column.{places, symbols, columnOf, countedGap};
 ghost use Rattle.soft.specs.Doubt.{mostDoubt, doubtfulOf};
 ghost use Rattle.soft.specs.Threshold.{closestOf, clampOf};
-ghost use Rattle.doubt.specs.Keys.{far, KeyOf, Keyed, Apart, chosenOf, belowBy};
+ghost use Rattle.doubt.specs.Keys.{far, Apart, chosenOf, belowBy};
+ghost use Rattle.doubt.specs.Summed.{KeyBy, KeyedBy};
 ghost use Rattle.doubt.specs.Bound.{fromBound, keyFrom, pastOf, Bound};
 ghost use Rattle.doubt.specs.Picked.{PickedOf};
+ghost use Rattle.summary.specs.Summary.{SummaryOf};
 
 pub const MOST_DOUBT: usize = 12;
 
@@ -29,23 +32,37 @@ pub struct Picked {
     pub count: usize,
 }
 
-// The key of a place puts it in order: by gap, then by place, and a blank place behind all that are not.
-fn key_of(costs: &[u16], place: usize) -> u32
-    requires { ⌜ place < places ⌝ }
-    ensures { λ r. ⌜ KeyOf places far (columnOf symbols (now (costs .entry))) place r ⌝ }
+// The gap as it counts for choosing doubtful places, by the best cost and the plain gap: a second cost at the ceiling reads 'at least', so that the
+// difference from a lower best only bounds the gap.
+fn counted(least: u16, gap: u16) -> u16
+    ensures { λ r. ⌜ r ≡ countedGap least (least + gap) ⌝ }
 {
-    if is_open(costs, place) {
-        return (doubt_gap(column_of(costs, place)) as usize * PLACES + place) as u32;
+    if gap == 0 {
+        return 0;
+    }
+    if least as u32 + gap as u32 == CEILING as u32 {
+        return CEILING;
+    }
+    gap
+}
+
+// The key of a place puts it in order: by gap, then by place, and a blank place, whose flag is not 1, behind all that are not.
+fn key_of(least: u16, gap: u16, flag: u8, place: usize) -> u32
+    requires { ⌜ place < places ⌝ }
+    ensures { λ r. ⌜ KeyBy places far least gap flag place r ⌝ }
+{
+    if flag == 1 {
+        return (counted(least, gap) as usize * PLACES + place) as u32;
     }
     FAR
 }
 
-fn keys_of(costs: &[u16]) -> [u32; PLACES]
-    ensures { λ r. ⌜ Keyed places far (columnOf symbols (now (costs .entry))) r ⌝ }
+fn keys_of(least: [u16; PLACES], gaps: [u16; PLACES], counts: [u8; PLACES]) -> [u32; PLACES]
+    ensures { λ r. ⌜ KeyedBy places far least gaps counts r ⌝ }
 {
     let mut out = [0u32; PLACES];
     for place in 0..PLACES {
-        out[place] = key_of(costs, place);
+        out[place] = key_of(least[place], gaps[place], counts[place], place);
     }
     out
 }
@@ -127,9 +144,9 @@ fn picked_by(keys: [u32; PLACES], doubt: usize) -> Picked
     }
 }
 
-// The doubtful places. They are fewer than the doubt where too few places are not blank.
-pub fn doubtful(costs: &[u16], doubt: usize) -> Picked
-    ensures { λ r. ⌜ PickedOf (doubtfulOf places doubt (columnOf symbols (now (costs .entry)))) r ⌝ }
+// The doubtful places by a summary of the columns.
+pub fn doubtful_by(summary: Summary, doubt: usize) -> Picked
+    ensures { λ r. ⌜ ((columns : ℕ → List ℕ) → SummaryOf columns summary → PickedOf (doubtfulOf places doubt columns) r) ⌝ }
 {
     if doubt == 0 {
         return Picked {
@@ -137,8 +154,18 @@ pub fn doubtful(costs: &[u16], doubt: usize) -> Picked
             count: 0,
         };
     }
-    let keys = keys_of(costs);
+    let least = summary.least;
+    let gaps = summary.gaps;
+    let counts = summary.counts;
+    let keys = keys_of(least, gaps, counts);
     picked_by(keys, doubt)
+}
+
+// The doubtful places. They are fewer than the doubt where too few places are not blank.
+pub fn doubtful(costs: &[u16], doubt: usize) -> Picked
+    ensures { λ r. ⌜ PickedOf (doubtfulOf places doubt (columnOf symbols (now (costs .entry)))) r ⌝ }
+{
+    doubtful_by(summary_of(costs), doubt)
 }
 
 // How many places have a gap below a limit. A key's quotient is the gap; that of a blank place is above all gaps.
@@ -165,11 +192,21 @@ fn clamp(count: usize, most: usize) -> usize
     count
 }
 
+// What a threshold makes doubtful, by a summary of the columns.
+pub fn doubtful_below_by(summary: Summary, threshold: u16, most: usize) -> Picked
+    ensures { λ r. ⌜ ((columns : ℕ → List ℕ) → SummaryOf columns summary → PickedOf (closestOf places threshold most columns) r) ⌝ }
+{
+    let least = summary.least;
+    let gaps = summary.gaps;
+    let counts = summary.counts;
+    let keys = keys_of(least, gaps, counts);
+    let below = count_below(keys, threshold as u32);
+    picked_by(keys, clamp(below, most))
+}
+
 // What a threshold makes doubtful: the front of the order, as long as the number of gaps below the threshold, held between one and the most.
 pub fn doubtful_below(costs: &[u16], threshold: u16, most: usize) -> Picked
     ensures { λ r. ⌜ PickedOf (closestOf places threshold most (columnOf symbols (now (costs .entry)))) r ⌝ }
 {
-    let keys = keys_of(costs);
-    let below = count_below(keys, threshold as u32);
-    picked_by(keys, clamp(below, most))
+    doubtful_below_by(summary_of(costs), threshold, most)
 }

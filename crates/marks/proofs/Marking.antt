@@ -1,8 +1,7 @@
 -- From the code's arrays to the mark: gaps below a threshold are those of unchanged places, and the mark by the excess.
 --
 --   over-none, over-made   what a place costs over its best cost, case by case
---   plain-gap, cost-turn   the gap by the two smallest costs, and a bound of the costs passed
---   gap-changed, gap-unchanged, small-turn   the gap at a place, and at all places passed
+--   gap-changed, gap-unchanged, gaps-made   the gap at a place, and at all of them
 --   low-reach              where fewer gaps than j are below t, the sum of the j smallest is at least t
 --   below-is, sum-is       the entries below a threshold, and their sum, are those of the unchanged places
 --   enough-above           all unchanged places have an entry below `above`
@@ -25,9 +24,8 @@ use Rattle.lists.specs.Count as Count
 use Rattle.lists.specs.Count.{bit, count, count-ext, count-mono, count-split, sumOf-ext, sumOf-mono}
 use Rattle.lists.specs.Distinct.{and-left, and-right}
 use Rattle.lists.specs.Every.{both-intro, both-left, both-right}
-use Rattle.lists.specs.Listed.{listed, listed-at}
-use Rattle.lists.specs.Least.{leastOf, nextOf, least-is, next-is}
-use Rattle.soft.specs.Column.{places, symbols, costOf, bestOf, secondOf, gapOf}
+use Rattle.lists.specs.Listed.{listed, listed-at, listed-by}
+use Rattle.soft.specs.Column.{places, symbols, costOf, gapOf}
 use Rattle.soft.specs.ColumnLaws.{best-below, best-least, second-below, second-other, second-best}
 use Rattle.soft.specs.Blank.{flagAt}
 use Rattle.soft.specs.Total.{symbolAt, costIn, totalOf, changedAt, changedOf, changedFlags}
@@ -36,7 +34,7 @@ use Rattle.soft.specs.Doubt.{fewAhead}
 use Rattle.soft.specs.Threshold.{belowOf}
 use Rattle.soft.specs.Mark.{isBelow, sumIn, lowSum, bestCost, bestTotal, plainGap, unchanged, slack, excessIn, isMarked}
 use Rattle.soft.specs.MarkLaws.{sumIn-same, low-count, lowSum-threshold, slack-none, unchanged-count, excess-total, excess-ext}
-use Rattle.marks.specs.Low.{above, GapAt, gapsOf, Gaps, belowBy, sumBelow, Splits, LowSum, clearOf, Markable}
+use Rattle.marks.specs.Low.{above, GapBy, gapsOf, Gaps, belowBy, sumBelow, Splits, LowSum, clearOf, Markable}
 
 -- ---- one of the smallest gaps that makes up for an excess
 
@@ -81,53 +79,33 @@ module _ (flag cost least : ℕ) where
   over-none e = sym (ap (λ b. cond b (cost - least) 0) e)
 
 module _ (columns : ℕ → List ℕ) (word : List ℕ) (p : ℕ) where
-  pub over-made : {flag symbol cost first least r : ℕ} {column : List ℕ} → flag ≡ 1 → symbol ≡ symbolAt word p → cost ≡ costOf (columns p) symbol
-      → column ≡ columns p → first ≡ bestOf column → least ≡ costOf (columns p) first → r ≡ cost - least
-      → r ≡ cond (eqb flag 1) (costIn columns word p - bestCost columns p) 0
-  over-made {flag} e s c d f l r =
-      r ∙ ap₂ (λ x y. x - y) (c ∙ ap (costOf (columns p)) s) (l ∙ ap (costOf (columns p)) (f ∙ ap bestOf d))
-      ∙ sym (ap (λ b. cond b (costIn columns word p - bestCost columns p) 0) (eq-eqb flag 1 e))
+  pub over-made : (least : ℕ) {flag symbol cost r : ℕ} → flag ≡ 1 → symbol ≡ symbolAt word p → cost ≡ costOf (columns p) symbol → r ≡ cost - least
+      → r ≡ cond (eqb flag 1) (costIn columns word p - least) 0
+  over-made least {flag} e s c r =
+      r ∙ ap (λ x. x - least) (c ∙ ap (costOf (columns p)) s) ∙ sym (ap (λ b. cond b (costIn columns word p - least) 0) (eq-eqb flag 1 e))
 
-module _ (columns : ℕ → List ℕ) (p : ℕ) {flag : ℕ} where
-  pub gap-changed : flag ≡ 1 → GapAt columns p flag above
-  gap-changed e =
-      let t = eq-eqb flag 1 e in
-      record { is = sym (ap (λ b. cond b above (gapOf (columns p))) t); small = λ f. absurd (true≢false (sym t ∙ f)) }
+module _ {gap flag : ℕ} (l : gap < above) where
+  pub gap-changed : flag ≡ 1 → GapBy gap flag above
+  gap-changed e = record { is = sym (ap (λ b. cond b above gap) (eq-eqb flag 1 e)); small = l }
 
-  pub gap-unchanged : flag ≢ 1 → {g : ℕ} {column : List ℕ} → g ≡ gapOf column → column ≡ columns p → g < above → GapAt columns p flag g
-  gap-unchanged n g-is column-is l =
-      let e = g-is ∙ ap gapOf column-is in
-      record { is = e ∙ sym (ap (λ b. cond b above (gapOf (columns p))) (ne-eqb flag 1 n)); small = λ f. subst (λ x. x < above) e l }
+  pub gap-unchanged : flag ≢ 1 → GapBy gap flag gap
+  gap-unchanged n = record { is = sym (ap (λ b. cond b above gap) (ne-eqb flag 1 n)); small = l }
 
--- the plain gap by the two smallest costs
-pub plain-gap : (column : List ℕ) {n b : ℕ} → length column ≡ n → 1 < n → ((s : ℕ) → s < n → costOf column s ≤ b) → {least next : ℕ}
-    → least ≡ leastOf b n (costOf column) → next ≡ nextOf b n (costOf column) → next - least ≡ gapOf column
-unfolding gapOf
-plain-gap column {n} {b} size wide small l x =
-    let two : 1 < length column = omega (arith, size) in
-    let best = best-below column two in
-    let second = second-below column two in
-    ap₂ (λ y z. y - z)
-    (x ∙ next-is b (costOf column) n (bestOf column) (secondOf column) (omega (arith, size)) (omega (arith, size)) (λ e. second-other column two (sym e))
-    (best-least column two (secondOf column) second) (small (secondOf column) (omega (arith, size))) (λ k h d. second-best column two .least k (omega (arith, size)) d))
-    (l ∙ least-is b (costOf column) n (bestOf column) (omega (arith, size)) (small (bestOf column) (omega (arith, size))) (λ k h. best-least column two k (omega (arith, size))))
-
--- one symbol more
-pub cost-turn : (n : ℕ) (f : ℕ → ℕ) {b : ℕ} → ((s : ℕ) → s < n → f s ≤ b) → f n ≤ b → (s : ℕ) → s < n + 1 → f s ≤ b
-cost-turn n f {b} h l s k = go (ℕ-discrete s n)
+-- all places
+pub gaps-made : (plain flags : List ℕ) {out : List ℕ} → length out ≡ places
+    → ((p : ℕ) → p < places → GapBy (getD plain p 0) (getD flags p 0) (getD out p 0)) → (columns : ℕ → List ℕ)
+    → plain ≡ listed places (plainGap columns) → Gaps columns flags out
+unfolding gapsOf
+gaps-made plain flags {out} long made columns e =
+    record {
+      is =
+          listed-by 0 places out (λ p. cond (flagAt flags p) above (gapOf (columns p))) long
+          (λ p l. made p l .is ∙ ap (cond (flagAt flags p) above) (at p l));
+      small = λ p l _. subst (λ x. x < above) (at p l) (made p l .small);
+    }
   where
-    go : Dec (s ≡ n) → f s ≤ b
-    go (yes e) = omega (arith, ap f e)
-    go (no e) = h s (omega arith)
-
--- one place more
-pub small-turn : (columns : ℕ → List ℕ) (flags : List ℕ) (n : ℕ) {g : ℕ} → ((p : ℕ) → p < n → flagAt flags p ≡ false → gapOf (columns p) < above)
-    → GapAt columns n (getD flags n 0) g → (p : ℕ) → p < n + 1 → flagAt flags p ≡ false → gapOf (columns p) < above
-small-turn columns flags n before last p l e = go (ℕ-discrete p n)
-  where
-    go : Dec (p ≡ n) → gapOf (columns p) < above
-    go (yes q) = subst (λ k. flagAt flags k ≡ false → gapOf (columns k) < above) (sym q) (last .small) e
-    go (no q) = before p (omega arith) e
+    at : (p : ℕ) → p < places → getD plain p 0 ≡ gapOf (columns p)
+    at p l = ap (λ (c : List ℕ). getD c p 0) e ∙ listed-at places p (plainGap columns) 0 l
 
 -- ---- the entries of an array of gaps
 

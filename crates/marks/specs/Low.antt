@@ -1,7 +1,10 @@
 -- The sum of the smallest gaps as it is computed: changed places have a gap above all, and a threshold parts the others.
 --
 --   above                65,536: above all gaps
---   GapAt columns p flag g   g is the plain gap at place p, or above all where the flag is 1; Gaps: so has each entry of an array
+--   excessBy n counts columns word least   what the word costs over the costs of an array at those of n places that count, place by place;
+--                        excess-best: over the best costs it is the excess
+--   GapBy gap flag g     g is the gap, or above all where the flag is 1
+--   Gaps columns flags gaps   so the entries of an array are by the plain gaps
 --   belowBy n t gaps, sumBelow n t gaps   how many of the first n entries are below t, and their sum
 --   Splits gaps few t    at most so few entries are below t, and at least so few are up to t
 --   LowSum gaps few r    r is the sum of the entries below such a t, and t for the rest of so few
@@ -9,24 +12,38 @@
 --   Markable columns word flags far   the word has a symbol of its column at each place, the flags are those of its changed places, and `far` is at most
 --                        the number of places
 use mathlib.Core.Bool.{Bool, false, cond, _&&_}
-use mathlib.Core.Path.{_≡_}
+use mathlib.Core.Path.{_≡_, ap, _∙_}
 use mathlib.Core.List.{List}
 use Prim.Native.Nat.{ℕ, suc, _+_, _-_, _*_, _<_, _≤_}
 use lib.Dec.{eqb, ltb}
 use lib.ListN.{length, getD}
-use Rattle.lists.specs.Count.{count}
-use Rattle.lists.specs.Listed.{listed}
+use Rattle.lists.specs.Count.{count, sumOf-ext}
+use Rattle.lists.specs.Listed.{listed, listed-at}
 use Rattle.soft.specs.Column.{ceiling, places, symbols, gapOf}
 use Rattle.soft.specs.Blank.{flagAt}
-use Rattle.soft.specs.Total.{symbolAt, changedFlags}
-use Rattle.soft.specs.Mark.{sumIn}
+use Rattle.soft.specs.Total.{symbolAt, costIn, changedFlags}
+use Rattle.soft.specs.Mark.{sumIn, bestCost, excessIn}
 
 abbrev pub above : ℕ
 above = suc ceiling
 
-pub record GapAt (columns : ℕ → List ℕ) (p flag g : ℕ) : Type 0 where
-  pub is : g ≡ cond (eqb flag 1) above (gapOf (columns p))
-  pub small : eqb flag 1 ≡ false → gapOf (columns p) < above
+unfoldable pub excessBy : ℕ → (ℕ → Bool) → (ℕ → List ℕ) → List ℕ → List ℕ → ℕ
+excessBy n counts columns word least = sumIn n counts (λ p. costIn columns word p - getD least p 0)
+
+pub excess-best : (n : ℕ) (counts : ℕ → Bool) (columns : ℕ → List ℕ) (word : List ℕ) {least : List ℕ} → least ≡ listed n (bestCost columns)
+    → excessBy n counts columns word least ≡ excessIn n counts columns word
+unfolding excessBy excessIn sumIn
+excess-best n counts columns word e =
+    sumOf-ext n _ _
+    (λ p l. ap (λ x. cond (counts p) (costIn columns word p - x) 0) (ap (λ (c : List ℕ). getD c p 0) e ∙ listed-at n p (bestCost columns) 0 l))
+
+pub record GapBy (gap flag g : ℕ) : Type 0 where
+  pub is : g ≡ cond (eqb flag 1) above gap
+  pub small : gap < above
+
+-- the rule of an entry by the arrays
+abbrev pub gapRule : List ℕ → List ℕ → ℕ → ℕ → Type 0
+gapRule plain flags p g = GapBy (getD plain p 0) (getD flags p 0) g
 
 unfoldable pub gapsOf : ℕ → (ℕ → List ℕ) → List ℕ → List ℕ
 gapsOf n columns flags = listed n (λ p. cond (flagAt flags p) above (gapOf (columns p)))

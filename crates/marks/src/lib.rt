@@ -1,38 +1,37 @@
 // The mark of a word that no codeword of its rate undercuts, near or not: what it costs over all best costs is no more than the smallest gaps of
-// its unchanged places add up to. It knows of no code: how many places another codeword differs in at least is a number.
-mod gap;
-
+// its unchanged places add up to. It knows of no code: how many places another codeword differs in at least is a number. Best costs and gaps come
+// from a summary of the columns.
 ghost use mathlib.Core.Path.{_≡_};
 ghost use mathlib.Core.Bool.{cond};
-ghost use Prim.Native.Nat.{_+_, _-_, _*_, _≤_};
+ghost use mathlib.Core.List.{List};
+ghost use Prim.Native.Nat.{ℕ, _+_, _-_, _*_, _≤_};
 ghost use lib.Dec.{eqb, ltb, leb};
 ghost use Rattle.lists.specs.Count.{bit};
+ghost use Rattle.lists.specs.Listed.{listed};
 ghost use Rattle.soft.specs.Column.{places, symbols, columnOf};
 ghost use Rattle.soft.specs.Blank.{flagAt};
 ghost use Rattle.soft.specs.Total.{costIn};
-ghost use Rattle.soft.specs.Mark.{bestCost, excessIn, isMarked};
-ghost use Rattle.marks.specs.Low.{above, GapAt, Gaps, belowBy, sumBelow, Splits, LowSum, clearOf, Markable};
-use crate::gap::gap_of;
+ghost use Rattle.soft.specs.Mark.{plainGap, isMarked};
+ghost use Rattle.summary.specs.Summary.{SummaryOf};
+ghost use Rattle.marks.specs.Low.{above, excessBy, GapBy, Gaps, belowBy, sumBelow, Splits, LowSum, clearOf, Markable};
 use columns::bit::bit;
-use columns::column::best;
 use columns::costs::PLACES;
 use columns::costs::byte_at;
-use columns::costs::column_of;
 use columns::costs::cost_of;
+use summary::Summary;
 use totals::total::changed;
 
 // Above all gaps.
 const ABOVE: u32 = 65536;
 
 // What a changed place costs over its best cost; nothing where the flag is not 1.
-fn over(costs: &[u16], word: &[u8], place: usize, flag: u8) -> u32
-    ensures { λ r. ⌜ (r ≡ cond (eqb flag 1) (costIn (columnOf symbols (now (costs .entry))) (now (word .entry)) place - bestCost (columnOf symbols (now (costs .entry))) place) 0) × (r ≤ 65535) ⌝ }
+fn over(costs: &[u16], word: &[u8], place: usize, flag: u8, least: u16) -> u32
+    ensures { λ r. ⌜ (r ≡ cond (eqb flag 1) (costIn (columnOf symbols (now (costs .entry))) (now (word .entry)) place - least) 0) × (r ≤ 65535) ⌝ }
 {
     if flag != 1 {
         return 0;
     }
     let cost = cost_of(costs, place, byte_at(word, place));
-    let least = cost_of(costs, place, best(column_of(costs, place)));
     if cost < least {
         return 0;
     }
@@ -40,32 +39,32 @@ fn over(costs: &[u16], word: &[u8], place: usize, flag: u8) -> u32
 }
 
 // What the changed places together cost over their best costs.
-fn excess(costs: &[u16], word: &[u8], flags: [u8; PLACES]) -> u32
-    ensures { λ r. ⌜ r ≡ excessIn places (flagAt flags) (columnOf symbols (now (costs .entry))) (now (word .entry)) ⌝ }
+fn excess(costs: &[u16], word: &[u8], flags: [u8; PLACES], least: [u16; PLACES]) -> u32
+    ensures { λ r. ⌜ r ≡ excessBy places (flagAt flags) (columnOf symbols (now (costs .entry))) (now (word .entry)) least ⌝ }
 {
     let mut sum: u32 = 0;
     for place in 0..PLACES {
-        sum += over(costs, word, place, flags[place]);
+        sum += over(costs, word, place, flags[place], least[place]);
     }
     sum
 }
 
-fn gap_at(costs: &[u16], place: usize, flag: u8) -> u32
-    ensures { λ r. ⌜ GapAt (columnOf symbols (now (costs .entry))) place flag r ⌝ }
+fn gap_at(gap: u16, flag: u8) -> u32
+    ensures { λ r. ⌜ GapBy gap flag r ⌝ }
 {
     if flag == 1 {
         return ABOVE;
     }
-    gap_of(column_of(costs, place))
+    gap as u32
 }
 
 // The gaps of the unchanged places; those of the changed ones, whose flag is 1, are above all.
-fn gaps(costs: &[u16], flags: [u8; PLACES]) -> [u32; PLACES]
-    ensures { λ r. ⌜ Gaps (columnOf symbols (now (costs .entry))) flags r ⌝ }
+fn gaps(plain: [u16; PLACES], flags: [u8; PLACES]) -> [u32; PLACES]
+    ensures { λ r. ⌜ ((columns : ℕ → List ℕ) → plain ≡ listed places (plainGap columns) → Gaps columns flags r) ⌝ }
 {
     let mut out = [0u32; PLACES];
     for place in 0..PLACES {
-        out[place] = gap_at(costs, place, flags[place]);
+        out[place] = gap_at(plain[place], flags[place]);
     }
     out
 }
@@ -163,11 +162,12 @@ fn is_clear(gaps: [u32; PLACES], due: u32, few: usize) -> bool
 // 1 for a word whose total, without all best costs, is at most the sum of the smallest gaps of its unchanged places, so many of them as a word
 // that differs from it in at least `far` places differs in; otherwise 0. A word without excess is marked at once, and so is one
 // whose excess a single gap makes up for.
-pub fn mark(costs: &[u16], word: &[u8], flags: [u8; PLACES], far: usize) -> u8
-    requires { ⌜ Markable (columnOf symbols (now costs)) (now word) flags far ⌝ }
+pub fn mark(costs: &[u16], word: &[u8], flags: [u8; PLACES], far: usize, summary: Summary) -> u8
+    requires { ⌜ Markable (columnOf symbols (now costs)) (now word) flags far × SummaryOf (columnOf symbols (now costs)) summary ⌝ }
     ensures { λ r. ⌜ r ≡ bit (isMarked places far (columnOf symbols (now (costs .entry))) (now (word .entry))) ⌝ }
 {
-    let due = excess(costs, word, flags);
+    let least = summary.least;
+    let due = excess(costs, word, flags, least);
     if due == 0 {
         return 1;
     }
@@ -175,7 +175,8 @@ pub fn mark(costs: &[u16], word: &[u8], flags: [u8; PLACES], far: usize) -> u8
     if far <= count {
         return 0;
     }
-    let near = gaps(costs, flags);
+    let plain = summary.gaps;
+    let near = gaps(plain, flags);
     let few = far - count;
     if is_clear(near, due, few) {
         return 1;

@@ -58,9 +58,12 @@ fn main() {
     show(picked.count as u64);
     end_line();
     let word = [0u8; 64];
+    let summary = summary::summary_of(&table);
+    let best = summary.best;
+    let counts = summary.counts;
     show(total::total(&table, &word) as u64);
     show(total::pinned(&table, &word) as u64);
-    show(total::changed(total::changed_places(&table, &word)) as u64);
+    show(total::changed(total::changed_places(&word, best, counts)) as u64);
     end_line();
     // 127, -1, 0 and -128; then the dearest symbol there is; then a blank column.
     show_bits([127, 255, 0, 128]);

@@ -23,6 +23,7 @@ use refusals::NONE_NEAR;
 use refusals::UNKNOWN_RATE;
 use refusals::WRONG_SIZE;
 use refusals::WRONG_SUPERFRAME;
+use summary::summary_of;
 use superframe::FRAME_BYTES;
 use superframe::HEAD_BYTES;
 use superframe::LENGTH_HIGH;
@@ -84,8 +85,9 @@ fn take_word(rate: usize, frame: &[u8], v: usize, part: &mut [u8]) -> u8
     ensures { λ r. ⌜ TakesWord rate (now (frame .entry)) v (now (part .entry)) r (now (part .exit)) ⌝ }
 {
     let costs = hard_costs(word_in(frame, v));
+    let summary = summary_of(&costs);
     let mut report = [0u8; 14];
-    decode(rate, &costs, [0; MOST_DOUBT], 0, part, &mut report)
+    decode(rate, &costs, [0; MOST_DOUBT], 0, part, &mut report, summary)
 }
 
 // What a word adds to the status, if it is named.

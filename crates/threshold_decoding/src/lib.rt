@@ -5,6 +5,7 @@ use decoding::decode;
 use doubt::MOST_DOUBT;
 use refusals::ACCEPTED;
 use refusals::WRONG_DOUBT;
+use summary::summary_of;
 use table_decoding::TABLE_BYTES;
 ghost use mathlib.Core.Path.{_≡_};
 ghost use Rattle.book.specs.Table.{closed};
@@ -31,7 +32,16 @@ pub fn decode_table_below(
         return WRONG_DOUBT;
     }
     let costs = columns::costs::table_from(table);
-    let picked = doubt::doubtful_below(&costs, threshold, most);
+    let summary = summary_of(&costs);
+    let picked = doubt::doubtful_below_by(summary, threshold, most);
     let doubtful = picked.places;
-    decode(rate, &costs, doubtful, picked.count, message, report)
+    decode(
+        rate,
+        &costs,
+        doubtful,
+        picked.count,
+        message,
+        report,
+        summary,
+    )
 }

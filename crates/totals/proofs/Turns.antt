@@ -2,7 +2,7 @@
 --
 --   cost-in                what a word's symbol costs, from the symbol and the list of costs
 --   both-bits, both-le     the product of two bits
---   changed-best, changed-other   a place is changed where its symbol is not the best one, if it is not blank
+--   changed-best, changed-other   a place is changed where its symbol is not the best one, if its flag is 1
 --   absent-bytes, present-bytes   the bytes of a margin
 --   report-bytes           the bytes of a report
 use mathlib.Core.Bool.{Bool, true, false, not, _&&_}
@@ -13,15 +13,16 @@ use mathlib.Core.Logic.{_≢_}
 use Prim.Native.Nat.{ℕ, _*_, _/_, _%_, _<_, _≤_}
 use native.Mathlib.Nat.{mul-le-mul}
 use native.Mathlib.Omega.{arith}
+use lib.Dec.{eqb}
 use lib.ListN.{getD}
 use borrow.Author.Tests.{eq-eqb, ne-eqb}
 use Rattle.lists.specs.Count.{bit}
-use Rattle.soft.specs.Column.{costOf, columnOf, symbols, bestOf}
-use Rattle.soft.specs.Blank.{openAt}
-use Rattle.soft.specs.Total.{symbolAt, costIn, changedAt, bytesOf, marginBytes, reportOf}
+use Rattle.soft.specs.Column.{costOf, columnOf, symbols}
+use Rattle.soft.specs.Total.{symbolAt, costIn, bytesOf, marginBytes, reportOf}
 use Rattle.totals.specs.declared.margin.Margin.{Margin}
 use Rattle.totals.specs.declared.margin.Margin.the-variants.{Absent, Of}
 use Rattle.totals.specs.Margin.{marginIs}
+use Rattle.totals.specs.Changed.{changedBy}
 
 -- what the symbol of a word costs at a place, read off a list of costs
 pub cost-in : (costs word : List ℕ) (p s r : ℕ) → s ≡ symbolAt word p → r ≡ costOf (columnOf symbols costs p) s → r ≡ costIn (columnOf symbols costs) word p
@@ -40,8 +41,8 @@ both-bits a b e f = ap₂ (λ m n. m * n) e f ∙ bits-both a b
 pub both-le : {x y : ℕ} → x ≤ 1 → y ≤ 1 → x * y ≤ 1
 both-le k l = mul-le-mul k l
 
--- a place is changed: its symbol is not the best one, and it is not blank
-module _ (columns : ℕ → List ℕ) (word : List ℕ) (p s best : ℕ) (e : s ≡ symbolAt word p) (f : best ≡ bestOf (columns p)) where
+-- a place is changed: its symbol is not the best one, and its flag is 1
+module _ (s best flag : ℕ) where
   nothing : (a b : Bool) → b ≡ true → (a && not b) ≡ false
   nothing true b h = ap not h
   nothing false b h = refl
@@ -50,11 +51,13 @@ module _ (columns : ℕ → List ℕ) (word : List ℕ) (p s best : ℕ) (e : s 
   alone true b h = ap not h
   alone false b h = refl
 
-  pub changed-best : s ≡ best → false ≡ changedAt columns word p
-  changed-best h = sym (nothing (openAt columns p) _ (eq-eqb (symbolAt word p) (bestOf (columns p)) (sym e ∙ h ∙ f)))
+  pub changed-best : s ≡ best → false ≡ changedBy s best flag
+  unfolding changedBy
+  changed-best h = sym (nothing (eqb flag 1) _ (eq-eqb s best h))
 
-  pub changed-other : s ≢ best → (r : Bool) → r ≡ openAt columns p → r ≡ changedAt columns word p
-  changed-other h r o = o ∙ sym (alone (openAt columns p) _ (ne-eqb (symbolAt word p) (bestOf (columns p)) (λ q. h (e ∙ q ∙ sym f))))
+  pub changed-other : s ≢ best → eqb flag 1 ≡ changedBy s best flag
+  unfolding changedBy
+  changed-other h = sym (alone (eqb flag 1) _ (ne-eqb s best h))
 
 -- the five bytes of a margin
 pub absent-bytes : {margin : Margin} → margin ≡ Absent → 0 ∷ 0 ∷ 0 ∷ 0 ∷ 0 ∷ [] ≡ marginBytes (marginIs margin)

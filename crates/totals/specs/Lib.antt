@@ -1,1 +1,2 @@
 pub mod Margin
+pub mod Changed

@@ -1,19 +1,19 @@
 // What a word costs over 64 places, and where it differs.
 use columns::bit::bit;
 use columns::blank::blanks;
-use columns::blank::is_open;
-use columns::column::best;
 use columns::costs::CEILING;
 use columns::costs::PLACES;
 use columns::costs::byte_at;
-use columns::costs::column_of;
 use columns::costs::cost_of;
 ghost use mathlib.Core.Path.{_≡_};
-ghost use Prim.Native.Nat.{_<_};
+ghost use mathlib.Core.List.{List};
+ghost use Prim.Native.Nat.{ℕ, _<_};
 ghost use Rattle.soft.specs.Column.{places, symbols, columnOf};
-ghost use Rattle.soft.specs.Blank.{flagAt};
+ghost use Rattle.soft.specs.Blank.{flagAt, flagsOf};
+ghost use Rattle.soft.specs.TestWord.{bestWord};
 ghost use Rattle.lists.specs.Count.{count};
-ghost use Rattle.soft.specs.Total.{totalOf, pinnedOf, changedAt, changedFlags, agree, differingIn};
+ghost use Rattle.soft.specs.Total.{totalOf, pinnedOf, changedFlags, agree, differingIn};
+ghost use Rattle.totals.specs.Changed.{changedBy};
 
 // A cost at the ceiling is summed as it stands.
 pub fn total(costs: &[u16], word: &[u8]) -> u32
@@ -37,22 +37,22 @@ pub fn pinned(costs: &[u16], word: &[u8]) -> u8
 }
 
 // Where the symbol is the best one, it does not matter whether the place is blank.
-fn is_changed(costs: &[u16], word: &[u8], place: usize) -> bool
-    ensures { λ r. ⌜ r ≡ changedAt (columnOf symbols (now (costs .entry))) (now (word .entry)) place ⌝ }
+fn is_changed(symbol: u8, best: u8, flag: u8) -> bool
+    ensures { λ r. ⌜ r ≡ changedBy symbol best flag ⌝ }
 {
-    if byte_at(word, place) == best(column_of(costs, place)) {
+    if symbol == best {
         return false;
     }
-    is_open(costs, place)
+    flag == 1
 }
 
-// A flag for each place: 1 where it is changed.
-pub fn changed_places(costs: &[u16], word: &[u8]) -> [u8; PLACES]
-    ensures { λ r. ⌜ r ≡ changedFlags places (columnOf symbols (now (costs .entry))) (now (word .entry)) ⌝ }
+// A flag for each place: 1 where it is changed, by the best symbols and the flags of the places that are not blank.
+pub fn changed_places(word: &[u8], best: [u8; PLACES], counts: [u8; PLACES]) -> [u8; PLACES]
+    ensures { λ r. ⌜ ((columns : ℕ → List ℕ) → best ≡ bestWord places columns → counts ≡ flagsOf places columns → r ≡ changedFlags places columns (now (word .entry))) ⌝ }
 {
     let mut out = [0u8; PLACES];
     for place in 0..PLACES {
-        out[place] = bit(is_changed(costs, word, place)) as u8;
+        out[place] = bit(is_changed(byte_at(word, place), best[place], counts[place])) as u8;
     }
     out
 }

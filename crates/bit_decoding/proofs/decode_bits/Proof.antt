@@ -26,26 +26,31 @@ returns-2 c =
 costs-from-bits-requires : tie.Need-costs-from-bits-requires
 costs-from-bits-requires c κs = search needs
 
-slice-aggregate-doubtful : tie.Need-slice-aggregate-doubtful
-slice-aggregate-doubtful c = search needs
+slice-aggregate-summary-of : tie.Need-slice-aggregate-summary-of
+slice-aggregate-summary-of c = search needs
 
-doubtful-requires : tie.Need-doubtful-requires
-doubtful-requires c κs = search needs
+summary-of-requires : tie.Need-summary-of-requires
+summary-of-requires c κs = search needs
+
+doubtful-by-requires : tie.Need-doubtful-by-requires
+doubtful-by-requires c κs = search needs
 
 slice-aggregate-decode : tie.Need-slice-aggregate-decode
 slice-aggregate-decode c = search needs
 
 decode-requires : tie.Need-decode-requires
 decode-requires c κs =
-    let past = c .before .before .before .before .before .before .before in
-    let k = passed _ _ _ _ _ (past .before .before .checks .ensures) (omega arith) in
-    record {
-      askable =
-          bits-askable _ _ (past .if2 .left) (c .before .before .before .before .before .before .costs-from-bits .ensures)
-          (c .before .before .before .before .doubtful .ensures) _ (k .rated);
-      message-long = k .long;
-      report-long = k .whole-report;
-    }
+    let past = c .before .before .before .before .before .before .before .before in
+    let k = passed _ _ _ _ _ (past .before .before .checks .ensures) (omega arith) in (
+      record {
+        askable =
+            bits-askable _ _ (past .if2 .left) (c .before .before .before .before .before .before .before .costs-from-bits .ensures)
+            (c .before .before .before .before .doubtful-by .ensures _ (c .before .before .before .before .before .summary-of .ensures)) _ (k .rated);
+        message-long = k .long;
+        report-long = k .whole-report;
+      },
+      c .before .before .before .before .before .summary-of .ensures,
+    )
 
 same-length : tie.Need-same-length
 same-length c = search needs
@@ -55,10 +60,10 @@ same-length-2 c = search needs
 
 returns-3 : tie.Need-returns-3
 returns-3 c =
-    let past = c .before .before .before .before .before .before .before .before .before .before .before .before in
+    let past = c .before .before .before .before .before .before .before .before .before .before .before .before .before in
     let k = passed _ _ _ _ _ (past .before .before .checks .ensures) (omega arith) in
-    bits-answers _ _ (past .if2 .left) (c .before .before .before .before .before .before .before .before .before .before .before .costs-from-bits .ensures)
-    (c .before .before .before .before .before .before .before .before .before .doubtful .ensures) _ (k .rated) _ _ (k .whole) (k .long)
+    bits-answers _ _ (past .if2 .left) (c .before .before .before .before .before .before .before .before .before .before .before .before .costs-from-bits .ensures)
+    (c .before .before .before .before .before .before .before .before .before .doubtful-by .ensures _ (c .before .before .before .before .before .before .before .before .before .before .summary-of .ensures)) _ (k .rated) _ _ (k .whole) (k .long)
     (k .whole-report) (c .before .before .before .before .decode .ensures)
 
 pub decode-bits-spec : {M : Type 1} → statement M
@@ -69,8 +74,9 @@ decode-bits-spec =
     returns
     returns-2
     costs-from-bits-requires
-    slice-aggregate-doubtful
-    doubtful-requires
+    slice-aggregate-summary-of
+    summary-of-requires
+    doubtful-by-requires
     slice-aggregate-decode
     decode-requires
     same-length

@@ -58,19 +58,28 @@ returns-5 c =
     closing-by-hand _ _ _ _
     (λ good. c .if5 .taken (ap (λ (o : Opened). o .refusal) (c .before .before .«open» .ensures) ∙ fit-opened _ _ (good .rate-known) (good .list-fit)))
 
+slice-aggregate-summary-of : tie.Need-slice-aggregate-summary-of
+slice-aggregate-summary-of c =
+    sym (table-room (c .before .before .before .before .before .before .before .before .before .before .before .before .before .before .before .before))
+
+summary-of-requires : tie.Need-summary-of-requires
+summary-of-requires c κs = search needs
+
 slice-aggregate-decode : tie.Need-slice-aggregate-decode
 slice-aggregate-decode c =
-    sym (table-room (c .before .before .before .before .before .before .before .before .before .before .before .before .before .before .before .before))
+    sym (table-room (c .before .before .before .before .before .before .before .before .before .before .before .before .before .before .before .before .before .before))
 
 decode-requires : tie.Need-decode-requires
 decode-requires c κs =
-    let s : Session = c .before .before .before .before .before .before .before .before .before .before .before .before .before .before .before .before .before .before .args .session in
-    let f = opened-fit (s .rate) (take (s .doubt) (s .doubtful)) (sym (ap (λ (o : Opened). o .refusal) (c .before .before .before .before .before .before .«open» .ensures)) ∙ c .before .before .before .before .if5 .left) in
-    record {
-      askable = askable-fit (s .rate) (s .costs) (s .doubtful) (s .doubt) (f .0) (f .1) (table-room (c .before .before .before .before .before .before .before .before .before .before .before .before .before .before .before .before .before .before)) (c .before .before .before .before .before .before .before .before .if4 .left);
-      message-long = c .before .before .before .before .before .before .before .before .before .before .before .before .before .before .if1 .left;
-      report-long = c .before .before .before .before .before .before .before .before .before .before .before .before .before .if2 .left;
-    }
+    let s : Session = c .before .before .before .before .before .before .before .before .before .before .before .before .before .before .before .before .before .before .before .before .args .session in
+    let f = opened-fit (s .rate) (take (s .doubt) (s .doubtful)) (sym (ap (λ (o : Opened). o .refusal) (c .before .before .before .before .before .before .before .before .«open» .ensures)) ∙ c .before .before .before .before .before .before .if5 .left) in (
+      record {
+        askable = askable-fit (s .rate) (s .costs) (s .doubtful) (s .doubt) (f .0) (f .1) (table-room (c .before .before .before .before .before .before .before .before .before .before .before .before .before .before .before .before .before .before .before .before)) (c .before .before .before .before .before .before .before .before .before .before .if4 .left);
+        message-long = c .before .before .before .before .before .before .before .before .before .before .before .before .before .before .before .before .if1 .left;
+        report-long = c .before .before .before .before .before .before .before .before .before .before .before .before .before .before .before .if2 .left;
+      },
+      c .before .before .before .summary-of .ensures,
+    )
 
 same-length : tie.Need-same-length
 same-length c = search needs
@@ -80,7 +89,7 @@ same-length-2 c = search needs
 
 returns-6 : tie.Need-returns-6
 returns-6 c =
-    closing-decoded _ _ _ (c .before .before .before .before .before .before .before .before .before .before .before .before .before .before .before .before .before .before .before .if1 .left) (c .before .before .before .before .before .before .before .before .before .before .before .before .before .before .before .before .before .before .if2 .left) (sym (c .before .before .before .before .before .before .before .before .before .before .before .before .before .before .before .before .all-taken .ensures) ∙ not-false _ (c .before .before .before .before .before .before .before .before .before .before .before .before .before .before .before .if3 .left)) (c .before .before .before .before .decode .ensures)
+    closing-decoded _ _ _ (c .before .before .before .before .before .before .before .before .before .before .before .before .before .before .before .before .before .before .before .before .before .if1 .left) (c .before .before .before .before .before .before .before .before .before .before .before .before .before .before .before .before .before .before .before .before .if2 .left) (sym (c .before .before .before .before .before .before .before .before .before .before .before .before .before .before .before .before .before .before .all-taken .ensures) ∙ not-false _ (c .before .before .before .before .before .before .before .before .before .before .before .before .before .before .before .before .before .if3 .left)) (c .before .before .before .before .decode .ensures)
 
 pub close-spec : {M : Type 1} → statement M
 close-spec =
@@ -96,6 +105,8 @@ close-spec =
     slice-aggregate-open
     open-requires
     returns-5
+    slice-aggregate-summary-of
+    summary-of-requires
     slice-aggregate-decode
     decode-requires
     same-length

@@ -1,34 +1,16 @@
--- `doubt::doubtful_below` meets its contract: a threshold has two bytes, so no blank place is counted below it, and the number counted, one at least and the
--- most at most, is the doubt with which the places chosen by the keys are those of the threshold.
-use mathlib.Core.Path.{ap, _∙_}
-use native.Mathlib.Omega.{arith}
+-- `doubt::doubtful_below` meets its contract: by the summary of its columns.
 use borrow.Author.Needs.{needs}
-use Rattle.soft.specs.Threshold.{clampOf}
-use Rattle.doubt.specs.Keys.{keyed-apart, chosen-closest}
-use Rattle.doubt.specs.Picked.{picked-same}
 use Rattle.doubt.proofs.doubtful_below.Statement.{statement}
 use Rattle.doubt.proofs.doubtful_below.Tie as tie
 
-keys-of-requires : tie.Need-keys-of-requires
-keys-of-requires c κs = search needs
+summary-of-requires : tie.Need-summary-of-requires
+summary-of-requires c κs = search needs
 
-count-below-requires : tie.Need-count-below-requires
-count-below-requires c κs = search needs
-
-clamp-requires : tie.Need-clamp-requires
-clamp-requires c κs = search needs
-
-picked-by-requires : tie.Need-picked-by-requires
-picked-by-requires c κs = keyed-apart (c .before .before .keys-of .ensures)
+doubtful-below-by-requires : tie.Need-doubtful-below-by-requires
+doubtful-below-by-requires c κs = search needs
 
 returns : tie.Need-returns
-returns c =
-    picked-same
-    (chosen-closest (c .before .before .before .keys-of .ensures) _ _ _ (omega arith)
-    (c .before .clamp .ensures ∙ ap (clampOf _) (c .before .before .count-below .ensures)))
-    (c .picked-by .ensures)
+returns c = c .doubtful-below-by .ensures _ (c .before .summary-of .ensures)
 
 pub doubtful-below-spec : {M : Type 1} → statement M
-doubtful-below-spec =
-    tie.close
-    (tie.spec keys-of-requires count-below-requires clamp-requires picked-by-requires returns)
+doubtful-below-spec = tie.close (tie.spec summary-of-requires doubtful-below-by-requires returns)

@@ -3,20 +3,35 @@ use Prim.Native.Nat.{_≤_, _-_}
 use native.Mathlib.Omega.{arith}
 use borrow.Author.Needs.{needs}
 use Rattle.lists.specs.Passed.{Passed, passed-start, passed-turn}
-use Rattle.soft.specs.Column.{columnOf}
-use Rattle.doubt.specs.Keys.{far, KeyOf}
+use Rattle.doubt.specs.Keys.{far}
+use Rattle.doubt.specs.Summed.{keyRule}
 use Rattle.doubt.proofs.keys_of.Statement.{statement}
 use Rattle.doubt.proofs.keys_of.Tie as tie
 
 abbrev Inv-loop : tie.InvT-loop
-Inv-loop costs out₀ place₀ out place =
-    (place ≤ 64) × Passed 0 (KeyOf 64 far (columnOf 16 costs)) 0 place out₀ out
+Inv-loop least gaps counts out₀ place₀ out place =
+    (place ≤ 64) × Passed 0 (keyRule 64 far least gaps counts) 0 place out₀ out
 
 abbrev μ-loop : tie.MeasureT-loop
-μ-loop costs out₀ place₀ out place = 64 - place
+μ-loop least gaps counts out₀ place₀ out place = 64 - place
 
 loop-holds : tie.Need-loop-holds Inv-loop μ-loop
 loop-holds c = (omega arith, passed-start 0 _ 0 _)
+
+mul-key-of : tie.Need-mul-key-of Inv-loop μ-loop
+mul-key-of c = search needs
+
+array-read-key-of : tie.Need-array-read-key-of Inv-loop μ-loop
+array-read-key-of c = search needs
+
+mul-key-of-2 : tie.Need-mul-key-of-2 Inv-loop μ-loop
+mul-key-of-2 c = search needs
+
+array-read-key-of-2 : tie.Need-array-read-key-of-2 Inv-loop μ-loop
+array-read-key-of-2 c = search needs
+
+array-read-key-of-3 : tie.Need-array-read-key-of-3 Inv-loop μ-loop
+array-read-key-of-3 c = search needs
 
 key-of-requires : tie.Need-key-of-requires Inv-loop μ-loop
 key-of-requires c κs = search needs
@@ -49,6 +64,11 @@ keys-of-spec =
     Inv-loop
     μ-loop
     loop-holds
+    mul-key-of
+    array-read-key-of
+    mul-key-of-2
+    array-read-key-of-2
+    array-read-key-of-3
     key-of-requires
     mul-out
     array-write-out

@@ -4,26 +4,34 @@ use mathlib.Core.Bool.{cond}
 use mathlib.Core.Path.{_≡_, sym}
 use Prim.Native.Nat.{_≤_, _-_, _*_}
 use native.Mathlib.Omega.{arith}
+use lib.ListN.{getD}
 use Rattle.lists.specs.Count.{sumOf, sumOf-nil, sumOf-turn}
 use Rattle.soft.specs.Column.{columnOf}
 use Rattle.soft.specs.Blank.{flagAt}
 use Rattle.soft.specs.Total.{costIn}
-use Rattle.soft.specs.Mark.{bestCost, sumIn, excessIn}
+use Rattle.soft.specs.Mark.{sumIn}
+use Rattle.marks.specs.Low.{excessBy}
 use Rattle.marks.proofs.excess.Statement.{statement}
 use Rattle.marks.proofs.excess.Tie as tie
 
 abbrev Inv-loop : tie.InvT-loop
-Inv-loop costs word flags sum₀ place₀ sum place =
-    (place ≤ 64) × (sum ≤ 65535 * place) × (sum ≡ sumOf place (λ p. cond (flagAt flags p) (costIn (columnOf 16 costs) word p - bestCost (columnOf 16 costs) p) 0))
+Inv-loop costs word flags least sum₀ place₀ sum place =
+    (place ≤ 64) × (sum ≤ 65535 * place) × (sum ≡ sumOf place (λ p. cond (flagAt flags p) (costIn (columnOf 16 costs) word p - getD least p 0) 0))
 
 abbrev μ-loop : tie.MeasureT-loop
-μ-loop costs word flags sum₀ place₀ sum place = 64 - place
+μ-loop costs word flags least sum₀ place₀ sum place = 64 - place
 
 loop-holds : tie.Need-loop-holds Inv-loop μ-loop
 loop-holds c = (omega arith, omega arith, sym (sumOf-nil _))
 
 array-read-over : tie.Need-array-read-over Inv-loop μ-loop
 array-read-over c = search needs
+
+mul-over : tie.Need-mul-over Inv-loop μ-loop
+mul-over c = search needs
+
+array-read-over-2 : tie.Need-array-read-over-2 Inv-loop μ-loop
+array-read-over-2 c = search needs
 
 over-requires : tie.Need-over-requires Inv-loop μ-loop
 over-requires c κs = search needs
@@ -41,7 +49,7 @@ loop-again : tie.Need-loop-again Inv-loop μ-loop
 loop-again c = (omega arith, omega (arith, c .over .ensures .1), sumOf-turn _ _ _ _ (c .before .before .loop .inv .2) (c .over .ensures .0))
 
 returns : tie.Need-returns Inv-loop μ-loop
-unfolding excessIn sumIn
+unfolding excessBy sumIn
 returns c =
     let e : c .before .loop .place ≡ 64 = omega arith in
     rw e at (c .before .loop .inv .2)
@@ -54,6 +62,8 @@ excess-spec =
     μ-loop
     loop-holds
     array-read-over
+    mul-over
+    array-read-over-2
     over-requires
     add-sum
     add-place

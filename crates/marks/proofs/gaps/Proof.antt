@@ -1,32 +1,33 @@
--- The gaps of the places passed are stored, the rest is as it was.
+-- The gaps of the places passed are stored.
 use borrow.Author.Needs.{needs}
-use mathlib.Core.Bool.{false, cond}
-use mathlib.Core.Path.{_≡_, ap, _∙_}
-use mathlib.Core.List.{_++_}
-use Prim.Native.Nat.{ℕ, _≤_, _<_, _-_}
+use mathlib.Core.Path.{_≡_}
+use Prim.Native.Nat.{_≤_, _-_}
 use native.Mathlib.Omega.{arith}
-use lib.ListN.{drop}
-use Rattle.lists.specs.Listed.{listed, listed-start, listed-store, listed-end}
-use Rattle.soft.specs.Column.{columnOf, gapOf}
-use Rattle.soft.specs.Blank.{flagAt}
-use Rattle.marks.specs.Low.{above, gapsOf}
-use Rattle.marks.proofs.Marking.{small-turn}
+use lib.ListN.{getD}
+use Rattle.lists.specs.Passed.{Passed, passed-start, passed-turn}
+use Rattle.marks.specs.Low.{gapRule}
+use Rattle.marks.proofs.Marking.{gaps-made}
 use Rattle.marks.proofs.gaps.Statement.{statement}
 use Rattle.marks.proofs.gaps.Tie as tie
 
 abbrev Inv-loop : tie.InvT-loop
-Inv-loop costs flags out₀ place₀ out place =
-    (place ≤ 64) × (out ≡ listed place (λ p. cond (flagAt flags p) above (gapOf (columnOf 16 costs p))) ++ drop place out₀)
-    × ((p : ℕ) → p < place → flagAt flags p ≡ false → gapOf (columnOf 16 costs p) < above)
+Inv-loop plain flags out₀ place₀ out place =
+    (place ≤ 64) × Passed 0 (gapRule plain flags) 0 place out₀ out
 
 abbrev μ-loop : tie.MeasureT-loop
-μ-loop costs flags out₀ place₀ out place = 64 - place
+μ-loop plain flags out₀ place₀ out place = 64 - place
 
 loop-holds : tie.Need-loop-holds Inv-loop μ-loop
-loop-holds c = (omega arith, listed-start _ _, λ p l e. absurd (omega arith))
+loop-holds c = (omega arith, passed-start 0 _ 0 _)
+
+mul-gap-at : tie.Need-mul-gap-at Inv-loop μ-loop
+mul-gap-at c = search needs
 
 array-read-gap-at : tie.Need-array-read-gap-at Inv-loop μ-loop
 array-read-gap-at c = search needs
+
+array-read-gap-at-2 : tie.Need-array-read-gap-at-2 Inv-loop μ-loop
+array-read-gap-at-2 c = search needs
 
 gap-at-requires : tie.Need-gap-at-requires Inv-loop μ-loop
 gap-at-requires c κs = search needs
@@ -44,18 +45,15 @@ loop-less : tie.Need-loop-less Inv-loop μ-loop
 loop-less c = omega arith
 
 loop-again : tie.Need-loop-again Inv-loop μ-loop
-loop-again c =
-    let i = c .before .before .loop .inv in
-    (omega arith, listed-store 0 _ _ _ _ _ (omega arith) (c .gap-at .ensures .is) (i .1), small-turn _ (c .before .before .before .before .args .t2) _ (i .2) (c .gap-at .ensures))
+loop-again c = (
+  omega arith,
+  passed-turn 0 _ _ (omega arith) (omega arith) (c .gap-at .ensures) (c .before .before .loop .inv .1),
+)
 
 returns : tie.Need-returns Inv-loop μ-loop
-unfolding gapsOf
 returns c =
-    let e : c .before .loop .place ≡ 64 = omega arith in
-    record {
-      is = rw e at (listed-end _ _ _ _ (omega arith) (c .before .loop .inv .1));
-      small = rw e at (c .before .loop .inv .2);
-    }
+    let i = c .before .loop .inv .1 in
+    gaps-made _ _ (i .as-long) (λ p l. i .stored p (omega arith) (omega arith))
 
 pub gaps-spec : {M : Type 1} → statement M
 gaps-spec =
@@ -64,7 +62,9 @@ gaps-spec =
     Inv-loop
     μ-loop
     loop-holds
+    mul-gap-at
     array-read-gap-at
+    array-read-gap-at-2
     gap-at-requires
     mul-out
     array-write-out

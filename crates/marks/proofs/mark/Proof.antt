@@ -1,6 +1,11 @@
 -- The five ends.
 use borrow.Author.Needs.{needs}
+use mathlib.Core.Path.{_≡_, _∙_}
 use native.Mathlib.Omega.{arith}
+use Rattle.soft.specs.Column.{columnOf}
+use Rattle.soft.specs.Blank.{flagAt}
+use Rattle.soft.specs.Mark.{excessIn}
+use Rattle.marks.specs.Low.{excess-best, Gaps}
 use Rattle.marks.proofs.Marking.{enough-above, few-left, marked-clean, marked-none, marked-clear, marked-far, marked-near}
 use Rattle.marks.proofs.mark.Statement.{statement}
 use Rattle.marks.proofs.mark.Tie as tie
@@ -8,8 +13,16 @@ use Rattle.marks.proofs.mark.Tie as tie
 excess-requires : tie.Need-excess-requires
 excess-requires c κs = search needs
 
+-- by the summary the excess is that over the best costs
+due-is : (c : tie.After-excess) → c .excess .result ≡ excessIn 64 (flagAt (c .before .before .before .before .args .flags)) (columnOf 16 (c .before .before .before .before .args .costs .now)) (c .before .before .before .before .args .word .now)
+due-is c = c .excess .ensures ∙ excess-best _ _ _ _ (c .before .before .before .before .pre .1 .least)
+
+-- and the gaps are the plain ones
+near-is : (c : tie.After-gaps) → Gaps (columnOf 16 (c .before .before .before .before .before .before .before .before .before .args .costs .now)) (c .before .before .before .before .before .before .before .before .before .args .flags) (c .gaps .result)
+near-is c = c .gaps .ensures _ (c .before .before .before .before .before .before .before .before .before .pre .1 .gaps)
+
 returns : tie.Need-returns
-returns c = marked-clean (c .before .before .before .before .pre) (c .before .excess .ensures) (c .if1 .taken)
+returns c = marked-clean (c .before .before .before .before .before .pre .0) (due-is (c .before)) (c .if1 .taken)
 
 changed-requires : tie.Need-changed-requires
 changed-requires c κs = search needs
@@ -19,7 +32,7 @@ cast-count c = search needs
 
 returns-2 : tie.Need-returns-2
 returns-2 c =
-    marked-none (c .before .before .before .before .before .before .pre) (c .before .before .before .excess .ensures) (c .before .changed .ensures)
+    marked-none (c .before .before .before .before .before .before .before .pre .0) (due-is (c .before .before .before)) (c .before .changed .ensures)
     (c .before .before .if1 .left) (c .if2 .taken)
 
 gaps-requires : tie.Need-gaps-requires
@@ -33,23 +46,23 @@ is-clear-requires c κs = search needs
 
 returns-3 : tie.Need-returns-3
 returns-3 c =
-    marked-clear (c .before .before .before .before .before .before .before .before .before .pre) (c .before .before .before .before .before .before .excess .ensures)
-    (c .before .before .before .before .changed .ensures) (c .before .before .gaps .ensures) (c .if3 .taken) (c .before .is-clear .ensures)
+    marked-clear (c .before .before .before .before .before .before .before .before .before .before .before .pre .0) (due-is (c .before .before .before .before .before .before .before))
+    (c .before .before .before .before .before .changed .ensures) (near-is (c .before .before)) (c .if3 .taken) (c .before .is-clear .ensures)
 
 low-sum-requires : tie.Need-low-sum-requires
 low-sum-requires c κs =
-    let M = c .before .before .before .before .before .before .before .before .before .pre in
-    (omega (arith, M .few), omega (arith, few-left M (c .before .before .before .before .changed .ensures), enough-above _ _ _ _ (c .before .before .gaps .ensures) (M .changed)))
+    let M = c .before .before .before .before .before .before .before .before .before .before .before .pre .0 in
+    (omega (arith, M .few), omega (arith, few-left M (c .before .before .before .before .before .changed .ensures), enough-above _ _ _ _ (near-is (c .before .before)) (M .changed)))
 
 returns-4 : tie.Need-returns-4
 returns-4 c =
-    marked-far (c .before .before .before .before .before .before .before .before .before .before .before .pre) (c .before .before .before .before .before .before .before .before .excess .ensures)
-    (c .before .before .before .before .before .before .changed .ensures) (c .before .before .before .before .gaps .ensures) (c .before .low-sum .ensures) (c .if4 .taken)
+    marked-far (c .before .before .before .before .before .before .before .before .before .before .before .before .before .pre .0) (due-is (c .before .before .before .before .before .before .before .before .before))
+    (c .before .before .before .before .before .before .before .changed .ensures) (near-is (c .before .before .before .before)) (c .before .low-sum .ensures) (c .if4 .taken)
 
 returns-5 : tie.Need-returns-5
 returns-5 c =
-    marked-near (c .before .before .before .before .before .before .before .before .before .before .before .pre) (c .before .before .before .before .before .before .before .before .excess .ensures)
-    (c .before .before .before .before .before .before .changed .ensures) (c .before .before .before .before .gaps .ensures) (c .before .low-sum .ensures) (c .if4 .left)
+    marked-near (c .before .before .before .before .before .before .before .before .before .before .before .before .before .pre .0) (due-is (c .before .before .before .before .before .before .before .before .before))
+    (c .before .before .before .before .before .before .before .changed .ensures) (near-is (c .before .before .before .before)) (c .before .low-sum .ensures) (c .if4 .left)
 
 pub mark-spec : {M : Type 1} → statement M
 mark-spec =

@@ -4,7 +4,6 @@ use native.Mathlib.Omega.{arith}
 use borrow.Author.Tests.{ne-eqb}
 use Rattle.soft.specs.Column.{columnOf}
 use Rattle.soft.specs.Total.{costIn}
-use Rattle.soft.specs.Mark.{bestCost}
 use Rattle.marks.proofs.Marking.{over-none, over-made}
 use Rattle.marks.proofs.over.Statement.{statement}
 use Rattle.marks.proofs.over.Tie as tie
@@ -12,7 +11,7 @@ use Rattle.marks.proofs.over.Tie as tie
 returns : tie.Need-returns
 returns c =
     let a = c .before .before .before .args in
-    (over-none (a .flag) (costIn (columnOf 16 (a .costs .now)) (a .word .now) (a .place)) (bestCost (columnOf 16 (a .costs .now)) (a .place)) (ne-eqb (a .flag) 1 (c .if1 .taken)), omega arith)
+    (over-none (a .flag) (costIn (columnOf 16 (a .costs .now)) (a .word .now) (a .place)) (a .least) (ne-eqb (a .flag) 1 (c .if1 .taken)), omega arith)
 
 byte-at-requires : tie.Need-byte-at-requires
 byte-at-requires c κs = search needs
@@ -20,21 +19,11 @@ byte-at-requires c κs = search needs
 cost-of-requires : tie.Need-cost-of-requires
 cost-of-requires c κs = search needs
 
-column-of-requires : tie.Need-column-of-requires
-column-of-requires c κs = search needs
-
-best-requires : tie.Need-best-requires
-best-requires c κs = search needs
-
-cost-of-requires-2 : tie.Need-cost-of-requires-2
-cost-of-requires-2 c κs = search needs
-
 returns-2 : tie.Need-returns-2
 returns-2 c =
-    let a = c .before .before .before .before .before .before .before .before .before .args in (
-      over-made (columnOf 16 (a .costs .now)) (a .word .now) (a .place) (c .before .before .before .before .before .before .if1 .left)
-          (c .before .before .before .before .before .byte-at .ensures) (c .before .before .before .before .cost-of .ensures)
-          (c .before .before .before .column-of .ensures) (c .before .before .best .ensures) (c .before .cost-of2 .ensures) (omega arith),
+    let a = c .before .before .before .before .before .before .args in (
+      over-made (columnOf 16 (a .costs .now)) (a .word .now) (a .place) (a .least) (c .before .before .before .if1 .left) (c .before .before .byte-at .ensures)
+          (c .before .cost-of .ensures) (omega arith),
       omega arith,
     )
 
@@ -43,23 +32,12 @@ cast-result c = search needs
 
 returns-3 : tie.Need-returns-3
 returns-3 c =
-    let a = c .before .before .before .before .before .before .before .before .before .args in (
-      over-made (columnOf 16 (a .costs .now)) (a .word .now) (a .place) (c .before .before .before .before .before .before .if1 .left)
-          (c .before .before .before .before .before .byte-at .ensures) (c .before .before .before .before .cost-of .ensures)
-          (c .before .before .before .column-of .ensures) (c .before .before .best .ensures) (c .before .cost-of2 .ensures) (omega arith),
+    let a = c .before .before .before .before .before .before .args in (
+      over-made (columnOf 16 (a .costs .now)) (a .word .now) (a .place) (a .least) (c .before .before .before .if1 .left) (c .before .before .byte-at .ensures)
+          (c .before .cost-of .ensures) (omega arith),
       omega arith,
     )
 
 pub over-spec : {M : Type 1} → statement M
 over-spec =
-    tie.close
-    (tie.spec
-    returns
-    byte-at-requires
-    cost-of-requires
-    column-of-requires
-    best-requires
-    cost-of-requires-2
-    returns-2
-    cast-result
-    returns-3)
+    tie.close (tie.spec returns byte-at-requires cost-of-requires returns-2 cast-result returns-3)

@@ -25,26 +25,31 @@ returns-2 c =
 table-from-requires : tie.Need-table-from-requires
 table-from-requires c κs = search needs
 
-slice-aggregate-doubtful : tie.Need-slice-aggregate-doubtful
-slice-aggregate-doubtful c = search needs
+slice-aggregate-summary-of : tie.Need-slice-aggregate-summary-of
+slice-aggregate-summary-of c = search needs
 
-doubtful-requires : tie.Need-doubtful-requires
-doubtful-requires c κs = search needs
+summary-of-requires : tie.Need-summary-of-requires
+summary-of-requires c κs = search needs
+
+doubtful-by-requires : tie.Need-doubtful-by-requires
+doubtful-by-requires c κs = search needs
 
 slice-aggregate-decode : tie.Need-slice-aggregate-decode
 slice-aggregate-decode c = search needs
 
 decode-requires : tie.Need-decode-requires
 decode-requires c κs =
-    let past = c .before .before .before .before .before .before .before in
-    let k = passed _ _ _ _ _ (past .before .before .checks .ensures) (omega arith) in
-    record {
-      askable =
-          table-askable _ _ (past .if2 .left) (c .before .before .before .before .before .before .table-from .ensures)
-          (c .before .before .before .before .doubtful .ensures) _ (k .rated);
-      message-long = k .long;
-      report-long = k .whole-report;
-    }
+    let past = c .before .before .before .before .before .before .before .before in
+    let k = passed _ _ _ _ _ (past .before .before .checks .ensures) (omega arith) in (
+      record {
+        askable =
+            table-askable _ _ (past .if2 .left) (c .before .before .before .before .before .before .before .table-from .ensures)
+            (c .before .before .before .before .doubtful-by .ensures _ (c .before .before .before .before .before .summary-of .ensures)) _ (k .rated);
+        message-long = k .long;
+        report-long = k .whole-report;
+      },
+      c .before .before .before .before .before .summary-of .ensures,
+    )
 
 same-length : tie.Need-same-length
 same-length c = search needs
@@ -54,10 +59,10 @@ same-length-2 c = search needs
 
 returns-3 : tie.Need-returns-3
 returns-3 c =
-    let past = c .before .before .before .before .before .before .before .before .before .before .before .before in
+    let past = c .before .before .before .before .before .before .before .before .before .before .before .before .before in
     let k = passed _ _ _ _ _ (past .before .before .checks .ensures) (omega arith) in
-    table-answers _ _ (past .if2 .left) (c .before .before .before .before .before .before .before .before .before .before .before .table-from .ensures)
-    (c .before .before .before .before .before .before .before .before .before .doubtful .ensures) _ (k .rated) _ _ (k .whole) (k .long)
+    table-answers _ _ (past .if2 .left) (c .before .before .before .before .before .before .before .before .before .before .before .before .table-from .ensures)
+    (c .before .before .before .before .before .before .before .before .before .doubtful-by .ensures _ (c .before .before .before .before .before .before .before .before .before .before .summary-of .ensures)) _ (k .rated) _ _ (k .whole) (k .long)
     (k .whole-report) (c .before .before .before .before .decode .ensures)
 
 pub decode-table-spec : {M : Type 1} → statement M
@@ -68,8 +73,9 @@ decode-table-spec =
     returns
     returns-2
     table-from-requires
-    slice-aggregate-doubtful
-    doubtful-requires
+    slice-aggregate-summary-of
+    summary-of-requires
+    doubtful-by-requires
     slice-aggregate-decode
     decode-requires
     same-length

@@ -32,26 +32,31 @@ returns-3 c =
 table-from-requires : tie.Need-table-from-requires
 table-from-requires c κs = search needs
 
-slice-aggregate-doubtful-below : tie.Need-slice-aggregate-doubtful-below
-slice-aggregate-doubtful-below c = search needs
+slice-aggregate-summary-of : tie.Need-slice-aggregate-summary-of
+slice-aggregate-summary-of c = search needs
 
-doubtful-below-requires : tie.Need-doubtful-below-requires
-doubtful-below-requires c κs = search needs
+summary-of-requires : tie.Need-summary-of-requires
+summary-of-requires c κs = search needs
+
+doubtful-below-by-requires : tie.Need-doubtful-below-by-requires
+doubtful-below-by-requires c κs = search needs
 
 slice-aggregate-decode : tie.Need-slice-aggregate-decode
 slice-aggregate-decode c = search needs
 
 decode-requires : tie.Need-decode-requires
 decode-requires c κs =
-    let past = c .before .before .before .before .before .before .before in
-    let k = passed _ _ _ _ _ (past .before .before .before .checks .ensures) (omega arith) in
-    record {
-      askable =
-          below-askable _ _ _ (omega arith) (c .before .before .before .before .before .before .table-from .ensures)
-          (c .before .before .before .before .doubtful-below .ensures) _ (k .rated);
-      message-long = k .long;
-      report-long = k .whole-report;
-    }
+    let past = c .before .before .before .before .before .before .before .before in
+    let k = passed _ _ _ _ _ (past .before .before .before .checks .ensures) (omega arith) in (
+      record {
+        askable =
+            below-askable _ _ _ (omega arith) (c .before .before .before .before .before .before .before .table-from .ensures)
+            (c .before .before .before .before .doubtful-below-by .ensures _ (c .before .before .before .before .before .summary-of .ensures)) _ (k .rated);
+        message-long = k .long;
+        report-long = k .whole-report;
+      },
+      c .before .before .before .before .before .summary-of .ensures,
+    )
 
 same-length : tie.Need-same-length
 same-length c = search needs
@@ -61,11 +66,11 @@ same-length-2 c = search needs
 
 returns-4 : tie.Need-returns-4
 returns-4 c =
-    let past = c .before .before .before .before .before .before .before .before .before .before .before .before in
+    let past = c .before .before .before .before .before .before .before .before .before .before .before .before .before in
     let k = passed _ _ _ _ _ (past .before .before .before .checks .ensures) (omega arith) in
     below-answers _ _ _ (omega arith)
-    (c .before .before .before .before .before .before .before .before .before .before .before .table-from .ensures)
-    (c .before .before .before .before .before .before .before .before .before .doubtful-below .ensures) _ (k .rated) (omega arith) _ _ (k .whole) (k .long)
+    (c .before .before .before .before .before .before .before .before .before .before .before .before .table-from .ensures)
+    (c .before .before .before .before .before .before .before .before .before .doubtful-below-by .ensures _ (c .before .before .before .before .before .before .before .before .before .before .summary-of .ensures)) _ (k .rated) (omega arith) _ _ (k .whole) (k .long)
     (k .whole-report) (c .before .before .before .before .decode .ensures)
 
 pub decode-table-below-spec : {M : Type 1} → statement M
@@ -77,8 +82,9 @@ decode-table-below-spec =
     returns-2
     returns-3
     table-from-requires
-    slice-aggregate-doubtful-below
-    doubtful-below-requires
+    slice-aggregate-summary-of
+    summary-of-requires
+    doubtful-below-by-requires
     slice-aggregate-decode
     decode-requires
     same-length

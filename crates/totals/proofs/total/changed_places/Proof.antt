@@ -1,5 +1,5 @@
 -- The flags of the places passed are stored, the rest is as it was.
-use mathlib.Core.Path.{_≡_, ap, _∙_}
+use mathlib.Core.Path.{_≡_, _∙_}
 use mathlib.Core.List.{_++_}
 use Prim.Native.Nat.{_≤_, _-_}
 use native.Mathlib.Omega.{arith}
@@ -7,20 +7,28 @@ use lib.ListN.{drop}
 use borrow.Author.Needs.{needs}
 use Rattle.lists.specs.Count.{bit}
 use Rattle.lists.specs.Listed.{listed, listed-start, listed-store, listed-end}
-use Rattle.soft.specs.Column.{columnOf}
-use Rattle.soft.specs.Total.{changedAt, changedFlags}
+use Rattle.totals.specs.Changed.{changedIn, changed-flag, changed-listed}
 use Rattle.totals.proofs.total.changed_places.Statement.{statement}
 use Rattle.totals.proofs.total.changed_places.Tie as tie
 
 abbrev Inv-loop : tie.InvT-loop
-Inv-loop costs word out₀ place₀ out place =
-    (place ≤ 64) × (out ≡ listed place (λ p. bit (changedAt (columnOf 16 costs) word p)) ++ drop place out₀)
+Inv-loop word best counts out₀ place₀ out place =
+    (place ≤ 64) × (out ≡ listed place (λ p. bit (changedIn word best counts p)) ++ drop place out₀)
 
 abbrev μ-loop : tie.MeasureT-loop
-μ-loop costs word out₀ place₀ out place = 64 - place
+μ-loop word best counts out₀ place₀ out place = 64 - place
 
 loop-holds : tie.Need-loop-holds Inv-loop μ-loop
 loop-holds c = (omega arith, listed-start _ _)
+
+byte-at-requires : tie.Need-byte-at-requires Inv-loop μ-loop
+byte-at-requires c κs = search needs
+
+array-read-is-changed : tie.Need-array-read-is-changed Inv-loop μ-loop
+array-read-is-changed c = search needs
+
+array-read-is-changed-2 : tie.Need-array-read-is-changed-2 Inv-loop μ-loop
+array-read-is-changed-2 c = search needs
 
 is-changed-requires : tie.Need-is-changed-requires Inv-loop μ-loop
 is-changed-requires c κs = search needs
@@ -43,14 +51,15 @@ loop-less c = search needs
 loop-again : tie.Need-loop-again Inv-loop μ-loop
 loop-again c = (
   omega arith,
-  listed-store 0 _ _ _ _ _ (omega arith) (c .bit .ensures .0 ∙ ap bit (c .before .is-changed .ensures)) (c .before .before .before .loop .inv .1),
+  listed-store 0 _ _ _ _ _ (omega arith)
+      (changed-flag _ _ _ _ (c .before .before .byte-at .ensures) (c .before .is-changed .ensures) (c .bit .ensures .0))
+      (c .before .before .before .before .loop .inv .1),
 )
 
 returns : tie.Need-returns Inv-loop μ-loop
-unfolding changedFlags
 returns c =
     let e : c .before .loop .place ≡ 64 = omega arith in
-    rw e at (listed-end _ _ _ _ (omega arith) (c .before .loop .inv .1))
+    λ columns b f. rw e at (listed-end _ _ _ _ (omega arith) (c .before .loop .inv .1)) ∙ changed-listed 64 columns _ b f
 
 pub changed-places-spec : {M : Type 1} → statement M
 changed-places-spec =
@@ -59,6 +68,9 @@ changed-places-spec =
     Inv-loop
     μ-loop
     loop-holds
+    byte-at-requires
+    array-read-is-changed
+    array-read-is-changed-2
     is-changed-requires
     bit-requires
     cast-out
