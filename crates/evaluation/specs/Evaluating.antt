@@ -1,21 +1,17 @@
 -- Values of functions at GF(16) with w = 4, on arrays of four planes.
 --
 --   XPowers t             the constant table: entry q holds at place p the power of its x in the monomial of order 4q + p % 4
---   broadOf j a           what is done to each plane: lane j of each four at all of them
---   Broad a j r           r holds at each lane lane j of its four
 --   PowerSums, FibreValues    the family's, at this member
 --   Evaluated f h         whatever function's coefficients f holds by order, h holds its values by place
 use mathlib.Core.Path.{_≡_}
 use mathlib.Core.List.{List, []}
-use Prim.Native.Nat.{ℕ, _+_, _*_, _/_, _%_, _^_, _<_}
-use lib.Bits.{bitAnd, bitXor}
+use Prim.Native.Nat.{ℕ, _+_, _*_, _%_, _<_}
 use lib.ListN.{getD}
 use Rattle.galois.specs.Field16.{GF, toF}
 use Rattle.family.specs.Curve.{xOf}
 use Rattle.family.specs.Member.{m16, places, symbols}
 use Rattle.family.specs.Evaluation.{valueOf}
-use Rattle.planes.specs.Arrays.{planesIn, elementAt, Carries, symbolsOf}
-use Rattle.coefficients.specs.Reading.{marks}
+use Rattle.planes.specs.Arrays.{planesIn, Carries, symbolsOf}
 use Rattle.evaluation.specs.Values as Values
 
 abbrev pub xPowerAt : ℕ → ℕ → GF
@@ -23,19 +19,6 @@ xPowerAt q p = toF (Values.xPowerAt m16 (q * m16 .w + p % m16 .w) (xOf (m16 .w) 
 
 pub record XPowers (t : List (List ℕ)) : Type 0 where
   pub entries : (q : ℕ) → q < symbols m16 → Carries (xPowerAt q) (getD t q [])
-
--- the lanes that are kept, and moved up by 1, 2 and 3
-abbrev pub firstOf : ℕ → ℕ → ℕ
-firstOf j a = bitAnd (a / 2 ^ j) marks
-
-abbrev pub upOf : ℕ → ℕ → ℕ
-upOf k a = a * 2 ^ k % 2 ^ places m16
-
-abbrev pub broadOf : ℕ → ℕ → ℕ
-broadOf j a = bitXor (bitXor (bitXor (firstOf j a) (upOf 1 (firstOf j a))) (upOf 2 (firstOf j a))) (upOf 3 (firstOf j a))
-
-pub record Broad (a : List ℕ) (j : ℕ) (r : List ℕ) : Type 0 where
-  pub lanes : (p : ℕ) → p < places m16 → elementAt r p ≡ elementAt a (xOf (m16 .w) p * m16 .w + j)
 
 abbrev pub PowerSums : List ℕ → List ℕ → Type 0
 PowerSums a b = Values.PowerSums m16 (planesIn a) (planesIn b)

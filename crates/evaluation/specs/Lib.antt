@@ -1,2 +1,3 @@
 pub mod Values
+pub mod Broad
 pub mod Evaluating

@@ -5,7 +5,7 @@
 --   monomialAt p o       the monomial of order o at place p, and 0 for a missing order
 --   rank-places          n − g orders below n, the number of places, are present;
 --   order-below          so the orders of n − g message symbols are below n
---   valueBy f m          the sum of coefficient times monomial over the orders: an element (valueBy-below), either of both first (valueBy-comm)
+--   valueBy f m          the sum of coefficient times monomial over the orders: an element (valueBy-below)
 --   valueOf f p          so the value at place p of the function with coefficients f
 --   coefficientOf m o    the coefficient of order o in the function of message m: symbol t at the t-th present order
 --   coefficient-present, coefficient-missing   that of a present order, and of a missing one
@@ -29,7 +29,7 @@ use Rattle.lists.specs.Listed.{listed, listed-length, listed-at, listed-ext, li
 use Rattle.lists.specs.Every.{T-true}
 use Rattle.lists.specs.Over.{over, over-same}
 use Rattle.lists.specs.Words.{allBelow, allBelow-from}
-use Rattle.lists.specs.XorSum.{xorSum, xorSum-nil, xorSum-ext, xorSum-more, xorSum-below}
+use Rattle.lists.specs.XorSum.{xorSum, xorSum-nil, xorSum-more, xorSum-below}
 use Rattle.algebra.specs.Field.{Field, zero-mul}
 use Rattle.algebra.specs.Sum.{sum, sum-ext}
 use Rattle.galois.specs.BinaryField.{GF, K, size, times, times-comm, times-zero, times-lt, toF, toF-times, toF-zero, toF-injective, toF-xorSum}
@@ -93,10 +93,6 @@ module _ (𝓜 : Member) where
   pub valueBy-below : (f m : List ℕ) → valueBy f m < size gf
   unfolding valueBy valueTerm
   valueBy-below f m = xorSum-below (gf .bits) (places 𝓜) _ (λ o l. times-lt gf _ _)
-
-  pub valueBy-comm : (f m : List ℕ) → valueBy f m ≡ valueBy m f
-  unfolding valueBy valueTerm
-  valueBy-comm f m = xorSum-ext (places 𝓜) _ _ (λ o l. times-comm gf _ _)
 
   value-below : (k : ℕ) (m : List ℕ) (p : ℕ) → valueAt 𝓜 k m p < size gf
   unfolding valueAt term

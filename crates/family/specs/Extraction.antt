@@ -5,8 +5,6 @@
 --   symbolOf v i j     the coefficient of x^i y^j in the function whose values are v, read off four moments
 --   extractedAt v o    the coefficient of order o
 --   messageAt v t      message symbol t so read, and extractOf k v the first k of them
---   momentRow v b      the moments with y^b by the power of x; momentsOf v for each b below w
---   momentSymbol ms i j    the same coefficient from a table of moments; symbol-in: it is so from the word's own
 --   powersAt a b p, dualAt i j p    x^a y^b and the dual of x^i y^j at a place; dual-powers: their products sum to 1 where both agree, and to 0
 --   toF-symbolOf       a coefficient so read is the sum of the values times its dual
 --   extract-word       they are symbols: a word of k elements
@@ -14,7 +12,7 @@
 --   extract-encode     what was encoded is read again (k up to n − g, where no power of x is above q − 1)
 use mathlib.Core.Path.{_≡_, sym, ap, ap₂, _∙_, subst}
 use mathlib.Core.Logic.{_≢_}
-use mathlib.Core.List.{List, []}
+use mathlib.Core.List.{List}
 use Prim.Native.Nat.{ℕ, zero, suc, _+_, _-_, _*_, _%_, _<_, _≤_}
 use native.Mathlib.Decide.{ℕ-discrete}
 use native.Mathlib.Omega.{arith}
@@ -73,35 +71,6 @@ module _ (𝓜 : Member) where
 
   unfoldable pub extractOf : ℕ → List ℕ → List ℕ
   extractOf k v = listed k (messageAt v)
-
-  -- the moments with y^b, of the first n values of x
-  unfoldable pub momentUpTo : List ℕ → ℕ → ℕ → ℕ → ℕ
-  momentUpTo v b n a = xorSum n (momentTerm v a b)
-
-  unfoldable pub momentRow : List ℕ → ℕ → List ℕ
-  momentRow v b = listed (size gf) (momentUpTo v b (size gf))
-
-  unfoldable pub momentsOf : List ℕ → List (List ℕ)
-  momentsOf v = listed w (momentRow v)
-
-  unfoldable pub momentSymbol : List (List ℕ) → ℕ → ℕ → ℕ
-  momentSymbol ms i j =
-      bitXor (getD (getD ms (w - 1 - j) []) (size gf - 1 - i) 0)
-      (bitXor (atZero i (getD (getD ms (w - 1 - j) []) 0 0))
-      (atZero j (bitXor (getD (getD ms 0 []) (size gf - 1 - i) 0) (atZero i (getD (getD ms 0 []) 0 0)))))
-
-  moment-in : (v : List ℕ) (a b : ℕ) → a < size gf → b < w → getD (getD (momentsOf v) b []) a 0 ≡ moment v a b
-  unfolding momentsOf momentRow momentUpTo moment
-  moment-in v a b h l =
-      ap (λ r. getD r a 0) (listed-at w b (momentRow v) [] l) ∙ listed-at (size gf) a (momentUpTo v b (size gf)) 0 h
-
-  pub symbol-in : (v : List ℕ) (i j : ℕ) → momentSymbol (momentsOf v) i j ≡ symbolOf v i j
-  unfolding momentSymbol symbolOf
-  symbol-in v i j =
-      ap₂ bitXor (moment-in v (size gf - 1 - i) (w - 1 - j) (omega (arith, one-lt gf)) (omega arith))
-      (ap₂ bitXor (ap (atZero i) (moment-in v 0 (w - 1 - j) (omega (arith, one-lt gf)) (omega arith)))
-      (ap (atZero j)
-      (ap₂ bitXor (moment-in v (size gf - 1 - i) 0 (omega (arith, one-lt gf)) (omega arith)) (ap (atZero i) (moment-in v 0 0 (omega (arith, one-lt gf)) (omega arith))))))
 
   -- ---- a monomial times the dual of another, summed over all places
   -- the dual of x^i y^j at a place

@@ -1,5 +1,5 @@
 -- `broad` meets its contract: each plane with lane j of each four at all of them.
-use Rattle.evaluation.proofs.Broadened.{broad-by}
+use Rattle.evaluation.specs.Broad.{broad-by}
 use borrow.Author.Needs.{needs}
 use Rattle.evaluation.proofs.value.broad.Statement.{statement}
 use Rattle.evaluation.proofs.value.broad.Tie as tie
