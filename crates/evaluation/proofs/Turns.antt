@@ -3,7 +3,6 @@ use mathlib.Core.Path.{_≡_, sym, ap, ap₂, _∙_, subst}
 use mathlib.Core.List.{List, [], _∷_}
 use Prim.Native.Nat.{ℕ, suc, _+_, _*_, _%_, _<_}
 use native.Mathlib.Omega.{arith}
-use lib.ListN.{getD}
 use Rattle.lists.specs.Listed.{listed, listed-ext}
 use Rattle.algebra.specs.Field.{Field, add-comm, zero-add, mul-one, mul-assoc}
 use Rattle.algebra.specs.Sum.{sum, sum-nil, sum-suc, sum-ext, sum-append, sum-scale-right}

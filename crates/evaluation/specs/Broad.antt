@@ -5,13 +5,13 @@
 --   broad-by        so it does if each of its planes is so made
 use mathlib.Core.Path.{_≡_, sym, ap, ap₂, _∙_}
 use mathlib.Core.List.{List, [], _∷_}
-use Prim.Native.Nat.{ℕ, suc, _+_, _*_, _/_, _%_, _^_, _<_}
+use Prim.Native.Nat.{ℕ, _+_, _*_, _/_, _%_, _^_, _<_}
 use native.Mathlib.Omega.{arith}
 use lib.Bits.{bitAnd, bitXor}
 use lib.Dec.{lit<}
 use lib.ListN.{getD}
 use Rattle.algebra.specs.Field.{Field, zero-mul, one-mul, zero-add}
-use Rattle.algebra.specs.Sum.{sum, sum-nil, sum-suc, sum-single}
+use Rattle.algebra.specs.Sum.{sum-nil, sum-suc, sum-single}
 use Rattle.algebra.specs.Coefficients.{unit, unit-at, unit-off}
 use Rattle.galois.specs.Gf16.{gf16}
 use Rattle.galois.specs.Field16.{GF, K16}

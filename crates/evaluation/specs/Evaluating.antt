@@ -3,13 +3,12 @@
 --   XPowers t             the constant table: entry q holds at place p the power of its x in the monomial of order 4q + p % 4
 --   PowerSums, FibreValues    the family's, at this member
 --   Evaluated f h         whatever function's coefficients f holds by order, h holds its values by place
-use mathlib.Core.Path.{_≡_}
 use mathlib.Core.List.{List, []}
 use Prim.Native.Nat.{ℕ, _+_, _*_, _%_, _<_}
 use lib.ListN.{getD}
 use Rattle.galois.specs.Field16.{GF, toF}
 use Rattle.family.specs.Curve.{xOf}
-use Rattle.family.specs.Member.{m16, places, symbols}
+use Rattle.family.specs.Member.{m16, symbols}
 use Rattle.family.specs.Evaluation.{valueOf}
 use Rattle.planes.specs.Arrays.{planesIn, Carries, symbolsOf}
 use Rattle.evaluation.specs.Values as Values

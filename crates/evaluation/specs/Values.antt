@@ -8,11 +8,9 @@
 use mathlib.Core.Path.{_≡_, sym, ap, ap₂, _∙_}
 use mathlib.Core.List.{List}
 use Prim.Native.Nat.{ℕ, _+_, _*_, _%_, _<_}
-use native.Mathlib.Nat.{mod-lt}
-use native.Mathlib.Omega.{arith}
 use lib.ListN.{getD}
 use Rattle.lists.specs.Listed.{listed, listed-at}
-use Rattle.algebra.specs.Field.{Field, mul-zero, zero-mul, mul-assoc}
+use Rattle.algebra.specs.Field.{Field, zero-mul, mul-assoc}
 use Rattle.algebra.specs.Sum.{sum, sum-ext, sum-scale-right, sum-swap, sum-blocks}
 use Rattle.algebra.specs.Power.{pow}
 use Rattle.galois.specs.BinaryField.{K, size, power, toF, toF-zero, toF-times, toF-power, toF-xorSum}
@@ -20,9 +18,9 @@ use Rattle.hermitian.specs.Present.{Present, decPresent}
 use Rattle.hermitian.specs.Orders.{xPower, isPresent}
 use Rattle.hermitian.specs.Value as Value
 use Rattle.family.specs.Curve.{xOf}
-use Rattle.family.specs.Member.{Member, places, px, py}
+use Rattle.family.specs.Member.{Member, places, py}
 use Rattle.family.specs.Points.{x-below, place-of, place-below}
-use Rattle.family.specs.Encoding.{monomial, toF-monomial}
+use Rattle.family.specs.Encoding.{toF-monomial}
 use Rattle.family.specs.Evaluation.{ifPresent, present-yes, present-no, monomialAt, valueBy, valueTerm, valueOf}
 use Rattle.planes.specs.Lanes.{Planes}
 use Rattle.planes.specs.Elements.{element}

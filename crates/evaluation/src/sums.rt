@@ -1,5 +1,4 @@
 // The sum over the powers of x in a function, for each power of y and each x.
-ghost use mathlib.Core.Path.{_≡_};
 ghost use Rattle.evaluation.specs.Evaluating.{PowerSums};
 use crate::powers::x_powers;
 use coefficients::orders::entry;

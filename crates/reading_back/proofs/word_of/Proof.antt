@@ -1,5 +1,5 @@
 -- `word_of` meets its contract: a copy of 64 bytes into 64 leaves nothing of what stood there.
-use mathlib.Core.Path.{_≡_, refl, sym, _∙_}
+use mathlib.Core.Path.{sym, _∙_}
 use Rattle.lists.specs.Over.{over-same}
 use borrow.Author.Needs.{needs}
 use Rattle.reading_back.proofs.word_of.Statement.{statement}
