@@ -2,11 +2,12 @@
 // asked of it later, as of any codeword that is known. It knows of no costs.
 ghost use mathlib.Core.Path.{_≡_};
 ghost use Prim.Native.Nat.{_<_};
+ghost use Rattle.lists.specs.XorSum.{xorSum};
 ghost use Rattle.galois.specs.Field16.{value};
-ghost use Rattle.family.specs.Member.{m16};
+ghost use Rattle.family.specs.Member.{m16, places};
 ghost use Rattle.planes.specs.Arrays.{elementAt};
 ghost use Rattle.candidate.specs.Ranged.{Ranged};
-ghost use Rattle.chase.specs.Guess.{overall, foldedOf, PlaceAt, WrongPlace, KnownFirst};
+ghost use Rattle.chase.specs.Guess.{overall, foldedOf, symbolIn, withBit, SumsOf, PlaceAt, WrongPlace, KnownFirst};
 use answers::Answer;
 use answers::Found;
 use answers::none_near;
@@ -17,11 +18,8 @@ use curve::y_at;
 use galois::inverse;
 use galois::product;
 use planes::Planes;
-use planes::constants::single;
-use planes::constants::xs;
 use planes::constants::ys;
 use planes::lanes::at;
-use planes::lanes::sum;
 use planes::lanes::times;
 use planes::words::planes;
 
@@ -51,6 +49,54 @@ fn all_of(a: Planes) -> u8
     at([one, two, four, eight], 0)
 }
 
+// The sum of the symbols at the places whose number has a bit.
+fn sum_with(word: Word, bit: usize) -> u8
+    requires { ⌜ bit < 6 ⌝ }
+    ensures { λ r. ⌜ r ≡ xorSum (places m16) (withBit word bit) ⌝ }
+{
+    let mut out = 0u8;
+    let mut place = 0;
+    while place < PLACES {
+        out ^= word[place] % 16 * ((place >> bit) % 2) as u8;
+        place += 1;
+    }
+    out
+}
+
+fn sum_of(word: Word) -> u8
+    ensures { λ r. ⌜ r ≡ xorSum (places m16) (symbolIn word) ⌝ }
+{
+    let mut out = 0u8;
+    let mut place = 0;
+    while place < PLACES {
+        out ^= word[place];
+        place += 1;
+    }
+    out
+}
+
+// Sums over all places: of the symbols, of the symbols times x, and of the symbols times the square of x.
+struct Sums {
+    all: u8,
+    across: u8,
+    squares: u8,
+}
+
+// The bits of x are those of the place's number from the third on; the squares of 1, 2, 4 and 8 are 1, 4, 3 and 12.
+fn sums_of(word: Word) -> Sums
+    ensures { λ r. ⌜ SumsOf word r ⌝ }
+{
+    let one = sum_with(word, 2);
+    let two = sum_with(word, 3);
+    let four = sum_with(word, 4);
+    let eight = sum_with(word, 5);
+    Sums {
+        all: sum_of(word) % 16,
+        across: product(1, one) ^ product(2, two) ^ product(4, four) ^ product(8, eight),
+        squares: product(1, one) ^ product(4, two) ^ product(3, four) ^ product(12, eight),
+    }
+}
+
 // The place of a point, or 64 where it is none of the curve.
 fn place_at(x: u8, y: u8) -> usize
     ensures { λ r. ⌜ PlaceAt x y r ⌝ }
@@ -66,30 +112,27 @@ fn place_at(x: u8, y: u8) -> usize
     PLACES
 }
 
-// The place where a change alone has the sums of these values, or 64: a codeword's are zero, so those of a word with one wrong symbol are the
+// The place where a change alone has the sums of the word, or 64: a codeword's are zero, so those of a word with one wrong symbol are the
 // change's. The sum with the square of x tells most words with more of them.
-fn wrong_place(values: Planes, change: u8) -> usize
-    requires { ⌜ (0 < change) × (change < 16) ⌝ }
-    ensures { λ r. ⌜ WrongPlace values change r ⌝ }
+fn wrong_place(word: Word, told: Sums) -> usize
+    requires { ⌜ SumsOf word told × (0 < told .all) ⌝ }
+    ensures { λ r. ⌜ WrongPlace word (told .all) r ⌝ }
 {
-    let scale = inverse(change);
-    let points = xs();
-    let by_x = times(values, points);
-    let x = product(all_of(by_x), scale);
-    let square = all_of(times(by_x, points));
-    if product(change, product(x, x)) != square {
+    let scale = inverse(told.all);
+    let x = product(told.across, scale);
+    if product(told.all, product(x, x)) != told.squares {
         return PLACES;
     }
-    let y = product(all_of(times(values, ys())), scale);
+    let y = product(all_of(times(planes(word), ys())), scale);
     place_at(x, y)
 }
 
-// The codeword that values show, known and not yet asked.
-fn known_of(values: Planes, k: usize) -> Found
+// The codeword that a word shows, known and not yet asked.
+fn known_of(word: Word, k: usize) -> Found
     requires { ⌜ Ranged k ⌝ }
     ensures { λ r. ⌜ KnownFirst k r ⌝ }
 {
-    let held = shown(values, k);
+    let held = shown(planes(word), k);
     let message = held.message;
     let codeword = held.codeword;
     Found {
@@ -100,19 +143,34 @@ fn known_of(values: Planes, k: usize) -> Found
     }
 }
 
-// The sum of all symbols is asked first: a codeword's is zero, and one wrong symbol's is the change. Where neither helps, the zero word is known.
+// The word with one wrong symbol mended.
+fn mended(word: Word, told: Sums, k: usize) -> Found
+    requires { ⌜ Ranged k × SumsOf word told × (0 < told .all) ⌝ }
+    ensures { λ r. ⌜ KnownFirst k r ⌝ }
+{
+    let place = wrong_place(word, told);
+    if PLACES <= place {
+        return none_near();
+    }
+    let mut out = word;
+    out[place] ^= told.all;
+    known_of(out, k)
+}
+
+// The sums of a codeword are zero. Where the word is neither one nor one but for a symbol, by these sums, the zero word is known.
 pub fn first_known(word: Word, k: usize) -> Found
     requires { ⌜ Ranged k ⌝ }
     ensures { λ r. ⌜ KnownFirst k r ⌝ }
 {
-    let values = planes(word);
-    let change = all_of(values);
-    if change == 0 {
-        return known_of(values, k);
+    let told = sums_of(word);
+    if told.all != 0 {
+        return mended(word, told, k);
     }
-    let place = wrong_place(values, change);
-    if PLACES <= place {
+    if told.across != 0 {
         return none_near();
     }
-    known_of(sum(values, single(place, change)), k)
+    if told.squares != 0 {
+        return none_near();
+    }
+    known_of(word, k)
 }

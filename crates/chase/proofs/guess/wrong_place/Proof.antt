@@ -9,23 +9,8 @@ use Rattle.chase.proofs.guess.wrong_place.Tie as tie
 inverse-requires : tie.Need-inverse-requires
 inverse-requires c κs = search needs
 
-xs-requires : tie.Need-xs-requires
-xs-requires c κs = search needs
-
-times-requires : tie.Need-times-requires
-times-requires c κs = search needs
-
-all-of-requires : tie.Need-all-of-requires
-all-of-requires c κs = search needs
-
 product-requires : tie.Need-product-requires
 product-requires c κs = search needs
-
-times-requires-2 : tie.Need-times-requires-2
-times-requires-2 c κs = search needs
-
-all-of-requires-2 : tie.Need-all-of-requires-2
-all-of-requires-2 c κs = search needs
 
 product-requires-2 : tie.Need-product-requires-2
 product-requires-2 c κs = search needs
@@ -35,18 +20,20 @@ product-requires-3 c κs = search needs
 
 returns : tie.Need-returns
 returns c =
-    wrong-nowhere _ _ _ _ (c .before .before .before .before .before .before .before .before .xs .ensures) (c .before .before .before .before .before .before .before .times .ensures) (c .before .before .before .before .times2 .ensures) _ _ _ _ _
-    (c .before .before .before .before .before .before .before .before .before .before .pre .0) (c .before .before .before .before .before .before .before .before .before .before .pre .1) (c .before .before .before .before .before .before .before .before .before .inverse .ensures) (c .before .before .before .before .before .before .all-of .ensures) (c .before .before .before .before .before .product .ensures) (c .before .before .before .all-of2 .ensures)
-    (λ e. c .if1 .taken (c .before .product3 .ensures ∙ ap (times _) (c .before .before .product2 .ensures) ∙ e))
+    wrong-nowhere _ _ (c .before .before .before .before .before .before .pre .0) (c .before .before .before .before .before .before .pre .1) _ _ (c .before .before .before .before .before .inverse .ensures) (c .before .before .before .before .product .ensures)
+    (λ e. c .if1 .taken (c .before .before .product3 .ensures ∙ ap (times _) (c .before .before .before .product2 .ensures) ∙ e))
+
+planes-requires : tie.Need-planes-requires
+planes-requires c κs = search needs
 
 ys-requires : tie.Need-ys-requires
 ys-requires c κs = search needs
 
-times-requires-3 : tie.Need-times-requires-3
-times-requires-3 c κs = search needs
+times-requires : tie.Need-times-requires
+times-requires c κs = search needs
 
-all-of-requires-3 : tie.Need-all-of-requires-3
-all-of-requires-3 c κs = search needs
+all-of-requires : tie.Need-all-of-requires
+all-of-requires c κs = search needs
 
 product-requires-4 : tie.Need-product-requires-4
 product-requires-4 c κs = search needs
@@ -56,28 +43,23 @@ place-at-requires c κs = search needs
 
 returns-2 : tie.Need-returns-2
 returns-2 c =
-    wrong-at _ _ _ _ (c .before .before .before .before .before .before .before .before .before .before .before .before .before .xs .ensures) (c .before .before .before .before .before .before .before .before .before .before .before .before .times .ensures) (c .before .before .before .before .before .before .before .before .before .times2 .ensures) _ _ _ _ _
-    (c .before .before .before .before .before .before .before .before .before .before .before .before .before .before .before .pre .0) (c .before .before .before .before .before .before .before .before .before .before .before .before .before .before .before .pre .1) (c .before .before .before .before .before .before .before .before .before .before .before .before .before .before .inverse .ensures) (c .before .before .before .before .before .before .before .before .before .before .before .all-of .ensures) (c .before .before .before .before .before .before .before .before .before .before .product .ensures) (c .before .before .before .before .before .before .before .before .all-of2 .ensures)
-    _ _ _ _ (sym (c .before .before .before .before .before .before .product3 .ensures ∙ ap (times _) (c .before .before .before .before .before .before .before .product2 .ensures)) ∙ c .before .before .before .before .before .if1 .left) (c .before .before .before .before .ys .ensures) (c .before .before .before .times3 .ensures)
-    (c .before .before .all-of3 .ensures) (c .before .product4 .ensures) (c .place-at .ensures)
+    wrong-at _ _ (c .before .before .before .before .before .before .before .before .before .before .before .before .pre .0) (c .before .before .before .before .before .before .before .before .before .before .before .before .pre .1) _ _ (c .before .before .before .before .before .before .before .before .before .before .before .inverse .ensures) (c .before .before .before .before .before .before .before .before .before .before .product .ensures)
+    _ _ _ _ _ (sym (c .before .before .before .before .before .before .before .before .product3 .ensures ∙ ap (times _) (c .before .before .before .before .before .before .before .before .before .product2 .ensures)) ∙ c .before .before .before .before .before .before .if1 .left) (c .before .before .before .before .before .planes .ensures) (c .before .before .before .before .ys .ensures)
+    (c .before .before .before .times .ensures) (c .before .before .all-of .ensures) (c .before .product4 .ensures) (c .place-at .ensures)
 
 pub wrong-place-spec : {M : Type 1} → statement M
 wrong-place-spec =
     tie.close
     (tie.spec
     inverse-requires
-    xs-requires
-    times-requires
-    all-of-requires
     product-requires
-    times-requires-2
-    all-of-requires-2
     product-requires-2
     product-requires-3
     returns
+    planes-requires
     ys-requires
-    times-requires-3
-    all-of-requires-3
+    times-requires
+    all-of-requires
     product-requires-4
     place-at-requires
     returns-2)
