@@ -1,4 +1,3 @@
 pub mod Settling
 pub mod Asking
 pub mod Doubling
-pub mod Guessing

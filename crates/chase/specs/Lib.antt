@@ -1,4 +1,3 @@
 pub mod Places
 pub mod Call
 pub mod Laws
-pub mod Guess

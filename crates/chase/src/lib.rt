@@ -1,7 +1,5 @@
-// The search for the nearest codeword as one call: what may be asked, the settled places' basis, and the tree from there. Blank places are
-// neither settled nor doubled. It knows of no session and no buffers.
-mod guess;
-
+// The search for the nearest codeword as one call: what may be asked, a codeword that is guessed, the settled places' basis, and the tree from
+// there. Blank places are neither settled nor doubled. It knows of no session and no buffers, and not how the guess is made.
 ghost use mathlib.Core.Path.{_≡_};
 ghost use Prim.Native.Nat.{_≤_};
 ghost use lib.ListN.{take};
@@ -13,7 +11,6 @@ ghost use Rattle.doubt.specs.Picked.{PickedOf};
 ghost use Rattle.near.specs.Here.{Places};
 ghost use Rattle.chase.specs.Places.{arePlaces, Flagged};
 ghost use Rattle.chase.specs.Call.{wellFormed, nearestOf};
-use crate::guess::first_known;
 use answers::Found;
 use answers::none_near;
 use answers::told;
@@ -31,6 +28,7 @@ use doubt::with_place;
 use encoding::LEAST_RATE;
 use encoding::MOST_RATE;
 use encoding::known_rate;
+use guess::first_known;
 use interpolation::settle::settle;
 use known::Undecided;
 use known::below;
@@ -121,7 +119,7 @@ fn well_formed(rate: usize, costs: &[u16], doubtful: [u8; MOST_DOUBT], doubt: us
 }
 
 // The answer by a table of costs, a summary of its columns and a list of doubtful places. Arguments that no session has, find nothing, and so do
-// too many blank places. The ranges of the rate and of the doubt follow from `well_formed`; they stand first so that the compiler knows them in all
+// too many blank places. Where a guessed codeword governs the root of the tree, its test words are only counted. The ranges of the rate and of the doubt follow from `well_formed`; they stand first so that the compiler knows them in all
 // that the search does.
 pub fn nearest_by(
     rate: usize,

@@ -3,11 +3,11 @@ use mathlib.Core.Path.{_≡_, sym, ap, _∙_}
 use Prim.Native.Nat.{_≤_, _-_}
 use native.Mathlib.Omega.{arith}
 use Rattle.lists.specs.XorSum.{xorSum, xorSum-nil}
-use Rattle.chase.specs.Guess.{symbolIn}
-use Rattle.chase.proofs.Guessing.{symbols-turn}
+use Rattle.guess.specs.Guess.{symbolIn}
+use Rattle.guess.proofs.Guessing.{symbols-turn}
 use borrow.Author.Needs.{needs}
-use Rattle.chase.proofs.guess.sum_of.Statement.{statement}
-use Rattle.chase.proofs.guess.sum_of.Tie as tie
+use Rattle.guess.proofs.sum_of.Statement.{statement}
+use Rattle.guess.proofs.sum_of.Tie as tie
 
 abbrev Inv-loop : tie.InvT-loop
 Inv-loop word out₀ place₀ out place = (place ≤ 64) × (out ≡ xorSum place (symbolIn word))

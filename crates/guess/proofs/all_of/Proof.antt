@@ -1,8 +1,8 @@
 -- The first lane of the planes folded six times.
-use Rattle.chase.proofs.Guessing.{all-by}
+use Rattle.guess.proofs.Guessing.{all-by}
 use borrow.Author.Needs.{needs}
-use Rattle.chase.proofs.guess.all_of.Statement.{statement}
-use Rattle.chase.proofs.guess.all_of.Tie as tie
+use Rattle.guess.proofs.all_of.Statement.{statement}
+use Rattle.guess.proofs.all_of.Tie as tie
 
 array-read-folded : tie.Need-array-read-folded
 array-read-folded c = search needs

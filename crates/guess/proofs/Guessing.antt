@@ -34,8 +34,8 @@ use Rattle.candidate.specs.declared.Candidate.{Candidate}
 use Rattle.candidate.specs.Candidate.{ShownOf}
 use Rattle.answers.specs.Result.{nothingFound}
 use Rattle.code.specs.Encoding.{mostRate}
-use Rattle.chase.specs.Guess.{overall, AloneAt, foldedOf, symbolIn, withBit, SumsOf, PlaceAt, WrongPlace, KnownFirst}
-use Rattle.chase.specs.declared.guess.Sums.{Sums}
+use Rattle.guess.specs.Guess.{overall, AloneAt, foldedOf, symbolIn, withBit, SumsOf, PlaceAt, WrongPlace, KnownFirst}
+use Rattle.guess.specs.declared.Sums.{Sums}
 open Field K16 using (_⊕_, _⊗_, 𝟘, inv)
 
 -- the symbol at a lane is the number of its element

@@ -7,7 +7,7 @@ ghost use Rattle.galois.specs.Field16.{value};
 ghost use Rattle.family.specs.Member.{m16, places};
 ghost use Rattle.planes.specs.Arrays.{elementAt};
 ghost use Rattle.candidate.specs.Ranged.{Ranged};
-ghost use Rattle.chase.specs.Guess.{overall, foldedOf, symbolIn, withBit, SumsOf, PlaceAt, WrongPlace, KnownFirst};
+ghost use Rattle.guess.specs.Guess.{overall, foldedOf, symbolIn, withBit, SumsOf, PlaceAt, WrongPlace, KnownFirst};
 use answers::Answer;
 use answers::Found;
 use answers::none_near;

@@ -1,9 +1,9 @@
 -- Each sum is that of its multiples by the bits of x.
 use mathlib.Core.Path.{refl}
-use Rattle.chase.proofs.Guessing.{xor-four, sums-made}
+use Rattle.guess.proofs.Guessing.{xor-four, sums-made}
 use borrow.Author.Needs.{needs}
-use Rattle.chase.proofs.guess.sums_of.Statement.{statement}
-use Rattle.chase.proofs.guess.sums_of.Tie as tie
+use Rattle.guess.proofs.sums_of.Statement.{statement}
+use Rattle.guess.proofs.sums_of.Tie as tie
 
 sum-with-requires : tie.Need-sum-with-requires
 sum-with-requires c κs = search needs

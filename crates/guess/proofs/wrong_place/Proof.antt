@@ -1,10 +1,10 @@
 -- A place has the sums exactly if its x, its y and the square of x are those told.
 use mathlib.Core.Path.{sym, ap, _∙_}
 use Rattle.galois.specs.Gf16.{times}
-use Rattle.chase.proofs.Guessing.{wrong-nowhere, wrong-at}
+use Rattle.guess.proofs.Guessing.{wrong-nowhere, wrong-at}
 use borrow.Author.Needs.{needs}
-use Rattle.chase.proofs.guess.wrong_place.Statement.{statement}
-use Rattle.chase.proofs.guess.wrong_place.Tie as tie
+use Rattle.guess.proofs.wrong_place.Statement.{statement}
+use Rattle.guess.proofs.wrong_place.Tie as tie
 
 inverse-requires : tie.Need-inverse-requires
 inverse-requires c κs = search needs

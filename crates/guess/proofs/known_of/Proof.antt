@@ -1,8 +1,8 @@
 -- A codeword that is shown is sound beside 'none near'.
-use Rattle.chase.proofs.Guessing.{known-shown}
+use Rattle.guess.proofs.Guessing.{known-shown}
 use borrow.Author.Needs.{needs}
-use Rattle.chase.proofs.guess.known_of.Statement.{statement}
-use Rattle.chase.proofs.guess.known_of.Tie as tie
+use Rattle.guess.proofs.known_of.Statement.{statement}
+use Rattle.guess.proofs.known_of.Tie as tie
 
 planes-requires : tie.Need-planes-requires
 planes-requires c κs = search needs

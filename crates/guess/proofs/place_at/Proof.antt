@@ -4,11 +4,11 @@ use Prim.Native.Nat.{ℕ, _≤_, _-_, _+_, _*_, _%_, _<_}
 use native.Mathlib.Nat.{mod-eq-of-lt}
 use native.Mathlib.Omega.{arith}
 use Rattle.curve.specs.Curve.{yOf}
-use Rattle.chase.specs.Guess.{PlaceAt}
-use Rattle.chase.proofs.Guessing.{Passed, passed-start, passed-turn, placed-here, placed-nowhere}
+use Rattle.guess.specs.Guess.{PlaceAt}
+use Rattle.guess.proofs.Guessing.{Passed, passed-start, passed-turn, placed-here, placed-nowhere}
 use borrow.Author.Needs.{needs}
-use Rattle.chase.proofs.guess.place_at.Statement.{statement}
-use Rattle.chase.proofs.guess.place_at.Tie as tie
+use Rattle.guess.proofs.place_at.Statement.{statement}
+use Rattle.guess.proofs.place_at.Tie as tie
 
 abbrev Inv-loop : tie.InvT-loop
 Inv-loop x y first r₀ r = (first ≡ x % 16 * 4) × (r ≤ 4) × Passed x y r

@@ -6,11 +6,11 @@ use native.Mathlib.Omega.{arith}
 use lib.Dec.{lit<}
 use lib.ListN.{getD}
 use Rattle.lists.specs.XorSum.{xorSum, xorSum-nil}
-use Rattle.chase.specs.Guess.{withBit}
-use Rattle.chase.proofs.Guessing.{bit-fits, bits-turn}
+use Rattle.guess.specs.Guess.{withBit}
+use Rattle.guess.proofs.Guessing.{bit-fits, bits-turn}
 use borrow.Author.Needs.{needs}
-use Rattle.chase.proofs.guess.sum_with.Statement.{statement}
-use Rattle.chase.proofs.guess.sum_with.Tie as tie
+use Rattle.guess.proofs.sum_with.Statement.{statement}
+use Rattle.guess.proofs.sum_with.Tie as tie
 
 abbrev Inv-loop : tie.InvT-loop
 Inv-loop bit word out₀ place₀ out place = (place ≤ 64) × (out ≡ xorSum place (withBit word bit))

@@ -1,8 +1,8 @@
 -- Whatever is shown is a codeword, and so is the zero word.
-use Rattle.chase.proofs.Guessing.{known-nothing}
+use Rattle.guess.proofs.Guessing.{known-nothing}
 use borrow.Author.Needs.{needs}
-use Rattle.chase.proofs.guess.first_known.Statement.{statement}
-use Rattle.chase.proofs.guess.first_known.Tie as tie
+use Rattle.guess.proofs.first_known.Statement.{statement}
+use Rattle.guess.proofs.first_known.Tie as tie
 
 sums-of-requires : tie.Need-sums-of-requires
 sums-of-requires c κs = search needs

@@ -22,7 +22,7 @@ use Rattle.curve.specs.Curve.{xOf, yOf}
 use Rattle.planes.specs.Arrays.{symbolsOf}
 use Rattle.answers.specs.declared.Found.{Found}
 use Rattle.answers.specs.Answered.{Sound}
-use Rattle.chase.specs.declared.guess.Sums.{Sums}
+use Rattle.guess.specs.declared.Sums.{Sums}
 
 module _ (𝓜 : Member) where
   open Member 𝓜 using (gf)

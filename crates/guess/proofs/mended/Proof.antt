@@ -1,8 +1,8 @@
 -- Whatever the mended word shows is a codeword, and so is the zero word.
-use Rattle.chase.proofs.Guessing.{known-nothing}
+use Rattle.guess.proofs.Guessing.{known-nothing}
 use borrow.Author.Needs.{needs}
-use Rattle.chase.proofs.guess.mended.Statement.{statement}
-use Rattle.chase.proofs.guess.mended.Tie as tie
+use Rattle.guess.proofs.mended.Statement.{statement}
+use Rattle.guess.proofs.mended.Tie as tie
 
 wrong-place-requires : tie.Need-wrong-place-requires
 wrong-place-requires c κs = search needs
