@@ -4,7 +4,7 @@ use mathlib.Core.List.{List}
 use Prim.Native.Nat.{ℕ, _<_}
 use native.Mathlib.Omega.{arith}
 use lib.Dec.{T}
-use lib.ListN.{length, getD, take}
+use lib.ListN.{take}
 use Rattle.lists.specs.Listed.{listed, listed-at, listed-length}
 use Rattle.lists.specs.Padded.{padded}
 use Rattle.lists.specs.Words.{Word, allBelow, allBelow-from}

@@ -61,9 +61,6 @@ module _ (a : List ℕ) where
       ∙ ap value (folded-element ∙ element-folded gf16 6 (planesIn a) 0
       ∙ sum-ext K16 (places m16) _ _ (λ p l. let z : 0 + p ≡ p = omega arith in ap (elementAt a) z))
 
-pub all-lt : (a : List ℕ) (r : ℕ) → r ≡ value (overall m16 (elementAt a)) → r < 16
-all-lt a r e = subst (λ n. n < 16) (sym e) (value-lt (overall m16 (elementAt a)))
-
 -- ---- the place of a point
 -- none of the first r of the four places with an x
 pub record Passed (x y r : ℕ) : Type 0 where

@@ -1,7 +1,6 @@
 -- None of the places passed has the y.
 use mathlib.Core.Path.{_≡_, sym, ap, _∙_, subst}
 use Prim.Native.Nat.{ℕ, _≤_, _-_, _+_, _*_, _%_, _<_}
-use native.Mathlib.Nat.{mod-eq-of-lt}
 use native.Mathlib.Omega.{arith}
 use Rattle.curve.specs.Curve.{yOf}
 use Rattle.guess.specs.Guess.{PlaceAt}
