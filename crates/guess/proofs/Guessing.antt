@@ -22,7 +22,7 @@ use Rattle.galois.specs.Binary as Binary
 use Rattle.family.specs.Member.{m16, places, symbols, px, py}
 use Rattle.family.specs.Points.{x-below, yOf-below}
 use Rattle.curve.specs.Curve.{xOf, yOf}
-use Rattle.planes.specs.Bits.{fromBits}
+use Rattle.packing.specs.Bits.{fromBits}
 use Rattle.planes.specs.Lanes.{lane}
 use Rattle.planes.specs.Elements.{element}
 use Rattle.planes.specs.Arrays.{planesIn, elementAt, symbolAt, symbol-lt, element-symbol, symbolsOf, Carries, productOf, product-element}
