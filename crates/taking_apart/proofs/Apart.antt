@@ -1,6 +1,8 @@
 -- Word by word: the columns of one, its part of the buffer, and what is left at the end.
 use mathlib.Core.Bool.{Bool, true, false, cond}
-use mathlib.Core.Path.{_≡_, refl, sym, ap, ap₂, _∙_, fun-ext}
+use mathlib.Core.Path.{_≡_, refl, sym, ap, ap₂, _∙_, fun-ext, subst}
+use mathlib.Core.Logic.{_≢_}
+use mathlib.Core.Option.{Option, some, none}
 use mathlib.Core.List.{List, [], _++_, append-nil}
 use Prim.Native.Nat.{ℕ, suc, _+_, _-_, _*_, _/_, _%_, _^_, _<_, _≤_}
 use native.Mathlib.Nat.{pow-suc, mul-suc, mul-le-mul-left}
@@ -14,11 +16,21 @@ use lib.Seq.{drop-at, take-all}
 use Rattle.lists.specs.Block.{block}
 use Rattle.lists.specs.Listed.{listed, listed-length, listed-at, listed-ext, listed-by}
 use Rattle.lists.specs.Stored.{stored-part}
-use Rattle.lists.specs.Words.{allBelow}
-use Rattle.refusals.specs.Refusal.{accepted, noneNear}
+use Rattle.lists.specs.Words.{Word, allBelow}
+use Rattle.refusals.specs.Refusal.{accepted, unknownRate, wrongSize, noSymbol, noneNear}
 use Rattle.soft.specs.Column.{places, symbols, costAt, columnOf}
 use Rattle.near.specs.Tree.{places-nil}
+use Rattle.soft.specs.Total.{differing}
+use Rattle.soft.specs.TotalLaws.{differing-self, differing-fewer}
+use Rattle.family.specs.Member.{m16}
+use Rattle.family.specs.Calls as Family
+use Rattle.family.specs.Encoding.{encodeOf, readBackOf}
+use Rattle.family.specs.Evaluation.{encode-length, encode-symbols}
 use Rattle.code.specs.Encoding.{knownRate}
+use Rattle.code.specs.Calls.{readBackCall}
+use Rattle.code.specs.CallLaws.{accepted-codeword}
+use Rattle.book.specs.Engine.{unblankedBy}
+use Rattle.book.specs.EngineLaws.{IsWithin}
 use Rattle.book.specs.Closing.{Closed}
 use Rattle.book.specs.Table.{closed}
 use Rattle.book.specs.Here.{reportLength, decodeOf}
@@ -26,9 +38,9 @@ use Rattle.decoding.specs.Decoding.{Decodable}
 use Rattle.soft.specs.Hard.{hardCost, hardColumn}
 use Rattle.superframe.specs.Superframe.{words, headLength, wordIn, hardColumns, answerAt, noneNearIn, statusOf, messagesOf, Taken, taken, takenOf}
 use Rattle.superframe.specs.Checks.{Headed, apart-fits}
-use Rattle.superframe.specs.Hard.{hard-column, hard-beyond}
+use Rattle.superframe.specs.Hard.{hard-column, hard-beyond, hard-some, within-near}
 use Rattle.taking_apart.specs.declared.Taken as Declared
-use Rattle.taking_apart.specs.Taking.{TakesWord, TakesWords, takenBy}
+use Rattle.taking_apart.specs.Taking.{TakesNear, TakesWord, TakesWords, takenBy}
 use Rattle.superframe.specs.Laws.{part-long, messages-long, status-less}
 
 -- ---- one word
@@ -69,13 +81,68 @@ word-askable doubtful known size long whole =
       report-long = whole;
     }
 
-pub word-taken : (rate : ℕ) (frame : List ℕ) (v : ℕ) (part costs : List ℕ) {word after report : List ℕ} {number : ℕ} → word ≡ wordIn frame v
-    → columnOf symbols costs ≡ hardColumns word → closed number after report ≡ decodeOf rate (columnOf symbols costs) [] part (replicate reportLength 0)
-    → TakesWord rate frame v part number after
-unfolding answerAt
-word-taken rate frame v part costs ew ec e =
-    let is = e ∙ ap (λ (c : ℕ → List ℕ). decodeOf rate c [] part (replicate reportLength 0)) (ec ∙ ap hardColumns ew) in
+pub near-taken : (rate : ℕ) (part costs : List ℕ) {word after report : List ℕ} {number : ℕ} → columnOf symbols costs ≡ hardColumns word
+    → closed number after report ≡ decodeOf rate (columnOf symbols costs) [] part (replicate reportLength 0) → TakesNear rate word part number after
+near-taken rate part costs ec e =
+    let is = e ∙ ap (λ (c : ℕ → List ℕ). decodeOf rate c [] part (replicate reportLength 0)) ec in
     record { answers = ap (λ (c : Closed). c .number) is; leaves = ap (λ (c : Closed). c .message) is }
+
+-- a word that is not read back leaves its part, and is decoded
+read-kept : (rate : ℕ) (word buffer : List ℕ) → readBackCall rate word buffer .number ≢ accepted → readBackCall rate word buffer .buffer ≡ buffer
+unfolding Family.readBackCall
+read-kept rate word buffer =
+    go (knownRate rate) (Family.readBackSizes m16 rate word buffer) (allBelow symbols word) (readBackOf m16 rate word)
+  where
+    go : (a b c : Bool) (o : Option (List ℕ))
+        → Family.checked a unknownRate buffer
+        (Family.checked b wrongSize buffer (Family.checked c noSymbol buffer (Family.found o buffer))) .number ≢ accepted
+        → Family.checked a unknownRate buffer
+        (Family.checked b wrongSize buffer (Family.checked c noSymbol buffer (Family.found o buffer))) .buffer ≡ buffer
+    go false b c o n = refl
+    go true false c o n = refl
+    go true true false o n = refl
+    go true true true none n = refl
+    go true true true (some m) n = absurd (n refl)
+
+module _ {rate : ℕ} {frame : List ℕ} {v : ℕ} {part word back : List ℕ} {number : ℕ} (is : word ≡ wordIn frame v)
+    (read : Family.outcome number back ≡ readBackCall rate word part) where
+  pub word-unread : (number ≡ accepted → ⊥) → {after : List ℕ} {given : ℕ} → TakesNear rate word back given after → TakesWord rate frame v part given after
+  unfolding answerAt
+  word-unread n near =
+      let kept : back ≡ part =
+      ap (λ (o : Family.Answered). o .buffer) read ∙ read-kept rate word part (λ e. n (ap (λ (o : Family.Answered). o .number) read ∙ e)) in
+      let same = ap₂ (λ w b. decodeOf rate (hardColumns w) [] b (replicate reportLength 0)) is kept in
+      record {
+        answers = near .answers ∙ ap (λ (c : Closed). c .number) same;
+        leaves = near .leaves ∙ ap (λ (c : Closed). c .message) same;
+      }
+
+  -- a word that is read back is the codeword of what is left: it is within T of itself
+  pub word-read : knownRate rate ≡ true → number ≡ accepted → TakesWord rate frame v part accepted back
+  unfolding answerAt
+  word-read known n =
+      let a = accepted-codeword rate word part (sym (ap (λ (o : Family.Answered). o .number) read) ∙ n) in
+      let left : readBackCall rate word part .buffer ≡ back = sym (ap (λ (o : Family.Answered). o .buffer) read) in
+      let code : encodeOf m16 rate back ≡ word = ap (encodeOf m16 rate) (sym left) ∙ a .0 in
+      let long : length word ≡ places = ap length (sym code) ∙ encode-length m16 rate back in
+      let small : allBelow symbols word ≡ true = ap (allBelow symbols) (sym code) ∙ encode-symbols m16 rate back in
+      let within : IsWithin rate [] word back =
+      record {
+        message = subst (Word symbols rate) left (a .1);
+        close =
+            omega (
+              arith,
+              differing-fewer (unblankedBy []) places (encodeOf m16 rate back) word,
+              ap (λ w. differing places w word) code,
+              differing-self places word (omega (arith, long)),
+            );
+      } in
+      let d = hard-some word long small rate known part (replicate reportLength 0) (within-near rate word known within) in
+      let same = ap (λ w. decodeOf rate (hardColumns w) [] part (replicate reportLength 0)) is in
+      record {
+        answers = sym (d .0) ∙ ap (λ (c : Closed). c .number) same;
+        leaves = sym (d .1) ∙ ap (λ (c : Closed). c .message) same;
+      }
 
 -- ---- word by word
 pub named-most : (number : ℕ) {weight more : ℕ} → more ≡ cond (eqb number noneNear) weight 0 → more ≤ weight

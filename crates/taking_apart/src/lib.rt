@@ -9,7 +9,7 @@ ghost use Rattle.soft.specs.Column.{places, symbols, columnOf};
 ghost use Rattle.code.specs.Encoding.{knownRate};
 ghost use Rattle.soft.specs.Hard.{hardCost};
 ghost use Rattle.superframe.specs.Superframe.{words, frameLength, wordIn, hardColumns, headOf, takenOf};
-ghost use Rattle.taking_apart.specs.Taking.{TakesWord, TakesWords, takenBy};
+ghost use Rattle.taking_apart.specs.Taking.{TakesNear, TakesWord, TakesWords, takenBy};
 use columns::costs::COSTS;
 use columns::costs::PLACES;
 use columns::costs::SYMBOLS;
@@ -17,6 +17,7 @@ use decoding::decode;
 use doubt::MOST_DOUBT;
 use encoding::known_rate;
 use encoding::symbols_only;
+use reading_back::read_back;
 use refusals::ACCEPTED;
 use refusals::NO_SYMBOL;
 use refusals::NONE_NEAR;
@@ -79,15 +80,28 @@ fn hard_costs(word: Word) -> [u16; COSTS]
     out
 }
 
-// The message of one word into its part, without doubt; or 'none near', and the part as it was.
+// The message of the codeword within T of a word into its part, without doubt; or 'none near', and the part as it was.
+fn take_near(rate: usize, word: Word, part: &mut [u8]) -> u8
+    requires { ⌜ (knownRate rate ≡ true) × (length (now part) ≡ rate) ⌝ }
+    ensures { λ r. ⌜ TakesNear rate word (now (part .entry)) r (now (part .exit)) ⌝ }
+{
+    let costs = hard_costs(word);
+    let summary = summary_of(&costs);
+    let mut report = [0u8; 14];
+    decode(rate, &costs, [0; MOST_DOUBT], 0, part, &mut report, summary)
+}
+
+// The message of one word into its part. A word that arrived as a codeword is its own answer, and is read back.
 fn take_word(rate: usize, frame: &[u8], v: usize, part: &mut [u8]) -> u8
     requires { ⌜ (knownRate rate ≡ true) × (length (now frame) ≡ frameLength) × (v < words) × (length (now part) ≡ rate) ⌝ }
     ensures { λ r. ⌜ TakesWord rate (now (frame .entry)) v (now (part .entry)) r (now (part .exit)) ⌝ }
 {
-    let costs = hard_costs(word_in(frame, v));
-    let summary = summary_of(&costs);
-    let mut report = [0u8; 14];
-    decode(rate, &costs, [0; MOST_DOUBT], 0, part, &mut report, summary)
+    let word = word_in(frame, v);
+    let number = read_back(rate, &word, part);
+    if number == ACCEPTED {
+        return ACCEPTED;
+    }
+    take_near(rate, word, part)
 }
 
 // What a word adds to the status, if it is named.
