@@ -5,7 +5,6 @@
 --   KeyedBy n far least gaps counts keys   the keys of all of them
 --   keyed-by-apart         no two places with a flag of 1 share one
 --   keyed-summary          by a summary of columns they are the keys of the columns' places
-use mathlib.Core.Bool.{true, false}
 use mathlib.Core.Path.{_≡_, sym, ap, ap₂, _∙_}
 use mathlib.Core.List.{List}
 use mathlib.Core.Logic.{_≢_}
@@ -15,10 +14,9 @@ use native.Mathlib.Omega.{arith}
 use lib.ListN.{getD}
 use borrow.Author.Tests.{eqb-true, eqb-false}
 use Rattle.soft.specs.Column.{places, countedGap, doubtGapOf}
-use Rattle.soft.specs.Blank.{openAt, flagAt}
 use Rattle.soft.specs.Doubt.{gapAt}
 use Rattle.soft.specs.DoubtLaws.{key-injective}
-use Rattle.soft.specs.Mark.{bestCost, plainGap}
+use Rattle.soft.specs.Mark.{bestCost}
 use Rattle.summary.specs.declared.Summary.{Summary}
 use Rattle.summary.specs.Summary.{SummaryOf, least-at, gap-at, counts-at, summary-second}
 use Rattle.doubt.specs.Keys.{entryOf, KeyOf, Keyed, Apart}

@@ -9,13 +9,13 @@
 --   product-small          as many times a threshold as there are places fits a sum
 --   few-left               no more gaps are asked for than places are unchanged
 --   marked-clean, marked-none, marked-clear, marked-far, marked-near   the five ends of `mark`
-use mathlib.Core.Bool.{Bool, true, false, not, cond, _&&_, true≢false}
+use mathlib.Core.Bool.{Bool, true, false, not, cond, _&&_}
 use mathlib.Core.Path.{_≡_, refl, sym, ap, ap₂, _∙_, subst}
 use mathlib.Core.List.{List}
 use mathlib.Core.Logic.{_≢_}
 use Prim.Native.Nat.{ℕ, suc, _+_, _-_, _*_, _<_, _≤_}
 use native.Mathlib.Nat.{mul-le-mul, mul-le-mul-right}
-use native.Mathlib.Decide.{decLt, ℕ-discrete}
+use native.Mathlib.Decide.{decLt}
 use native.Mathlib.Omega.{arith}
 use lib.Dec.{T, eqb, ltb, leb, lt→ltb}
 use lib.ListN.{length, getD}
@@ -25,16 +25,15 @@ use Rattle.lists.specs.Count.{bit, count, count-ext, count-mono, count-split, s
 use Rattle.lists.specs.Distinct.{and-left, and-right}
 use Rattle.lists.specs.Every.{both-intro, both-left, both-right}
 use Rattle.lists.specs.Listed.{listed, listed-at, listed-by}
-use Rattle.soft.specs.Column.{places, symbols, costOf, gapOf}
-use Rattle.soft.specs.ColumnLaws.{best-below, best-least, second-below, second-other, second-best}
+use Rattle.soft.specs.Column.{places, costOf, gapOf}
 use Rattle.soft.specs.Blank.{flagAt}
 use Rattle.soft.specs.Total.{symbolAt, costIn, totalOf, changedAt, changedOf, changedFlags}
 use Rattle.soft.specs.TotalLaws.{changed-flag, changed-flags}
 use Rattle.soft.specs.Doubt.{fewAhead}
 use Rattle.soft.specs.Threshold.{belowOf}
-use Rattle.soft.specs.Mark.{isBelow, sumIn, lowSum, bestCost, bestTotal, plainGap, unchanged, slack, excessIn, isMarked}
+use Rattle.soft.specs.Mark.{isBelow, sumIn, lowSum, bestTotal, plainGap, unchanged, slack, excessIn, isMarked}
 use Rattle.soft.specs.MarkLaws.{sumIn-same, low-count, lowSum-threshold, slack-none, unchanged-count, excess-total, excess-ext}
-use Rattle.marks.specs.Low.{above, GapBy, gapsOf, Gaps, belowBy, sumBelow, Splits, LowSum, clearOf, Markable}
+use Rattle.marks.specs.Low.{above, GapBy, gapsOf, Gaps, belowBy, sumBelow, LowSum, clearOf, Markable}
 
 -- ---- one of the smallest gaps that makes up for an excess
 

@@ -6,11 +6,11 @@ use mathlib.Core.Bool.{Bool, true, false, not}
 use mathlib.Core.Path.{_≡_, refl, sym, ap, _∙_}
 use mathlib.Core.List.{List}
 use mathlib.Core.Logic.{_≢_}
-use Prim.Native.Nat.{ℕ, _+_, _*_, _/_, _%_, _-_, _<_}
+use Prim.Native.Nat.{ℕ, _/_, _%_, _-_, _<_}
 use native.Mathlib.Omega.{arith}
 use lib.ListN.{length}
 use Rattle.lists.specs.Count.{bit}
-use Rattle.soft.specs.Column.{symbols, costOf, bestOf, secondOf, gapOf, isBlank}
+use Rattle.soft.specs.Column.{symbols, costOf, bestOf, gapOf, isBlank}
 use Rattle.soft.specs.ColumnLaws.{best-below, second-below, gap-cost}
 use Rattle.soft.specs.Blank.{openAt}
 use Rattle.soft.specs.Mark.{bestCost, plainGap}

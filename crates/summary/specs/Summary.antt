@@ -4,7 +4,6 @@
 --   SummaryOf columns s    s holds them of all places, in columns of costs for all symbols
 --   least-at, gap-at, counts-at   its entries
 --   summary-second         the second cost of a place is the best cost and the gap
-use mathlib.Core.Bool.{Bool}
 use mathlib.Core.Path.{_≡_, sym, ap, _∙_}
 use mathlib.Core.List.{List}
 use Prim.Native.Nat.{ℕ, _+_, _<_}

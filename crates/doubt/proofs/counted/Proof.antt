@@ -1,5 +1,4 @@
 -- `doubt::counted` meets its contract: one equation for each return.
-use native.Mathlib.Omega.{arith}
 use borrow.Author.Needs.{needs}
 use Rattle.doubt.proofs.Turns.{counted-none, counted-full, counted-plain}
 use Rattle.doubt.proofs.counted.Statement.{statement}

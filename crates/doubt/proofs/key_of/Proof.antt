@@ -1,5 +1,5 @@
 -- `doubt::key_of` meets its contract: a gap has two bytes, so the key of a place that is not blank stays below that of a blank one.
-use mathlib.Core.Path.{_≡_, ap, _∙_}
+use mathlib.Core.Path.{ap}
 use Prim.Native.Nat.{_+_, _*_}
 use native.Mathlib.Omega.{arith}
 use borrow.Author.Needs.{needs}

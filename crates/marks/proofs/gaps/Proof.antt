@@ -1,9 +1,7 @@
 -- The gaps of the places passed are stored.
 use borrow.Author.Needs.{needs}
-use mathlib.Core.Path.{_≡_}
 use Prim.Native.Nat.{_≤_, _-_}
 use native.Mathlib.Omega.{arith}
-use lib.ListN.{getD}
 use Rattle.lists.specs.Passed.{Passed, passed-start, passed-turn}
 use Rattle.marks.specs.Low.{gapRule}
 use Rattle.marks.proofs.Marking.{gaps-made}
