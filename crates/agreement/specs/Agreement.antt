@@ -24,7 +24,7 @@ use Rattle.near.specs.Here.{answerOf, Places}
 use Rattle.near.specs.Tree.{places-nil}
 use Rattle.answers.specs.declared.Answer.{Answer}
 use Rattle.answers.specs.declared.Answer.the-variants.{NoneNear, Near}
-use Rattle.answers.specs.declared.Found.{Found}
+use Rattle.answers.specs.declared.Finding.{Finding}
 use Rattle.answers.specs.Result.{total-near}
 use Rattle.answers.specs.Nearest.{Nearest, nearest-nobody, nearest-somebody}
 use Rattle.answers.specs.Answered.{Sound, found-sound}
@@ -36,7 +36,7 @@ use Rattle.book.specs.Engine.{unblankedBy, nearBy, Eliminated, engineOf}
 use Rattle.book.specs.EngineLaws.{EnginePassed, engine-none, engine-some, engine-fits}
 use Rattle.book.specs.Single.{BlankAt, answer-one, near-open}
 
-pub record Agrees (call : Eliminated) (f : Found) : Type 0 where
+pub record Agrees (call : Eliminated) (f : Finding) : Type 0 where
   pub nobody : (call .number ≡ noneNear) ↔ (f .answer ≡ NoneNear)
   pub somebody : (call .number ≡ accepted) ↔ ((f .answer ≡ NoneNear) → ⊥)
   pub same : call .number ≡ accepted → call .codeword ≡ f .codeword
@@ -51,7 +51,7 @@ none≢some e = subst (λ (o : Option (List ℕ)). go o) e tt
 -- by the answer of the columns to a test word, where that is what the engine looks for
 module _ (k : ℕ) (word blanks codeword q : List ℕ) (P : EnginePassed k word blanks (length codeword) (length q)) (columns : ℕ → List ℕ) (test : List ℕ)
     (answer-is : answerOf k columns (test ∷ []) ≡ nearBy k blanks word) where
-  pub agrees-by : {f : Found} → Nearest k columns (test ∷ []) f → Sound k columns f → Agrees (engineOf k word blanks codeword q) f
+  pub agrees-by : {f : Finding} → Nearest k columns (test ∷ []) f → Sound k columns f → Agrees (engineOf k word blanks codeword q) f
   agrees-by {f} N S = go (f .answer) refl
     where
       go : (a : Answer) → f .answer ≡ a → Agrees (engineOf k word blanks codeword q) f
@@ -78,15 +78,15 @@ module _ (k : ℕ) (word blanks codeword q : List ℕ) (P : EnginePassed k word 
   abbrev call : Eliminated
   call = engineOf k word blanks codeword q
 
-  pub engine-agrees : {f : Found} → Nearest k columns (word ∷ []) f → Sound k columns f → Agrees call f
+  pub engine-agrees : {f : Finding} → Nearest k columns (word ∷ []) f → Sound k columns f → Agrees call f
   engine-agrees = agrees-by k word blanks codeword q P columns word (answer-one blanks (P .fit) columns blank k word (P .known) (P .few))
 
-  pub engine-search : {rows : List (List ℕ)} {leads : List ℕ} {f : Found} → SearchOf k columns word [] rows leads 0 f → Sound k columns f
+  pub engine-search : {rows : List (List ℕ)} {leads : List ℕ} {f : Finding} → SearchOf k columns word [] rows leads 0 f → Sound k columns f
       → Ready k columns word [] rows leads → Agrees call f
   engine-search {f = f} search S ready =
       engine-agrees (subst (λ ts. Nearest k columns ts f) (expand-nil columns word) (search .finds ready places-nil)) S
 
-  pub engine-branch : (other : List ℕ) (place symbol : ℕ) → word ≡ set other place symbol → {rows : List (List ℕ)} {leads : List ℕ} {f : Found}
+  pub engine-branch : (other : List ℕ) (place symbol : ℕ) → word ≡ set other place symbol → {rows : List (List ℕ)} {leads : List ℕ} {f : Finding}
       → BranchOf k columns other place symbol [] rows leads 0 f → Sound k columns f → Ready k columns other (place ∷ []) rows leads → Places (place ∷ [])
       → Agrees call f
   engine-branch other place symbol e {f = f} branch S ready is-place =
@@ -109,7 +109,7 @@ module _ (k : ℕ) (word blanks codeword q : List ℕ) (P : EnginePassed k word 
         ∙ near-open k blanks best word (bestWord-length places (columnOf symbols costs) ∙ sym (P .word-long))
         (λ p l o. bestWord-at places (columnOf symbols costs) p l ∙ sym (is-best p l o))
 
-    pub engine-nearest : (doubtful : List ℕ) → Asked k costs doubtful 0 → {f : Found} → f ≡ nearestOf k costs doubtful 0
+    pub engine-nearest : (doubtful : List ℕ) → Asked k costs doubtful 0 → {f : Finding} → f ≡ nearestOf k costs doubtful 0
         → Agrees (engineOf k word blanks codeword q) f
     engine-nearest doubtful asked {f} e =
         agrees-by k word blanks codeword q P (columnOf symbols costs) best same-best

@@ -1,6 +1,6 @@
 // That the elimination engine and the tree agree on a test word, of both calls by name.
 ghost use Rattle.agreement.specs.Both.{BothAgree};
-use answers::Found;
+use answers::Finding;
 use chase::nearest;
 use doubt::MOST_DOUBT;
 use engine::eliminate;
@@ -8,7 +8,7 @@ use engine::eliminate;
 // What the engine answers, and what the tree finds.
 pub struct Both {
     pub number: u8,
-    pub found: Found,
+    pub found: Finding,
 }
 
 // The engine on a word, and the tree on columns without doubt.

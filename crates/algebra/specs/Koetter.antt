@@ -1,6 +1,6 @@
 -- Kötter's step with a limit: a basis of W up to the limit becomes one of the kernel of a functional on W.
 --
---   Held K s W c m r       c is in W and has the lead m, which is in class r: m % s ≡ r
+--   InClass K s W c m r       c is in W and has the lead m, which is in class r: m % s ≡ r
 --   Basis K s L W G l      in each class r < s no element of W leads below l r, and where l r ≤ L the row G r has that lead
 --   Discrepancies          Δ r is the value of the row G r, for the classes that are not spent (a class is spent where l r > L)
 --   Live, Pivot            not spent and of non-zero discrepancy; the class of least lead among these
@@ -28,7 +28,7 @@ use Rattle.algebra.specs.Subspace.{Space, Functional, Kernel, Common, _�
 module _ {F : Type 0} (K : Field F) (s : ℕ) where
   open Field K using (_⊕_, _⊗_, 𝟘, 𝟙, inv)
 
-  pub record Held (W : (ℕ → F) → Type 0) (c : ℕ → F) (m r : ℕ) : Type 0 where
+  pub record InClass (W : (ℕ → F) → Type 0) (c : ℕ → F) (m r : ℕ) : Type 0 where
     pub member : W c
     pub leads : Lead K c m
     pub class : m % s ≡ r
@@ -39,8 +39,8 @@ module _ {F : Type 0} (K : Field F) (s : ℕ) where
 
   module _ (L : ℕ) where
     pub record Basis (W : (ℕ → F) → Type 0) (G : ℕ → ℕ → F) (l : ℕ → ℕ) : Type 0 where
-      pub least : (r : ℕ) → r < s → (c : ℕ → F) (m : ℕ) → Held W c m r → l r ≤ m
-      pub held : (r : ℕ) → r < s → l r ≤ L → Held W (G r) (l r) r
+      pub least : (r : ℕ) → r < s → (c : ℕ → F) (m : ℕ) → InClass W c m r → l r ≤ m
+      pub held : (r : ℕ) → r < s → l r ≤ L → InClass W (G r) (l r) r
 
     pub record Discrepancies (Val : (ℕ → F) → F → Type 0) (G : ℕ → ℕ → F) (l : ℕ → ℕ) (Δ : ℕ → F) : Type 0 where
       pub at : (r : ℕ) → r < s → l r ≤ L → Val (G r) (Δ r)
@@ -74,13 +74,13 @@ module _ {F : Type 0} (K : Field F) (s : ℕ) where
           least = λ r h c m e. subst (λ x. x ≤ m) (sym (el r h)) (B .least r h c m e);
           held = λ r h u.
               let u′ : l r ≤ L = subst (λ x. x ≤ L) (el r h) u in
-              subst (λ x. Held W (G′ r) x r) (sym (el r h)) (subst (λ g. Held W g (l r) r) (sym (eG r h u′)) (B .held r h u′));
+              subst (λ x. InClass W (G′ r) x r) (sym (el r h)) (subst (λ g. InClass W g (l r) r) (sym (eG r h u′)) (B .held r h u′));
         }
 
     module _ {W : (ℕ → F) → Type 0} (S : Space K s W) (D : Functional K s W) (G : ℕ → ℕ → F) (l : ℕ → ℕ) (Δ : ℕ → F)
         (B : Basis W G l) (E : Discrepancies (D .Val) G l Δ) where
       -- a class that is not spent and of zero discrepancy is held in the kernel
-      kept : (r : ℕ) → r < s → l r ≤ L → Δ r ≡ 𝟘 → Held (Kernel K W (D .Val)) (G r) (l r) r
+      kept : (r : ℕ) → r < s → l r ≤ L → Δ r ≡ 𝟘 → InClass (Kernel K W (D .Val)) (G r) (l r) r
       kept r h u z =
           let e = B .held r h u in
           record {
@@ -90,7 +90,7 @@ module _ {F : Type 0} (K : Field F) (s : ℕ) where
           }
 
       -- the kernel has no lead that W has not
-      larger : (r : ℕ) → r < s → (c : ℕ → F) (m : ℕ) → Held (Kernel K W (D .Val)) c m r → l r ≤ m
+      larger : (r : ℕ) → r < s → (c : ℕ → F) (m : ℕ) → InClass (Kernel K W (D .Val)) c m r → l r ≤ m
       larger r h c m e = B .least r h c m (record { member = e .member .member; leads = e .leads; class = e .class })
 
       pub quiet : ((r : ℕ) → r < s → l r ≤ L → Δ r ≡ 𝟘) → Basis (Kernel K W (D .Val)) G l
@@ -100,7 +100,7 @@ module _ {F : Type 0} (K : Field F) (s : ℕ) where
         positive : 0 < s
         positive = omega (arith, P .within)
 
-        base : Held W (G p) (l p) p
+        base : InClass W (G p) (l p) p
         base = B .held p (P .within) (P .passes .unspent)
 
         base-value : D .Val (G p) (Δ p)
@@ -141,7 +141,7 @@ module _ {F : Type 0} (K : Field F) (s : ℕ) where
             let v : D .Val d (𝟘 ⊕ k ⊗ Δ p) = D .val-plus (h .vanishes) (D .val-scale k base-value) in
             mul-ne-zero K k (Δ p) hk (P .passes .nonzero) (sym (zero-add K (k ⊗ Δ p)) ∙ D .unique v (e .vanishes))
 
-        above-pivot : (c : ℕ → F) (m : ℕ) → Held (Kernel K W (D .Val)) c m p → l p + s ≤ m
+        above-pivot : (c : ℕ → F) (m : ℕ) → InClass (Kernel K W (D .Val)) c m p → l p + s ≤ m
         above-pivot c m e = go (ℕ-discrete (l p) m)
           where
             le : l p ≤ m
@@ -152,7 +152,7 @@ module _ {F : Type 0} (K : Field F) (s : ℕ) where
             go (no q) = residue-gap s positive (omega (arith, le)) (base .class ∙ sym (e .class))
 
         -- the pivot's row, multiplied so that it vanishes
-        raised-held : Held (Kernel K W (D .Val)) (raised (D .multiplier) (G p)) (l p + s) p
+        raised-held : InClass (Kernel K W (D .Val)) (raised (D .multiplier) (G p)) (l p + s) p
         raised-held =
             record {
               member = record {
@@ -169,7 +169,7 @@ module _ {F : Type 0} (K : Field F) (s : ℕ) where
 
         -- another row, less the multiple of the pivot's row that has its value
         cleared-held : (r : ℕ) → r < s → r ≢ p → l r ≤ L
-            → Held (Kernel K W (D .Val)) (cleared K (Δ r) (Δ p) (G r) (G p)) (l r) r
+            → InClass (Kernel K W (D .Val)) (cleared K (Δ r) (Δ p) (G r) (G p)) (l r) r
         cleared-held r h ne u =
             record {
               member = cleared-kernel K S D (e .member) (base .member) (E .at r h u) base-value (P .passes .nonzero);
@@ -177,7 +177,7 @@ module _ {F : Type 0} (K : Field F) (s : ℕ) where
               class = e .class;
             }
           where
-            e : Held W (G r) (l r) r
+            e : InClass W (G r) (l r) r
             e = B .held r h u
 
             smaller : Δ r ≢ 𝟘 → l p < l r
@@ -193,19 +193,19 @@ module _ {F : Type 0} (K : Field F) (s : ℕ) where
               held = λ r h u. held r h u (ℕ-discrete r p);
             }
           where
-            least : (r : ℕ) → r < s → (c : ℕ → F) (m : ℕ) → Held (Kernel K W (D .Val)) c m r → Dec (r ≡ p) → l′ r ≤ m
+            least : (r : ℕ) → r < s → (c : ℕ → F) (m : ℕ) → InClass (Kernel K W (D .Val)) c m r → Dec (r ≡ p) → l′ r ≤ m
             least r h c m e (yes q) =
-                subst (λ x. l′ x ≤ m) (sym q) (omega (arith, T .lead-pivot, above-pivot c m (subst (Held (Kernel K W (D .Val)) c m) q e)))
+                subst (λ x. l′ x ≤ m) (sym q) (omega (arith, T .lead-pivot, above-pivot c m (subst (InClass (Kernel K W (D .Val)) c m) q e)))
             least r h c m e (no q) = omega (arith, T .lead-other r h q, larger r h c m e)
 
-            held : (r : ℕ) → r < s → l′ r ≤ L → Dec (r ≡ p) → Held (Kernel K W (D .Val)) (G′ r) (l′ r) r
+            held : (r : ℕ) → r < s → l′ r ≤ L → Dec (r ≡ p) → InClass (Kernel K W (D .Val)) (G′ r) (l′ r) r
             held r h u (yes q) =
                 let u′ : l′ p ≤ L = subst (λ x. l′ x ≤ L) q u in
-                subst (λ x. Held (Kernel K W (D .Val)) (G′ x) (l′ x) x) (sym q)
-                (subst₂ (λ g x. Held (Kernel K W (D .Val)) g x p) (sym (T .row-pivot u′)) (sym (T .lead-pivot)) raised-held)
+                subst (λ x. InClass (Kernel K W (D .Val)) (G′ x) (l′ x) x) (sym q)
+                (subst₂ (λ g x. InClass (Kernel K W (D .Val)) g x p) (sym (T .row-pivot u′)) (sym (T .lead-pivot)) raised-held)
             held r h u (no q) =
                 let u′ : l r ≤ L = omega (arith, T .lead-other r h q) in
-                subst₂ (λ g x. Held (Kernel K W (D .Val)) g x r) (sym (T .row-other r h q u′)) (sym (T .lead-other r h q)) (cleared-held r h q u′)
+                subst₂ (λ g x. InClass (Kernel K W (D .Val)) g x r) (sym (T .row-other r h q u′)) (sym (T .lead-other r h q)) (cleared-held r h q u′)
 
     -- either every discrepancy is zero, or there is a pivot
     pub pivot-or-quiet : (l : ℕ → ℕ) (Δ : ℕ → F) → ((r : ℕ) → r < s → l r ≤ L → Δ r ≡ 𝟘) ⊎ ((p : ℕ) × Pivot l Δ p)
@@ -271,7 +271,7 @@ module _ {F : Type 0} (K : Field F) (s : ℕ) where
         (u .0, u .1, basis-same (common-more K (λ q m. List·Memᴰ·cases-cons m)) (common-less K (List·Memᴰ·head refl) (λ q m. List·Memᴰ·tail m)) (u .2))
 
     -- where the least lead of class r is that of one term, these terms are a basis
-    pub start : {W : (ℕ → F) → Type 0} (first : ℕ → ℕ) → ((r : ℕ) → r < s → (c : ℕ → F) (m : ℕ) → Held W c m r → first r ≤ m)
+    pub start : {W : (ℕ → F) → Type 0} (first : ℕ → ℕ) → ((r : ℕ) → r < s → (c : ℕ → F) (m : ℕ) → InClass W c m r → first r ≤ m)
         → ((r : ℕ) → r < s → first r ≤ L → first r % s ≡ r) → ((r : ℕ) → r < s → first r ≤ L → W (unit K (first r)))
         → Basis W (λ r. unit K (first r)) first
     start first least class member =

@@ -17,7 +17,7 @@ use Rattle.totals.specs.declared.margin.Margin.the-variants.{Absent, Of}
 use Rattle.totals.specs.Margin.{marginIs, marginFrom, from-is}
 use Rattle.answers.specs.declared.Answer.{Answer}
 use Rattle.answers.specs.declared.Answer.the-variants.{NoneNear, Near}
-use Rattle.answers.specs.declared.Found.{Found}
+use Rattle.answers.specs.declared.Finding.{Finding}
 use Rattle.answers.specs.Result.{found-same}
 use Rattle.answers.specs.Answered.{counted, answering}
 use Rattle.answers.specs.Better.{isBetter, betterFor, betterOf}
@@ -103,26 +103,26 @@ module _ (k t u : ℕ) (m n : List ℕ) where
   unfolding isBetter
   equal-by e = ap₂ (λ c d. c || (d && isBefore (take k m) (take k n))) (le-ltb t u (omega arith)) (eq-eqb t u e)
 
-module _ (k : ℕ) (a b : Found) where
+module _ (k : ℕ) (a b : Finding) where
   -- what is kept, by the two answers
-  kept : (r f : Found) {x y : Answer} → a .answer ≡ x → b .answer ≡ y → betterFor k x y a b ≡ f → r .answer ≡ f .answer
+  kept : (r f : Finding) {x y : Answer} → a .answer ≡ x → b .answer ≡ y → betterFor k x y a b ≡ f → r .answer ≡ f .answer
       → r .message ≡ f .message → r .codeword ≡ f .codeword → r .tests ≡ a .tests + b .tests → r ≡ betterOf k a b
   unfolding betterOf counted
   kept r f ax by e ea em ec et =
       found-same r (counted (a .tests + b .tests) f) ea em ec et
       ∙ sym (ap (counted (a .tests + b .tests)) (ap₂ (λ x y. betterFor k x y a b) ax by ∙ e))
 
-  pub join-other : (r : Found) → a .answer ≡ NoneNear → r .answer ≡ b .answer → r .message ≡ b .message → r .codeword ≡ b .codeword
+  pub join-other : (r : Finding) → a .answer ≡ NoneNear → r .answer ≡ b .answer → r .message ≡ b .message → r .codeword ≡ b .codeword
       → r .tests ≡ a .tests + b .tests → r ≡ betterOf k a b
   unfolding betterFor
   join-other r none-a = kept r b none-a refl refl
 
-  pub join-first : (r : Found) (t : ℕ) (d : Margin) → b .answer ≡ NoneNear → a .answer ≡ Near t d → r .answer ≡ Near t d → r .message ≡ a .message
+  pub join-first : (r : Finding) (t : ℕ) (d : Margin) → b .answer ≡ NoneNear → a .answer ≡ Near t d → r .answer ≡ Near t d → r .message ≡ a .message
       → r .codeword ≡ a .codeword → r .tests ≡ a .tests + b .tests → r ≡ betterOf k a b
   unfolding betterFor
   join-first r t d none-b at rt = kept r a at none-b refl (rt ∙ sym at)
 
-  module _ (t u : ℕ) (d e : Margin) (at : a .answer ≡ Near t d) (bt : b .answer ≡ Near u e) (r : Found) (et : r .tests ≡ a .tests + b .tests) where
+  module _ (t u : ℕ) (d e : Margin) (at : a .answer ≡ Near t d) (bt : b .answer ≡ Near u e) (r : Finding) (et : r .tests ≡ a .tests + b .tests) where
     abbrev wins : Bool
     wins = isBetter k t (a .message) u (b .message)
 
@@ -133,13 +133,13 @@ module _ (k : ℕ) (a b : Found) where
     margined : (v : ℕ) {g : Margin} {o : Option ℕ} → marginIs g ≡ o → Near v g ≡ Near v (marginFrom o)
     margined v {g} eg = ap (Near v) (sym (from-is g) ∙ ap marginFrom eg)
 
-    abbrev first : Found
+    abbrev first : Finding
     first = answering (Near t (marginFrom (lesser (marginIs d) (some (u - t))))) a
 
-    abbrev other : Found
+    abbrev other : Finding
     other = answering (Near u (marginFrom (lesser (marginIs e) (some (t - u))))) b
 
-    abbrev one : Found
+    abbrev one : Finding
     one = answering (Near u (marginFrom (lesser (marginIs d) (marginIs e)))) b
 
     chosen : (x y : Bool) → wins ≡ x → loses ≡ y → betterFor k (Near t d) (Near u e) a b ≡ cond x first (cond y other one)

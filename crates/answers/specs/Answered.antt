@@ -30,31 +30,31 @@ use Rattle.near.specs.Result.{refusedResult}
 use Rattle.near.specs.Result as Family
 use Rattle.answers.specs.declared.Answer.{Answer}
 use Rattle.answers.specs.declared.Answer.the-variants.{NoneNear, Near}
-use Rattle.answers.specs.declared.Found.{Found}
+use Rattle.answers.specs.declared.Finding.{Finding}
 use Rattle.answers.specs.Result.{totalIs, total-near, total-none, nothingFound, foundWith, foundFor, foundOf, found-same}
 use Rattle.answers.specs.Nearest.{Nearest, nearest-nobody, nearest-somebody, nearest-margin, nearest-none, nearest-some}
 use Rattle.family.specs.Member.{m16}
 use Rattle.family.specs.Evaluation.{encode-zeros}
 use Rattle.soft.specs.Blank.{openAt}
 
-unfoldable pub counted : ℕ → Found → Found
+unfoldable pub counted : ℕ → Finding → Finding
 counted n f = record { answer = f .answer; message = f .message; codeword = f .codeword; tests = n }
 
-unfoldable pub answering : Answer → Found → Found
+unfoldable pub answering : Answer → Finding → Finding
 answering a f = record { answer = a; message = f .message; codeword = f .codeword; tests = f .tests }
 
-unfoldable pub missedOf : Found → Found
+unfoldable pub missedOf : Finding → Finding
 missedOf known = counted 0 (answering NoneNear known)
 
 -- by the answer
-unfoldable pub toldFor : Answer → Found → Found
+unfoldable pub toldFor : Answer → Finding → Finding
 toldFor NoneNear f = nothingFound
 toldFor (Near t d) f = f
 
-unfoldable pub toldOf : Found → Found
+unfoldable pub toldOf : Finding → Finding
 toldOf f = toldFor (f .answer) f
 
-pub record Sound (k : ℕ) (columns : ℕ → List ℕ) (f : Found) : Type 0 where
+pub record Sound (k : ℕ) (columns : ℕ → List ℕ) (f : Finding) : Type 0 where
   pub word : Word symbols k (take k (f .message))
   pub behind : f .message ≡ padded mostRate (take k (f .message))
   pub encoded : f .codeword ≡ encodeOf k (take k (f .message))
@@ -77,12 +77,12 @@ zero-word k =
     }
 
 module _ {k : ℕ} {columns : ℕ → List ℕ} where
-  pub sound-none : {f : Found} → f .answer ≡ NoneNear → Word symbols k (take k (f .message)) → f .message ≡ padded mostRate (take k (f .message))
+  pub sound-none : {f : Finding} → f .answer ≡ NoneNear → Word symbols k (take k (f .message)) → f .message ≡ padded mostRate (take k (f .message))
       → f .codeword ≡ encodeOf k (take k (f .message)) → Sound k columns f
   sound-none e w b c = record { word = w; behind = b; encoded = c; cost = λ t h. absurd (total-none e h) }
 
   -- a message that stands in the first entries
-  sound-padded : {f : Found} {m : List ℕ} → k ≤ mostRate → Word symbols k m → f .message ≡ padded mostRate m → f .codeword ≡ encodeOf k m
+  sound-padded : {f : Finding} {m : List ℕ} → k ≤ mostRate → Word symbols k m → f .message ≡ padded mostRate m → f .codeword ≡ encodeOf k m
       → ((t : ℕ) → totalIs (f .answer) ≡ some t → t ≡ messageCost k columns m) → Sound k columns f
   sound-padded small w b c cost =
       let e = front small (w .size) ∙ ap (take k) (sym b) in
@@ -99,25 +99,25 @@ module _ {k : ℕ} {columns : ℕ → List ℕ} where
       sound-padded small (zero-word k) (sym (padded-zeros mostRate k))
       (sym (encode-zeros m16 k (replicate k 0) (λ t h. getD-replicate k t 0 0 h))) (λ t h. absurd (total-none refl h))
 
-  pub sound-counted : {f : Found} (n : ℕ) → Sound k columns f → Sound k columns (counted n f)
+  pub sound-counted : {f : Finding} (n : ℕ) → Sound k columns f → Sound k columns (counted n f)
   unfolding counted
   sound-counted n s = record { word = s .word; behind = s .behind; encoded = s .encoded; cost = s .cost }
 
-  pub sound-missed : {known : Found} → Sound k columns known → Sound k columns (missedOf known)
+  pub sound-missed : {known : Finding} → Sound k columns known → Sound k columns (missedOf known)
   unfolding missedOf counted answering
   sound-missed s = sound-none refl (s .word) (s .behind) (s .encoded)
 
-  pub sound-answering : {f : Found} {t : ℕ} (d : Margin) → t ≡ messageCost k columns (take k (f .message)) → Sound k columns f → Sound k columns (answering (Near t d) f)
+  pub sound-answering : {f : Finding} {t : ℕ} (d : Margin) → t ≡ messageCost k columns (take k (f .message)) → Sound k columns f → Sound k columns (answering (Near t d) f)
   unfolding answering totalIs
   sound-answering {t = t} d e s =
       record { word = s .word; behind = s .behind; encoded = s .encoded; cost = λ u h. let q : u ≡ t = cc in q ∙ e }
 
   module _ {ts : List (List ℕ)} where
-    pub nearest-missed : (known : Found) → answerOf k columns ts ≡ none → Nearest k columns ts (missedOf known)
+    pub nearest-missed : (known : Finding) → answerOf k columns ts ≡ none → Nearest k columns ts (missedOf known)
     unfolding missedOf counted answering
     nearest-missed known e = nearest-none refl refl e
 
-    pub told-is : {f : Found} → Nearest k columns ts f → Sound k columns f → toldOf f ≡ foundOf k columns ts
+    pub told-is : {f : Finding} → Nearest k columns ts f → Sound k columns f → toldOf f ≡ foundOf k columns ts
     unfolding toldOf toldFor foundOf foundWith Family.resultOf Family.resultFor refusedResult
     told-is {f} n s = go (f .answer) refl
       where

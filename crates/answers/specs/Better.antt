@@ -26,7 +26,7 @@ use Rattle.near.specs.Laws.{tests-append, answer-append}
 use Rattle.near.specs.Runner.{margin-append, margin-first, margin-second, margin-left, margin-right}
 use Rattle.answers.specs.declared.Answer.{Answer}
 use Rattle.answers.specs.declared.Answer.the-variants.{NoneNear, Near}
-use Rattle.answers.specs.declared.Found.{Found}
+use Rattle.answers.specs.declared.Finding.{Finding}
 use Rattle.near.specs.Result as Family
 use Rattle.answers.specs.Result.{resultFor, total-near}
 use Rattle.answers.specs.Nearest.{Nearest, nearest-nobody, nearest-somebody, nearest-margin, nearest-some}
@@ -41,7 +41,7 @@ isBetter k t m u n = ltb t u || (eqb t u && isBefore (take k m) (take k n))
 abbrev near : ℕ → Option ℕ → Answer
 near t o = Near t (marginFrom o)
 
-unfoldable pub betterFor : ℕ → Answer → Answer → Found → Found → Found
+unfoldable pub betterFor : ℕ → Answer → Answer → Finding → Finding → Finding
 betterFor k NoneNear y a b = b
 betterFor k (Near t d) NoneNear a b = a
 betterFor k (Near t d) (Near u e) a b =
@@ -49,10 +49,10 @@ betterFor k (Near t d) (Near u e) a b =
     (cond (isBetter k u (b .message) t (a .message)) (answering (near u (lesser (marginIs e) (some (t - u)))) b)
     (answering (near u (lesser (marginIs d) (marginIs e))) b))
 
-unfoldable pub betterOf : ℕ → Found → Found → Found
+unfoldable pub betterOf : ℕ → Finding → Finding → Finding
 betterOf k a b = counted (a .tests + b .tests) (betterFor k (a .answer) (b .answer) a b)
 
-pub better-tests : (k : ℕ) (a b : Found) → betterOf k a b .tests ≡ a .tests + b .tests
+pub better-tests : (k : ℕ) (a b : Finding) → betterOf k a b .tests ≡ a .tests + b .tests
 unfolding betterOf counted
 better-tests k a b = refl
 
@@ -79,7 +79,7 @@ beats-by cost k m n {t} {u} p q =
     sym (either-way (ltb t u) (eqb t u) (isBefore (take k m) (take k n)))
     ∙ ap₂ (λ x y. rival (ltb x y) (both (eqb x y) (isBefore (take k m) (take k n)))) p q
 
-module _ {k : ℕ} {columns : ℕ → List ℕ} {ts us : List (List ℕ)} {a b : Found} (p : Nearest k columns ts a) (q : Nearest k columns us b) where
+module _ {k : ℕ} {columns : ℕ → List ℕ} {ts us : List (List ℕ)} {a b : Finding} (p : Nearest k columns ts a) (q : Nearest k columns us b) where
   abbrev cost : List ℕ → ℕ
   cost = messageCost k columns
 
@@ -91,14 +91,14 @@ module _ {k : ℕ} {columns : ℕ → List ℕ} {ts us : List (List ℕ)} {a b :
   counts = ap₂ (λ x y. x + y) (p .count) (q .count) ∙ sym (tests-append m16 (openAt columns) (reachIn k columns) k ts us)
 
   -- a finding with the total and the margin of its message among all test words
-  kept : (f : Found) (t : ℕ) (o : Option ℕ) → answerOf k columns (ts ++ us) ≡ some (take k (f .message)) → t ≡ cost (take k (f .message))
+  kept : (f : Finding) (t : ℕ) (o : Option ℕ) → answerOf k columns (ts ++ us) ≡ some (take k (f .message)) → t ≡ cost (take k (f .message))
       → o ≡ marginOf k columns (ts ++ us) (take k (f .message)) → Nearest k columns (ts ++ us) (counted (a .tests + b .tests) (answering (near t o) f))
   unfolding counted answering
   kept f t o answered total margin =
       nearest-some (counted (a .tests + b .tests) (answering (near t o) f)) t (marginFrom o) refl (sym counts) answered total (is-from o ∙ margin)
 
   -- one of the lists alone has near codewords
-  alone : (f : Found) (ws : List (List ℕ)) → Nearest k columns ws f → answerOf k columns (ts ++ us) ≡ answerOf k columns ws
+  alone : (f : Finding) (ws : List (List ℕ)) → Nearest k columns ws f → answerOf k columns (ts ++ us) ≡ answerOf k columns ws
       → ((m : List ℕ) → marginOf k columns (ts ++ us) m ≡ marginOf k columns ws m) → Nearest k columns (ts ++ us) (counted (a .tests + b .tests) f)
   unfolding counted Family.resultOf Family.resultFor
   alone f ws r answered margin = record { count = counts; result = r .result ∙ go (answerOf k columns ws) ∙ ap (resultFor k columns (ts ++ us)) (sym answered) }
@@ -164,11 +164,11 @@ module _ {k : ℕ} {columns : ℕ → List ℕ} {ts us : List (List ℕ)} {a b :
           alone a ts p (both-answers refl o ∙ better-none cost (answerOf k columns ts)) (margin-left m16 (openAt columns) (reachIn k columns) k columns ts us o)
       go (Near t d) (Near u g) e f = two-near e f
 
-pub sound-better : {k : ℕ} {columns : ℕ → List ℕ} {a b : Found} → Sound k columns a → Sound k columns b → Sound k columns (betterOf k a b)
+pub sound-better : {k : ℕ} {columns : ℕ → List ℕ} {a b : Finding} → Sound k columns a → Sound k columns b → Sound k columns (betterOf k a b)
 unfolding betterOf betterFor
 sound-better {k} {columns} {a} {b} s r = sound-counted (a .tests + b .tests) (go (a .answer) (b .answer) refl refl)
   where
-    one : (x y : Bool) {f g h : Found} → Sound k columns f → Sound k columns g → Sound k columns h → Sound k columns (cond x f (cond y g h))
+    one : (x y : Bool) {f g h : Finding} → Sound k columns f → Sound k columns g → Sound k columns h → Sound k columns (cond x f (cond y g h))
     one true y p q r = p
     one false true p q r = q
     one false false p q r = r

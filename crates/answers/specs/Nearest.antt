@@ -17,14 +17,14 @@ use Rattle.near.specs.Here.{reachIn, testsNear, messageCost, answerOf, marginOf
 use Rattle.near.specs.Laws.{tests-answerless}
 use Rattle.answers.specs.declared.Answer.{Answer}
 use Rattle.answers.specs.declared.Answer.the-variants.{NoneNear, Near}
-use Rattle.answers.specs.declared.Found.{Found}
+use Rattle.answers.specs.declared.Finding.{Finding}
 use Rattle.near.specs.Result.{Result, refusedResult}
 use Rattle.near.specs.Result as Family
 use Rattle.answers.specs.Result.{resultIn, resultFor, resultOf, totalIs, total-none}
 use Rattle.family.specs.Member.{m16}
 use Rattle.soft.specs.Blank.{openAt}
 
-pub record Nearest (k : ℕ) (columns : ℕ → List ℕ) (tests : List (List ℕ)) (f : Found) : Type 0 where
+pub record Nearest (k : ℕ) (columns : ℕ → List ℕ) (tests : List (List ℕ)) (f : Finding) : Type 0 where
   pub count : f .tests ≡ testsNear k columns tests
   pub result : resultIn k (f .answer) (f .message) ≡ resultOf k columns tests
 
@@ -51,7 +51,7 @@ module _ (k : ℕ) (columns : ℕ → List ℕ) (ts : List (List ℕ)) (message 
       )
 
 module _ {k : ℕ} {columns : ℕ → List ℕ} {ts : List (List ℕ)} where
-  module _ {f : Found} (n : Nearest k columns ts f) where
+  module _ {f : Finding} (n : Nearest k columns ts f) where
     pub nearest-nobody : f .answer ≡ NoneNear → answerOf k columns ts ≡ none
     unfolding Family.resultOf
     nearest-nobody e = result-none k columns ts (f .message) (answerOf k columns ts) (ap (λ a. resultIn k a (f .message)) (sym e) ∙ n .result)
@@ -74,7 +74,7 @@ module _ {k : ℕ} {columns : ℕ → List ℕ} {ts : List (List ℕ)} where
     pub nearest-margin : (t : ℕ) (d : Margin) → f .answer ≡ Near t d → marginIs d ≡ marginOf k columns ts (take k (f .message))
     nearest-margin t d e = told t d e .2
 
-  pub nearest-none : {f : Found} → f .answer ≡ NoneNear → f .tests ≡ 0 → answerOf k columns ts ≡ none → Nearest k columns ts f
+  pub nearest-none : {f : Finding} → f .answer ≡ NoneNear → f .tests ≡ 0 → answerOf k columns ts ≡ none → Nearest k columns ts f
   unfolding resultIn Family.resultOf Family.resultFor
   nearest-none {f} a z e =
       record {
@@ -82,7 +82,7 @@ module _ {k : ℕ} {columns : ℕ → List ℕ} {ts : List (List ℕ)} where
         result = ap (λ x. resultIn k x (f .message)) a ∙ sym (ap (resultFor k columns ts) e);
       }
 
-  pub nearest-some : (f : Found) (t : ℕ) (d : Margin) → f .answer ≡ Near t d → testsNear k columns ts ≡ f .tests
+  pub nearest-some : (f : Finding) (t : ℕ) (d : Margin) → f .answer ≡ Near t d → testsNear k columns ts ≡ f .tests
       → answerOf k columns ts ≡ some (take k (f .message)) → t ≡ messageCost k columns (take k (f .message))
       → marginIs d ≡ marginOf k columns ts (take k (f .message)) → Nearest k columns ts f
   unfolding resultIn Family.resultOf Family.resultFor

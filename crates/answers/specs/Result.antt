@@ -30,7 +30,7 @@ use Rattle.near.specs.Result.{Result, refusedResult}
 use Rattle.near.specs.Result as Family
 use Rattle.answers.specs.declared.Answer.{Answer}
 use Rattle.answers.specs.declared.Answer.the-variants.{NoneNear, Near}
-use Rattle.answers.specs.declared.Found.{Found}
+use Rattle.answers.specs.declared.Finding.{Finding}
 
 unfoldable pub resultIn : ℕ → Answer → List ℕ → Result
 resultIn k NoneNear message = refusedResult noneNear
@@ -54,20 +54,20 @@ resultFor k columns tests o = Family.resultFor m16 (openAt columns) (reachIn k c
 abbrev pub resultOf : ℕ → (ℕ → List ℕ) → List (List ℕ) → Result
 resultOf k columns tests = Family.resultOf m16 (openAt columns) (reachIn k columns) k columns tests
 
-unfoldable pub nothingFound : Found
+unfoldable pub nothingFound : Finding
 nothingFound = record { answer = NoneNear; message = replicate mostRate 0; codeword = replicate places 0; tests = 0 }
 
 -- the enum's case of a result is that of its number
-unfoldable pub foundWith : ℕ → Result → ℕ → Found
+unfoldable pub foundWith : ℕ → Result → ℕ → Finding
 foundWith k r n =
     cond (eqb (r .number) noneNear) nothingFound
     (record { answer = Near (r .total) (marginFrom (r .margin)); message = padded mostRate (r .message); codeword = encodeOf k (r .message); tests = n })
 
-abbrev pub foundFor : ℕ → (ℕ → List ℕ) → List (List ℕ) → Option (List ℕ) → Found
+abbrev pub foundFor : ℕ → (ℕ → List ℕ) → List (List ℕ) → Option (List ℕ) → Finding
 foundFor k columns tests o = foundWith k (resultFor k columns tests o) (testsNear k columns tests)
 
-unfoldable pub foundOf : ℕ → (ℕ → List ℕ) → List (List ℕ) → Found
+unfoldable pub foundOf : ℕ → (ℕ → List ℕ) → List (List ℕ) → Finding
 foundOf k columns tests = foundWith k (resultOf k columns tests) (testsNear k columns tests)
 
-pub found-same : (f g : Found) → f .answer ≡ g .answer → f .message ≡ g .message → f .codeword ≡ g .codeword → f .tests ≡ g .tests → f ≡ g
+pub found-same : (f g : Finding) → f .answer ≡ g .answer → f .message ≡ g .message → f .codeword ≡ g .codeword → f .tests ≡ g .tests → f ≡ g
 found-same f g a m c n = λ i. record { answer = a i; message = m i; codeword = c i; tests = n i }

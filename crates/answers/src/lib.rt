@@ -25,17 +25,17 @@ pub enum Answer {
 
 // The message in the first k entries, where k is the rate, and its codeword; and how many test words have a codeword within T. In a search a
 // codeword stands beside 'none near' too: one that is known, near or not.
-pub struct Found {
+pub struct Finding {
     pub answer: Answer,
     pub message: Message,
     pub codeword: Word,
     pub tests: usize,
 }
 
-pub fn none_near() -> Found
+pub fn none_near() -> Finding
     ensures { λ r. ⌜ r ≡ nothingFound ⌝ }
 {
-    Found {
+    Finding {
         answer: Answer::NoneNear,
         message: [0u8; MOST_RATE],
         codeword: [0u8; PLACES],
@@ -44,12 +44,12 @@ pub fn none_near() -> Found
 }
 
 // What is found where no codeword is near: the known one still stands beside it.
-pub fn missed(known: Found) -> Found
+pub fn missed(known: Finding) -> Finding
     ensures { λ r. ⌜ r ≡ missedOf known ⌝ }
 {
     let message = known.message;
     let codeword = known.codeword;
-    Found {
+    Finding {
         answer: Answer::NoneNear,
         message,
         codeword,
@@ -58,7 +58,7 @@ pub fn missed(known: Found) -> Found
 }
 
 // What a search tells of its finding: beside 'none near' stand zeros.
-pub fn told(found: Found) -> Found
+pub fn told(found: Finding) -> Finding
     ensures { λ r. ⌜ r ≡ toldOf found ⌝ }
 {
     let answer = found.answer;
@@ -104,7 +104,7 @@ fn lesser(first: Margin, second: Margin) -> Margin
 
 // Two branches together: the counts add, the cheaper answer wins, equal totals go to the smaller message. The answer that loses is a rival of
 // the other; if both are one codeword, a rival in either branch is its rival.
-pub fn better(a: Found, b: Found, k: usize) -> Found
+pub fn better(a: Finding, b: Finding, k: usize) -> Finding
     requires { ⌜ (k ≤ mostRate) × (a .tests + b .tests ≤ 65535) ⌝ }
     ensures { λ r. ⌜ r ≡ betterOf k a b ⌝ }
 {
@@ -116,7 +116,7 @@ pub fn better(a: Found, b: Found, k: usize) -> Found
     let codeword = a.codeword;
     let competing = b.codeword;
     let Answer::Near { total, margin } = first else {
-        return Found {
+        return Finding {
             answer: other,
             message: rival,
             codeword: competing,
@@ -128,7 +128,7 @@ pub fn better(a: Found, b: Found, k: usize) -> Found
         margin: spare,
     } = other
     else {
-        return Found {
+        return Finding {
             answer: first,
             message,
             codeword,
@@ -136,7 +136,7 @@ pub fn better(a: Found, b: Found, k: usize) -> Found
         };
     };
     if total < dues {
-        return Found {
+        return Finding {
             answer: Answer::Near {
                 total,
                 margin: lesser(margin, Margin::Of(dues - total)),
@@ -147,7 +147,7 @@ pub fn better(a: Found, b: Found, k: usize) -> Found
         };
     }
     if dues < total {
-        return Found {
+        return Finding {
             answer: Answer::Near {
                 total: dues,
                 margin: lesser(spare, Margin::Of(total - dues)),
@@ -158,7 +158,7 @@ pub fn better(a: Found, b: Found, k: usize) -> Found
         };
     }
     if before(message, rival, k) {
-        return Found {
+        return Finding {
             answer: Answer::Near {
                 total,
                 margin: Margin::Of(0),
@@ -169,7 +169,7 @@ pub fn better(a: Found, b: Found, k: usize) -> Found
         };
     }
     if before(rival, message, k) {
-        return Found {
+        return Finding {
             answer: Answer::Near {
                 total: dues,
                 margin: Margin::Of(0),
@@ -179,7 +179,7 @@ pub fn better(a: Found, b: Found, k: usize) -> Found
             tests,
         };
     }
-    Found {
+    Finding {
         answer: Answer::Near {
             total: dues,
             margin: lesser(margin, spare),

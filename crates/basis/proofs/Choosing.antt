@@ -10,7 +10,7 @@ use native.Mathlib.Omega.{arith}
 use lib.ListN.{getD}
 use borrow.Author.Tests.{eq-eqb, ne-eqb, le-leb, lt-leb}
 use Rattle.lists.specs.Smallest.{smallest-kept, smallest-replaced, below-suc}
-use Rattle.basis.specs.Choice.{leadAt, Chosen, none, one, betterOf}
+use Rattle.basis.specs.Choice.{leadAt, Chosen, none, one, pivotOf}
 
 module _ (ds leads : List ℕ) where
   pub chosen-start : Chosen 0 ds leads 8
@@ -41,26 +41,26 @@ module _ (ds leads : List ℕ) where
 
   -- the three tests
   module _ (best r : ℕ) where
-    pub better-zero : getD ds r 0 ≡ 0 → betterOf ds leads best r ≡ best
-    unfolding betterOf
+    pub better-zero : getD ds r 0 ≡ 0 → pivotOf ds leads best r ≡ best
+    unfolding pivotOf
     better-zero z = simp (eq-eqb _ _ z)
 
-    pub better-first : getD ds r 0 ≢ 0 → 8 ≤ best → betterOf ds leads best r ≡ r
-    unfolding betterOf
+    pub better-first : getD ds r 0 ≢ 0 → 8 ≤ best → pivotOf ds leads best r ≡ r
+    unfolding pivotOf
     better-first n a = simp (ne-eqb _ _ n, le-leb _ _ a)
 
-    pub better-keeps : getD ds r 0 ≢ 0 → best < 8 → leadAt leads best ≤ leadAt leads r → betterOf ds leads best r ≡ best
-    unfolding betterOf
+    pub better-keeps : getD ds r 0 ≢ 0 → best < 8 → leadAt leads best ≤ leadAt leads r → pivotOf ds leads best r ≡ best
+    unfolding pivotOf
     better-keeps n a b = simp (ne-eqb _ _ n, lt-leb _ _ a, le-leb _ _ b)
 
-    pub better-takes : getD ds r 0 ≢ 0 → best < 8 → leadAt leads r < leadAt leads best → betterOf ds leads best r ≡ r
-    unfolding betterOf
+    pub better-takes : getD ds r 0 ≢ 0 → best < 8 → leadAt leads r < leadAt leads best → pivotOf ds leads best r ≡ r
+    unfolding pivotOf
     better-takes n a b = simp (ne-eqb _ _ n, lt-leb _ _ a, lt-leb _ _ b)
 
-    pub better-chosen : r < 8 → Chosen r ds leads best → Chosen (r + 1) ds leads (betterOf ds leads best r)
+    pub better-chosen : r < 8 → Chosen r ds leads best → Chosen (r + 1) ds leads (pivotOf ds leads best r)
     better-chosen l h = go (ℕ-discrete (getD ds r 0) 0) (decLe 8 best) (decLe (leadAt leads best) (leadAt leads r))
       where
-        go : Dec (getD ds r 0 ≡ 0) → Dec (8 ≤ best) → Dec (leadAt leads best ≤ leadAt leads r) → Chosen (r + 1) ds leads (betterOf ds leads best r)
+        go : Dec (getD ds r 0 ≡ 0) → Dec (8 ≤ best) → Dec (leadAt leads best ≤ leadAt leads r) → Chosen (r + 1) ds leads (pivotOf ds leads best r)
         go (yes z) b c = rw (better-zero z) (chosen-zero z h)
         go (no z) (yes b) c = rw (better-first z b) (chosen-first z b l h)
         go (no z) (no b) (yes c) = rw (better-keeps z (omega arith) c) (chosen-keeps (omega arith) c h)

@@ -4,7 +4,7 @@
 --   Nonzero ds r         the discrepancy of class r is not zero
 --   Chosen n ds leads p  of the classes below n, p is the first of least lead among those of non-zero discrepancy; or p is 8 and there is none
 --   chosen-one           two classes so chosen are one
---   betterOf ds leads best r   the class chosen so far, or class r where its discrepancy is not zero and its lead is less
+--   pivotOf ds leads best r   the class chosen so far, or class r where its discrepancy is not zero and its lead is less
 use mathlib.Core.Path.{_≡_, sym, _∙_}
 use mathlib.Core.List.{List}
 use mathlib.Core.Logic.{_≢_}
@@ -38,6 +38,6 @@ module _ {n : ℕ} {ds leads : List ℕ} {p q : ℕ} where
       go (no l) (yes m) = absurd (omega (arith, a q m (t .passes), t .least p (s .within) (s .passes)))
       go (no l) (no m) = omega arith
 
-unfoldable pub betterOf : List ℕ → List ℕ → ℕ → ℕ → ℕ
-betterOf ds leads best r =
+unfoldable pub pivotOf : List ℕ → List ℕ → ℕ → ℕ → ℕ
+pivotOf ds leads best r =
     cond (eqb (getD ds r 0) 0) best (cond (leb 8 best) r (cond (leb (leadAt leads best) (leadAt leads r)) best r))

@@ -5,7 +5,7 @@ ghost use lib.ListN.{length};
 ghost use Rattle.lists.specs.Listed.{listed};
 ghost use Rattle.galois.specs.Gf16.{times};
 ghost use Rattle.planes.specs.Rows.{AddedBy};
-ghost use Rattle.basis.specs.Choice.{Chosen, betterOf};
+ghost use Rattle.basis.specs.Choice.{Chosen, pivotOf};
 ghost use Rattle.basis.specs.Step.{discrepancyOf, discrepancyAt, NextRows, MovedRows};
 use crate::CLASSES;
 use crate::Leads;
@@ -47,7 +47,7 @@ pub fn discrepancies(rows: &Rows, leads: Leads, limit: usize, place: usize) -> [
 // The class chosen so far, or class r.
 fn better(ds: [u8; CLASSES], leads: Leads, best: usize, r: usize) -> usize
     requires { ⌜ r < 8 ⌝ }
-    ensures { λ p. ⌜ p ≡ betterOf ds leads best r ⌝ }
+    ensures { λ p. ⌜ p ≡ pivotOf ds leads best r ⌝ }
 {
     if ds[r] == 0 {
         return best;

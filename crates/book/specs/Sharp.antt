@@ -25,7 +25,7 @@ use Rattle.lists.specs.Every.{every, both-left, both-right, T-true}
 use Rattle.lists.specs.Listed.{listed}
 use Rattle.lists.specs.Words.{Word}
 use Rattle.soft.specs.Blank.{openAt, blanksOf, unblanked}
-use Rattle.soft.specs.Column.{firstBut, betterOf, bestBut, bestOf, secondOf, isBlank}
+use Rattle.soft.specs.Column.{firstBut, cheaperOf, bestBut, bestOf, secondOf, isBlank}
 use Rattle.soft.specs.TestWord.{bestWord}
 use Rattle.soft.specs.Total.{agree, differingIn}
 use Rattle.family.specs.Member.{m16}
@@ -112,12 +112,12 @@ unfolding has
 has-eq word of p h = eqb-true (getD word p 0) (of (columns 50 p)) (T-true (eqb (getD word p 0) (of (columns 50 p))) h)
 
 offered : Holds (each (has (replicate 64 0) bestOf) eight) × Holds (each (has (listed 64 symbol39) secondOf) eight)
-unfolding each has frame columnsOf columnIn entriesOf listed bestOf secondOf bestBut betterOf firstBut
+unfolding each has frame columnsOf columnIn entriesOf listed bestOf secondOf bestBut cheaperOf firstBut
 offered = (tt, tt)
 
 wrong : (wrongOf 64 (columns 50) eight (replicate 64 0) ≡ 6) × (wrongOf 64 (columns 50) eight (listed 64 symbol39) ≡ 6)
     × (wrongOf 64 (columns 34) [] (replicate 64 0) ≡ 14)
-unfolding wrongOf count sumOf among frame columnsOf columnIn entriesOf listed bestOf bestBut betterOf firstBut isBlank every
+unfolding wrongOf count sumOf among frame columnsOf columnIn entriesOf listed bestOf bestBut cheaperOf firstBut isBlank every
 wrong = (refl, refl, refl)
 
 pub none-blank : (a : ℕ) → (a ≡ 50) ⊎ (a ≡ 34) → blanksOf 64 (columnsOf modem64 (frame a)) ≡ 0
@@ -131,7 +131,7 @@ none-missing = (refl, refl)
 
 -- six symbols of the light one are not the best
 changed : differingIn (openAt (columns 34)) 64 (listed 64 symbol39) (bestWord 64 (columns 34)) ≡ 6
-unfolding differingIn agree bestWord count sumOf frame columnsOf columnIn entriesOf listed bestOf bestBut betterOf firstBut isBlank every
+unfolding differingIn agree bestWord count sumOf frame columnsOf columnIn entriesOf listed bestOf bestBut cheaperOf firstBut isBlank every
 changed = refl
 
 pub all-there : (a : ℕ) → (a ≡ 50) ⊎ (a ≡ 34) → (p : ℕ) → Missing modem64 (frame a) p → ⊥

@@ -20,7 +20,7 @@ use borrow.Author.Tests.{eq-eqb, ne-eqb}
 use Rattle.refusals.specs.Refusal.{accepted, noneNear}
 use Rattle.answers.specs.declared.Answer.{Answer}
 use Rattle.answers.specs.declared.Answer.the-variants.{NoneNear, Near}
-use Rattle.answers.specs.declared.Found.{Found}
+use Rattle.answers.specs.declared.Finding.{Finding}
 use Rattle.chase.specs.Call.{nearestOf}
 use Rattle.book.specs.Here.{places}
 use Rattle.book.specs.Engine.{engineOf}
@@ -42,10 +42,10 @@ unfoldable pub branchBy : Answer → List ℕ → Branch
 branchBy NoneNear codeword = noCodeword noneNear
 branchBy (Near t d) codeword = record { number = accepted; codeword = codeword }
 
-unfoldable pub branchIn : Found → Branch
+unfoldable pub branchIn : Finding → Branch
 branchIn f = branchBy (f .answer) (f .codeword)
 
-abbrev pub aloneOf : ℕ → List ℕ → List ℕ → Found
+abbrev pub aloneOf : ℕ → List ℕ → List ℕ → Finding
 aloneOf rate word blanks = nearestOf rate (fadedCosts blanks word) undoubted 0
 
 unfoldable pub branchOf : ℕ → List ℕ → List ℕ → Branch

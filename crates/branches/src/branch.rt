@@ -8,7 +8,7 @@ ghost use Rattle.book.specs.Here.{places};
 ghost use Rattle.agreement.specs.Faded.{fadedCost, fadedCosts};
 ghost use Rattle.branches.specs.Beside.{noCodeword, branchIn, branchOf, besideOf};
 use answers::Answer;
-use answers::Found;
+use answers::Finding;
 use columns::costs::COSTS;
 use columns::costs::PLACES;
 use columns::costs::SYMBOLS;
@@ -72,7 +72,7 @@ fn no_codeword(number: u8) -> Branch
 }
 
 // What a call would answer that finds this.
-pub fn branch_in(found: Found) -> Branch
+pub fn branch_in(found: Finding) -> Branch
     ensures { λ r. ⌜ r ≡ branchIn found ⌝ }
 {
     let answer = found.answer;

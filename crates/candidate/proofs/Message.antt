@@ -16,7 +16,7 @@ use Rattle.code.specs.Rates.{longest}
 use Rattle.family.specs.Evaluation.{encode-beyond}
 use Rattle.candidate.specs.Candidate.{symbolIn}
 use Rattle.family.specs.Member.{m16}
-use Rattle.near.specs.Held as Family
+use Rattle.near.specs.Decider as Family
 use Rattle.coefficients.specs.Bytes.{xOrder}
 
 -- what stands at the order of a symbol

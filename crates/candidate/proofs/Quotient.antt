@@ -23,7 +23,7 @@ use Rattle.near.specs.Here.{mOf, Workable}
 use Rattle.family.specs.Member.{m16}
 use Rattle.near.specs.Near.{nearTo}
 use Rattle.near.specs.Codeword.{symbolsOf-at, messageFrom, messageFrom-word}
-use Rattle.near.specs.Held.{Held, message-in, held-lead, held-divides}
+use Rattle.near.specs.Decider.{Decider, message-in, held-lead, held-divides}
 use Rattle.candidate.specs.declared.Candidate.{Candidate}
 use Rattle.candidate.specs.Candidate.{symbolIn, CandidateOf}
 use Rattle.candidate.specs.Ranged.{Ranged, workable}
@@ -36,7 +36,7 @@ module _ {k : ℕ} (rate : Ranged k) (word row function : List ℕ) (divided : D
   candidate-word : Word symbols k (listed k (symbolIn function))
   candidate-word = subst (Word symbols k) (sym candidate-is) (messageFrom-word m16 k (coef function))
 
-  only : (Q : ℕ → GF) → Holds m16 (mOf k) word (valuesOf row) Q → (counts : ℕ → Bool) (reach : ℕ) (near-word : List ℕ) → Held m16 counts reach k near-word Q
+  only : (Q : ℕ → GF) → Holds m16 (mOf k) word (valuesOf row) Q → (counts : ℕ → Bool) (reach : ℕ) (near-word : List ℕ) → Decider m16 counts reach k near-word Q
       → (m : List ℕ) → Found symbols k (nearTo m16 counts reach k near-word) m → listed k (symbolIn function) ≡ m
   only Q holds counts reach near-word h m f =
       let w : Workable k = workable rate in

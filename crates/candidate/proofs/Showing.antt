@@ -16,7 +16,7 @@ use Rattle.code.specs.Encoding.{encodeOf, mostRate}
 use Rattle.soft.specs.Column.{places, symbols}
 use Rattle.family.specs.Member.{m16}
 use Rattle.near.specs.Codeword.{symbolsOf, messageFrom-word}
-use Rattle.near.specs.Held.{message-in}
+use Rattle.near.specs.Decider.{message-in}
 use Rattle.candidate.specs.declared.Candidate.{Candidate}
 use Rattle.candidate.specs.Candidate.{symbolIn, ShownOf}
 use Rattle.candidate.specs.Ranged.{Ranged}

@@ -27,7 +27,7 @@ use Rattle.near.specs.Here.{mOf, reachIn, Places, Decided}
 use Rattle.near.specs.Near.{nearTo}
 use Rattle.near.specs.Tree.{without}
 use Rattle.near.specs.Governing.{Only}
-use Rattle.near.specs.Held as Family
+use Rattle.near.specs.Decider as Family
 use Rattle.planes.specs.Words.{wordOf}
 use Rattle.coefficients.specs.Reading.{coefficientsOf}
 use Rattle.values.specs.Holds.{Holds}
@@ -44,7 +44,7 @@ pub record CandidateOf (k : ℕ) (word row : List ℕ) (r : Candidate) : Type 0 
   pub behind : r .message ≡ padded mostRate (take k (r .message))
   pub encoded : r .codeword ≡ encodeOf k (take k (r .message))
   pub only : (Q : ℕ → GF) → Holds m16 (mOf k) word (valuesOf row) Q → (counts : ℕ → Bool) (reach : ℕ) (near-word : List ℕ)
-      → Family.Held m16 counts reach k near-word Q → (m : List ℕ) → Found symbols k (nearTo m16 counts reach k near-word) m → m ≡ take k (r .message)
+      → Family.Decider m16 counts reach k near-word Q → (m : List ℕ) → Found symbols k (nearTo m16 counts reach k near-word) m → m ≡ take k (r .message)
 
 pub record ShownOf (k : ℕ) (values : List ℕ) (r : Candidate) : Type 0 where
   pub word-of : Word symbols k (take k (r .message))

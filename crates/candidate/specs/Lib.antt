@@ -1,4 +1,4 @@
 pub mod Ranged
 pub mod Candidate
-pub mod Marked
+pub mod OpenFlags
 pub mod Settled

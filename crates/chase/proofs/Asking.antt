@@ -11,7 +11,7 @@ use Rattle.code.specs.Encoding.{leastRate, mostRate, knownRate}
 use Rattle.soft.specs.Column.{places, symbols, columnOf}
 use Rattle.soft.specs.Doubt.{mostDoubt}
 use Rattle.near.specs.Here.{blankLimit, blanksIn}
-use Rattle.answers.specs.declared.Found.{Found}
+use Rattle.answers.specs.declared.Finding.{Finding}
 use Rattle.chase.specs.Call.{Asked, wellFormed, nearestOf}
 use Rattle.chase.specs.Laws.{form-asked, nearest-unasked}
 use Rattle.chase.specs.Places.{arePlaces}
@@ -20,7 +20,7 @@ use Rattle.candidate.specs.Ranged.{known-range}
 
 module _ (rate : ℕ) (costs doubtful : List ℕ) (doubt : ℕ) where
   -- arguments that may not be asked find nothing
-  pub unasked : (f : Found) → ¬ Asked rate costs doubtful doubt → f ≡ nothingFound → f ≡ nearestOf rate costs doubtful doubt
+  pub unasked : (f : Finding) → ¬ Asked rate costs doubtful doubt → f ≡ nothingFound → f ≡ nearestOf rate costs doubtful doubt
   unasked f n e = e ∙ sym (nearest-unasked rate costs doubtful doubt n)
 
   pub unasked-rate : rate < leastRate ⊎ mostRate < rate → ¬ Asked rate costs doubtful doubt

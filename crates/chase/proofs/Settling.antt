@@ -18,16 +18,16 @@ use Rattle.soft.specs.BlankLaws.{flags-blanks, flags-open, column-none, unblank
 use Rattle.soft.specs.Doubt.{mostDoubt}
 use Rattle.soft.specs.TestWord.{bestWord, expand, testWords}
 use Rattle.soft.specs.TestWordLaws.{bestWord-length}
-use Rattle.answers.specs.declared.Found.{Found}
+use Rattle.answers.specs.declared.Finding.{Finding}
 use Rattle.doubt.specs.declared.Picked.{Picked}
 use Rattle.doubt.specs.Picked.{PickedOf, picked-take}
 use Rattle.chase.specs.Call.{Asked, nearestOf}
 use Rattle.chase.specs.Laws.{nearest-asked}
 use Rattle.answers.specs.Nearest.{Nearest}
 use Rattle.candidate.specs.Settled.{settled-decided}
-use Rattle.candidate.specs.Marked.{Marked, limit-marked}
+use Rattle.candidate.specs.OpenFlags.{OpenFlags, limit-marked}
 use Rattle.candidate.specs.Ranged.{known-range, workable}
-use Rattle.known.specs.Known.{governsOf, WithinOf, belowOf}
+use Rattle.known.specs.Known.{governsOf, WithinOf, answerHere}
 use Rattle.known.specs.Governing.{sound-below, governs-only, governed-nearest}
 use Rattle.tree.specs.Searching.{SearchOf}
 use Rattle.answers.specs.Answered.{Sound, toldOf, told-is}
@@ -40,7 +40,7 @@ module _ (costs counts : List ℕ) (flags-is : counts ≡ flagsOf places (column
   blank-number =
       b-is ∙ ap (λ (l : List ℕ). count places (λ p. not (flagAt l p))) flags-is ∙ flags-blanks places (columnOf symbols costs)
 
-  pub marked : (k : ℕ) → length costs ≡ places * symbols → (l : ℕ) → l ≡ blankLimit k → b ≤ l → Marked k (columnOf symbols costs) counts b
+  pub marked : (k : ℕ) → length costs ≡ places * symbols → (l : ℕ) → l ≡ blankLimit k → b ≤ l → OpenFlags k (columnOf symbols costs) counts b
   marked k size l l-is few =
       record {
         flags =
@@ -60,7 +60,7 @@ picked-few counts doubtful {doubt} few D =
 
 -- ---- the root of the tree
 
-module _ (k : ℕ) (costs doubtful : List ℕ) (doubt : ℕ) (f : Found) (counts : List ℕ) (b : ℕ) where
+module _ (k : ℕ) (costs doubtful : List ℕ) (doubt : ℕ) (f : Finding) (counts : List ℕ) (b : ℕ) where
   abbrev columns : ℕ → List ℕ
   columns = columnOf symbols costs
 
@@ -68,7 +68,7 @@ module _ (k : ℕ) (costs doubtful : List ℕ) (doubt : ℕ) (f : Found) (counts
   abbrev doubled : List ℕ
   doubled = unblanked (openAt columns) (take doubt doubtful)
 
-  module _ (word : List ℕ) (picked : Picked) (A : Asked k costs doubtful doubt) (M : Marked k columns counts b) (w-is : word ≡ bestWord places columns)
+  module _ (word : List ℕ) (picked : Picked) (A : Asked k costs doubtful doubt) (M : OpenFlags k columns counts b) (w-is : word ≡ bestWord places columns)
       (D : PickedOf (unblanked (flagAt counts) (take doubt doubtful)) picked) where
     taken : take (picked .count) (picked .places) ≡ doubled
     taken = picked-take D (picked-few (flagAt counts) doubtful (A .few) D) ∙ ap (λ c. unblanked c (take doubt doubtful)) (M .flags)
@@ -108,10 +108,10 @@ module _ (k : ℕ) (costs doubtful : List ℕ) (doubt : ℕ) (f : Found) (counts
         sound
 
     -- by a codeword that is known and governs it
-    pub root-known : (known : Found) (holds : Bool) (tests : ℕ) → Sound k columns known
+    pub root-known : (known : Finding) (holds : Bool) (tests : ℕ) → Sound k columns known
         → holds ≡ governsOf k counts b known word (drop (picked .count - picked .count) (take (picked .count) (picked .places))) → holds ≡ true
         → WithinOf k counts b columns (known .codeword) word (drop (picked .count - picked .count) (take (picked .count) (picked .places))) (picked .count) tests
-        → f ≡ belowOf columns known tests → toldOf f ≡ nearestOf k costs doubtful doubt
+        → f ≡ answerHere columns known tests → toldOf f ≡ nearestOf k costs doubtful doubt
     root-known known holds tests sound test governs counted f-is =
         let rate = workable (known-range k (A .known)) in
         let size : length word ≡ places = ap length w-is ∙ bestWord-length places columns in

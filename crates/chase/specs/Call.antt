@@ -19,7 +19,7 @@ use Rattle.soft.specs.Column.{places, symbols, columnOf}
 use Rattle.soft.specs.Doubt.{mostDoubt}
 use Rattle.soft.specs.TestWord.{testWords}
 use Rattle.near.specs.Here.{Places, blankLimit, blanksIn}
-use Rattle.answers.specs.declared.Found.{Found}
+use Rattle.answers.specs.declared.Finding.{Finding}
 use Rattle.answers.specs.Result.{totalIs, nothingFound, foundOf}
 use Rattle.answers.specs.Nearest.{Nearest}
 use Rattle.chase.specs.Places.{arePlaces}
@@ -38,12 +38,12 @@ wellFormed rate costs doubtful doubt =
 unfoldable pub askedOf : ℕ → List ℕ → List ℕ → ℕ → Bool
 askedOf rate costs doubtful doubt = wellFormed rate costs doubtful doubt && leb (blanksIn (columnOf symbols costs)) (blankLimit rate)
 
-unfoldable pub nearestOf : ℕ → List ℕ → List ℕ → ℕ → Found
+unfoldable pub nearestOf : ℕ → List ℕ → List ℕ → ℕ → Finding
 nearestOf rate costs doubtful doubt =
     cond (askedOf rate costs doubtful doubt) (foundOf rate (columnOf symbols costs) (testWords places (columnOf symbols costs) (take doubt doubtful)))
     nothingFound
 
-pub record NearestCall (rate : ℕ) (costs doubtful : List ℕ) (doubt : ℕ) (f : Found) : Type 0 where
+pub record NearestCall (rate : ℕ) (costs doubtful : List ℕ) (doubt : ℕ) (f : Finding) : Type 0 where
   pub asked : Asked rate costs doubtful doubt
       → Nearest rate (columnOf symbols costs) (testWords places (columnOf symbols costs) (take doubt doubtful)) f
   pub refused : ¬ Asked rate costs doubtful doubt → f ≡ nothingFound

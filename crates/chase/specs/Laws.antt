@@ -21,7 +21,7 @@ use Rattle.soft.specs.TestWord.{testWords}
 use Rattle.near.specs.Here.{blankLimit, blanksIn}
 use Rattle.near.specs.Tree.{places-of, places-test}
 use Rattle.near.specs.Flags as Family
-use Rattle.answers.specs.declared.Found.{Found}
+use Rattle.answers.specs.declared.Finding.{Finding}
 use Rattle.answers.specs.Result.{totalIs, total-none, nothingFound, foundOf}
 use Rattle.answers.specs.Nearest.{Nearest}
 use Rattle.answers.specs.Answered.{Sound, found-nearest, found-sound}
@@ -67,7 +67,7 @@ module _ (rate : ℕ) (costs doubtful : List ℕ) (doubt : ℕ) where
       and-both (wellFormed rate costs doubtful doubt) (leb blank (blankLimit rate)) (form-asked A) (le-leb blank (blankLimit rate) (A .few-blank))
 
   -- what the test words find
-  abbrev found : Found
+  abbrev found : Finding
   found = foundOf rate (columnOf symbols costs) (testWords places (columnOf symbols costs) (take doubt doubtful))
 
   pub nearest-asked : Asked rate costs doubtful doubt → nearestOf rate costs doubtful doubt ≡ found
@@ -82,7 +82,7 @@ module _ (rate : ℕ) (costs doubtful : List ℕ) (doubt : ℕ) where
       go true e = absurd (n (asked-yes e))
       go false e = refl
 
-  pub nearest-call : (f : Found) → f ≡ nearestOf rate costs doubtful doubt → NearestCall rate costs doubtful doubt f
+  pub nearest-call : (f : Finding) → f ≡ nearestOf rate costs doubtful doubt → NearestCall rate costs doubtful doubt f
   unfolding nothingFound
   nearest-call f e =
       record {
@@ -100,4 +100,4 @@ module _ (rate : ℕ) (costs doubtful : List ℕ) (doubt : ℕ) where
           (found-sound rate (columnOf symbols costs) (testWords places (columnOf symbols costs) (take doubt doubtful)) (known-bounds rate (A .known) .1)) .encoded
       go false q t h =
           let z = e ∙ nearest-unasked (λ A. false≢true (sym q ∙ asked-is A)) in
-          absurd (total-none (ap (λ (g : Found). g .answer) z) h)
+          absurd (total-none (ap (λ (g : Finding). g .answer) z) h)

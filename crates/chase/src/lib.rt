@@ -11,7 +11,7 @@ ghost use Rattle.doubt.specs.Picked.{PickedOf};
 ghost use Rattle.near.specs.Here.{Places};
 ghost use Rattle.chase.specs.Places.{arePlaces, Flagged};
 ghost use Rattle.chase.specs.Call.{wellFormed, nearestOf};
-use answers::Found;
+use answers::Finding;
 use answers::none_near;
 use answers::told;
 use basis::CLASSES;
@@ -31,7 +31,7 @@ use encoding::known_rate;
 use guess::first_known;
 use interpolation::settle::settle;
 use known::Undecided;
-use known::below;
+use known::as_answer_here;
 use known::governs;
 use known::tests_within;
 use summary::Summary;
@@ -127,7 +127,7 @@ pub fn nearest_by(
     doubtful: [u8; MOST_DOUBT],
     doubt: usize,
     summary: Summary,
-) -> Found
+) -> Finding
     requires { ⌜ SummaryOf (columnOf symbols (now costs)) summary ⌝ }
     ensures { λ r. ⌜ r ≡ nearestOf rate (now (costs .entry)) doubtful doubt ⌝ }
 {
@@ -161,7 +161,7 @@ pub fn nearest_by(
     if governs(known, word, rate, undecided, counts, blank) {
         let codeword = known.codeword;
         let tests = tests_within(codeword, word, costs, rate, undecided, counts, blank);
-        return told(below(known, tests, costs));
+        return told(as_answer_here(known, tests, costs));
     }
     let m = top_order(rate);
     let limit = largest_key(rate, blank);
@@ -182,7 +182,7 @@ pub fn nearest_by(
 }
 
 // The same by the costs alone.
-pub fn nearest(rate: usize, costs: &[u16], doubtful: [u8; MOST_DOUBT], doubt: usize) -> Found
+pub fn nearest(rate: usize, costs: &[u16], doubtful: [u8; MOST_DOUBT], doubt: usize) -> Finding
     ensures { λ r. ⌜ r ≡ nearestOf rate (now (costs .entry)) doubtful doubt ⌝ }
 {
     nearest_by(rate, costs, doubtful, doubt, summary_of(costs))

@@ -1,3 +1,3 @@
-pub mod Marked
+pub mod Fourths
 pub mod Tabled
 pub mod Turns

@@ -1,6 +1,6 @@
 pub mod Moved
 pub mod Duals
 pub mod Reading
-pub mod Marked
+pub mod Fourths
 pub mod Recovery
 pub mod Bytes

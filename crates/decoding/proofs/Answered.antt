@@ -45,7 +45,7 @@ use Rattle.book.specs.Table.{closed}
 use Rattle.book.specs.Here.{decodeOf}
 use Rattle.book.specs.Closing as BookClosing
 use Rattle.answers.specs.declared.Answer.the-variants.{NoneNear, Near}
-use Rattle.answers.specs.declared.Found.{Found}
+use Rattle.answers.specs.declared.Finding.{Finding}
 use Rattle.answers.specs.Result.{totalIs, total-near, nothingFound}
 use Rattle.answers.specs.Nearest.{nearest-nobody, nearest-somebody, nearest-margin}
 use Rattle.chase.specs.Call.{Asked, NearestCall}
@@ -77,7 +77,7 @@ markable rate costs m w f d =
       few = omega (arith, d);
     }
 
-module _ {rate : ℕ} {costs doubtful : List ℕ} {doubt : ℕ} (askable : Askable rate costs doubtful doubt) {f : Found}
+module _ {rate : ℕ} {costs doubtful : List ℕ} {doubt : ℕ} (askable : Askable rate costs doubtful doubt) {f : Finding}
     (call : NearestCall rate costs doubtful doubt f) where
   abbrev columns : ℕ → List ℕ
   columns = columnOf symbols costs
@@ -95,7 +95,7 @@ module _ {rate : ℕ} {costs doubtful : List ℕ} {doubt : ℕ} (askable : Askab
       go (no h) =
           absurd
           (Option·none-ne-some t
-          (sym (ap (λ (g : Found). totalIs (g .answer)) (call .refused (unasked-blank rate costs doubtful doubt (omega arith)))) ∙ total-near e))
+          (sym (ap (λ (g : Finding). totalIs (g .answer)) (call .refused (unasked-blank rate costs doubtful doubt (omega arith)))) ∙ total-near e))
 
   pub tests-few : (t : ℕ) (margin : Margin) → f .answer ≡ Near t margin → f .tests ≤ 2 ^ mostDoubt
   tests-few t margin e =

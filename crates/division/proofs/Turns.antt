@@ -2,7 +2,7 @@
 --
 --   powers-are        the four arrays that `y_powers` makes are yPowers
 --   next-lt           each coefficient is a symbol
---   Found             the coefficients of the quotient from `left` on are found, and the rest is q0 without their multiples of q1
+--   DividedSoFar             the coefficients of the quotient from `left` on are found, and the rest is q0 without their multiples of q1
 --   Dividing q0 q1 powers m lead by left rest out   so it is where q1 has a lead that leaves room
 --   dividing-start, dividing-turn, dividing-end     before the loop, at each turn, after it
 use mathlib.Core.Bool.{Bool, true, false, cond}
@@ -45,7 +45,7 @@ next-lt rest at o by = go (ltb (o / 4) (o % 4)) (ltb 63 at)
     go false false = times-lt _ _
 
 -- what is found so far, where q1 has a lead and there is room
-pub record Found (q0 q1 : List ℕ) (m l left : ℕ) (rest out : List ℕ) : Type 0 where
+pub record DividedSoFar (q0 q1 : List ℕ) (m l left : ℕ) (rest out : List ℕ) : Type 0 where
   pub remains : coef rest ≡ remainder K16 4 l (coef q1) m (coef q0) (suc m - left)
   pub quotients : (o : ℕ) → left ≤ o → o ≤ m
       → toF (getD out o 0) ≡ quotientAt K16 4 l (coef q1) o (remainder K16 4 l (coef q1) m (coef q0) (m - o))
@@ -60,7 +60,7 @@ pub record Dividing (q0 q1 : List ℕ) (powers : List (List ℕ)) (m lead by lef
   pub out-size : length out ≡ 64
   pub symbols : (o : ℕ) → getD out o 0 < 16
   pub none : (o : ℕ) → m < o → getD out o 0 ≡ 0
-  pub found : (l : ℕ) → Roomy q1 l m → Found q0 q1 m l left rest out
+  pub found : (l : ℕ) → Roomy q1 l m → DividedSoFar q0 q1 m l left rest out
 
 blank-at : (n o : ℕ) → _≡_ {A = ℕ} (getD (replicate n 0) o 0) 0
 blank-at zero o = refl
@@ -123,7 +123,7 @@ module _ {q0 q1 : List ℕ} {powers : List (List ℕ)} {m lead by left : ℕ} {r
           subst (λ x. x < 16) (sym (ap (λ j. getD (set out o a) j 0) e ∙ same ∙ ea)) (next-lt rest (lead + o) o by)
       below k (no e) = subst (λ x. x < 16) (sym (getD-set-other out o k a 0 e)) (d .symbols k)
 
-      later : (l : ℕ) → Roomy q1 l m → Found q0 q1 m l o next (set out o a)
+      later : (l : ℕ) → Roomy q1 l m → DividedSoFar q0 q1 m l o next (set out o a)
       later l room =
           record {
             remains =

@@ -31,7 +31,7 @@ use Rattle.near.specs.Near.{nearTo, codewordNear}
 use Rattle.near.specs.Reach.{Repairable, radius}
 use Rattle.near.specs.Tree.{decided-through}
 use Rattle.near.specs.Interpolated.{nodesOf}
-use Rattle.near.specs.Held.{Held, limit-decides, word-spent}
+use Rattle.near.specs.Decider.{Decider, limit-decides, word-spent}
 use Rattle.near.specs.Governing.{Only, only-near, only-far}
 use Rattle.near.specs.Here.{mOf, reachOf, blankLimit, limitOf}
 use Rattle.interpolant.specs.LeastQ.{readingLength, readingOf}

@@ -20,7 +20,7 @@ use Rattle.planes.specs.Lanes.{Planes, lane, lane-up, lane-down}
 use Rattle.planes.specs.Elements.{element, element-like, element-xor}
 use Rattle.planes.specs.Arrays.{planesIn, elementAt}
 use Rattle.coefficients.specs.Moved.{placedAt, element-placed}
-use Rattle.coefficients.specs.Marked.{marks-16}
+use Rattle.coefficients.specs.Fourths.{marks-16}
 use Rattle.coefficients.specs.Reading.{marks}
 use Rattle.family.specs.Curve.{xOf}
 use Rattle.family.specs.Member.{m16, places}

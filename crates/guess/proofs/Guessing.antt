@@ -28,7 +28,7 @@ use Rattle.planes.specs.Elements.{element}
 use Rattle.planes.specs.Arrays.{planesIn, elementAt, symbolAt, symbol-lt, element-symbol, symbolsOf, Carries, productOf, product-element}
 use Rattle.coefficients.specs.Moved.{folded, element-folded}
 use Rattle.answers.specs.declared.Answer.the-variants.{NoneNear}
-use Rattle.answers.specs.declared.Found.{Found}
+use Rattle.answers.specs.declared.Finding.{Finding}
 use Rattle.answers.specs.Answered.{Sound, sound-none, sound-nothing}
 use Rattle.candidate.specs.declared.Candidate.{Candidate}
 use Rattle.candidate.specs.Candidate.{ShownOf}
@@ -291,5 +291,5 @@ pub known-shown : {k : ℕ} {values : List ℕ} {held : Candidate} → ShownOf k
     → KnownFirst k (record { answer = NoneNear; message = held .message; codeword = held .codeword; tests = 0 })
 known-shown S = record { sound = λ columns. sound-none refl (S .word-of) (S .behind) (S .encoded) }
 
-pub known-nothing : {k : ℕ} {f : Found} → k ≤ mostRate → f ≡ nothingFound → KnownFirst k f
+pub known-nothing : {k : ℕ} {f : Finding} → k ≤ mostRate → f ≡ nothingFound → KnownFirst k f
 known-nothing {k} few e = record { sound = λ columns. subst (Sound k columns) (sym e) (sound-nothing few) }

@@ -20,7 +20,7 @@ use Rattle.galois.specs.Field16.{K16, value, toF}
 use Rattle.family.specs.Member.{Member, m16, places, symbols, px, py}
 use Rattle.curve.specs.Curve.{xOf, yOf}
 use Rattle.planes.specs.Arrays.{symbolsOf}
-use Rattle.answers.specs.declared.Found.{Found}
+use Rattle.answers.specs.declared.Finding.{Finding}
 use Rattle.answers.specs.Answered.{Sound}
 use Rattle.guess.specs.declared.Sums.{Sums}
 
@@ -66,5 +66,5 @@ pub record WrongPlace (word : List ℕ) (change r : ℕ) : Type 0 where
   pub alone : r < places m16 → AloneAt m16 (symbolsOf word) (toF change) r
   pub nowhere : places m16 ≤ r → (p : ℕ) → p < places m16 → AloneAt m16 (symbolsOf word) (toF change) p → ⊥
 
-pub record KnownFirst (k : ℕ) (f : Found) : Type 0 where
+pub record KnownFirst (k : ℕ) (f : Finding) : Type 0 where
   pub sound : (columns : ℕ → List ℕ) → Sound k columns f

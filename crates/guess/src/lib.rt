@@ -9,7 +9,7 @@ ghost use Rattle.planes.specs.Arrays.{elementAt};
 ghost use Rattle.candidate.specs.Ranged.{Ranged};
 ghost use Rattle.guess.specs.Guess.{overall, foldedOf, symbolIn, withBit, SumsOf, PlaceAt, WrongPlace, KnownFirst};
 use answers::Answer;
-use answers::Found;
+use answers::Finding;
 use answers::none_near;
 use candidate::Word;
 use candidate::shown;
@@ -128,14 +128,14 @@ fn wrong_place(word: Word, told: Sums) -> usize
 }
 
 // The codeword that a word shows, known and not yet asked.
-fn known_of(word: Word, k: usize) -> Found
+fn known_of(word: Word, k: usize) -> Finding
     requires { ⌜ Ranged k ⌝ }
     ensures { λ r. ⌜ KnownFirst k r ⌝ }
 {
     let held = shown(planes(word), k);
     let message = held.message;
     let codeword = held.codeword;
-    Found {
+    Finding {
         answer: Answer::NoneNear,
         message,
         codeword,
@@ -144,7 +144,7 @@ fn known_of(word: Word, k: usize) -> Found
 }
 
 // The word with one wrong symbol mended.
-fn mended(word: Word, told: Sums, k: usize) -> Found
+fn mended(word: Word, told: Sums, k: usize) -> Finding
     requires { ⌜ Ranged k × SumsOf word told × (0 < told .all) ⌝ }
     ensures { λ r. ⌜ KnownFirst k r ⌝ }
 {
@@ -158,7 +158,7 @@ fn mended(word: Word, told: Sums, k: usize) -> Found
 }
 
 // The sums of a codeword are zero. Where the word is neither one nor one but for a symbol, by these sums, the zero word is known.
-pub fn first_known(word: Word, k: usize) -> Found
+pub fn first_known(word: Word, k: usize) -> Finding
     requires { ⌜ Ranged k ⌝ }
     ensures { λ r. ⌜ KnownFirst k r ⌝ }
 {

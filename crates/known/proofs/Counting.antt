@@ -21,14 +21,14 @@ use Rattle.family.specs.Member.{m16}
 use Rattle.near.specs.Here.{mOf, reachOf}
 use Rattle.near.specs.Choices.{choices-left, choices-far, choices-some, choices-every}
 use Rattle.answers.specs.declared.Answer.{Answer}
-use Rattle.answers.specs.declared.Found.{Found}
-use Rattle.known.specs.Known.{filledOf, governsOf, closestOf, agreeingIn, WithinOf, totalFor, knownTotal}
+use Rattle.answers.specs.declared.Finding.{Finding}
+use Rattle.known.specs.Known.{filledOf, governsOf, closestTest, agreeingIn, WithinOf, totalFor, knownTotal}
 
 -- two words differ in no more places than there are
 pub distance-small : (counts : ℕ → Bool) (u v : List ℕ) → differingIn counts places u v ≤ places
 distance-small counts u v = omega (arith, differing-fewer counts places u v, differing-le places u v)
 
-module _ (k : ℕ) (counts : List ℕ) (b : ℕ) (known : Found) (word ps : List ℕ) where
+module _ (k : ℕ) (counts : List ℕ) (b : ℕ) (known : Finding) (word ps : List ℕ) where
   pub governs-by : (left d r m : ℕ) (agreed : List ℕ) → length ps ≡ left → agreed ≡ filledOf (known .codeword) word ps
       → d ≡ differingIn (flagAt counts) places (known .codeword) agreed → r ≡ reachOf k b → m ≡ places - mOf k
       → ltb (d + left + r) (m - b) ≡ governsOf k counts b known word ps
@@ -52,7 +52,7 @@ shifted a m k w h l = mod-eq-of-lt (omega (arith, mul-le-mul-right (2 ^ k) h, po
 
 -- the three cases of counting below a node
 module _ (k b : ℕ) (counts costs c word ps : List ℕ) (left : ℕ) (long : length c ≡ places) (size : length word ≡ places) (left-is : length ps ≡ left)
-    (nearest : List ℕ) (nearest-is : nearest ≡ closestOf (columnOf symbols costs) c word ps) (r d : ℕ) (r-is : r ≡ reachOf k b)
+    (nearest : List ℕ) (nearest-is : nearest ≡ closestTest (columnOf symbols costs) c word ps) (r d : ℕ) (r-is : r ≡ reachOf k b)
     (d-is : d ≡ differingIn (flagAt counts) places c nearest) where
   other : (p : ℕ) → secondAt (columnOf symbols costs) p ≢ bestAt (columnOf symbols costs) p
   other p = second-other (columnOf symbols costs p) (omega (arith, column-length symbols costs p))
@@ -60,7 +60,7 @@ module _ (k b : ℕ) (counts costs c word ps : List ℕ) (left : ℕ) (long : le
   abbrev Counted : ℕ → Type 0
   Counted n = WithinOf k counts b (columnOf symbols costs) c word ps left n
 
-  apart : d ≡ differingIn (flagAt counts) places c (closestOf (columnOf symbols costs) c word ps)
+  apart : d ≡ differingIn (flagAt counts) places c (closestTest (columnOf symbols costs) c word ps)
   apart = d-is ∙ ap (differingIn (flagAt counts) places c) nearest-is
 
   pub counted-far : r < d → Counted 0
@@ -68,7 +68,7 @@ module _ (k b : ℕ) (counts costs c word ps : List ℕ) (left : ℕ) (long : le
       choices-far m16 (flagAt counts) (reachOf k b) (columnOf symbols costs) other c (omega arith) word ps size left r d _ left-is r-is apart refl far
 
   module _ (m : ℕ) (m-is : m ≡ agreeingIn counts c nearest ps) (near : d ≤ r) where
-    agreed : m ≡ agreeingIn counts c (closestOf (columnOf symbols costs) c word ps) ps
+    agreed : m ≡ agreeingIn counts c (closestTest (columnOf symbols costs) c word ps) ps
     agreed = m-is ∙ ap (λ u. agreeingIn counts c u ps) nearest-is
 
     pub agreed-left : m ≤ left
@@ -85,7 +85,7 @@ module _ (k b : ℕ) (counts costs c word ps : List ℕ) (left : ℕ) (long : le
         subst Counted (sym (ap (λ a. a * 2 ^ (left - m) % 2 ^ w) n-is ∙ shifted (choicesOf m (r - d)) m (left - m) w (choices-few m (r - d)) (omega (arith, agreed-left))))
         (choices-some m16 (flagAt counts) (reachOf k b) (columnOf symbols costs) other c (omega arith) word ps size left r d m left-is r-is apart agreed near)
 
-module _ (columns : ℕ → List ℕ) (known : Found) where
+module _ (columns : ℕ → List ℕ) (known : Finding) where
   pub total-by : {a : Answer} → known .answer ≡ a → totalFor columns (known .codeword) a ≡ knownTotal columns known
   unfolding knownTotal
   total-by e = ap (totalFor columns (known .codeword)) (sym e)

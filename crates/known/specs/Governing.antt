@@ -29,37 +29,37 @@ use Rattle.near.specs.Near as Near
 use Rattle.near.specs.Runner.{margin-governed}
 use Rattle.near.specs.Within as Within
 use Rattle.near.specs.Governing.{Governed, Only, expand-outside, governed-outside, governed-only, within-tests, within-some, within-none}
-use Rattle.candidate.specs.Marked.{Marked, reach-marked, differing-marked}
+use Rattle.candidate.specs.OpenFlags.{OpenFlags, reach-marked, differing-marked}
 use Rattle.answers.specs.declared.Answer.{Answer}
 use Rattle.answers.specs.declared.Answer.the-variants.{NoneNear, Near}
-use Rattle.answers.specs.declared.Found.{Found as Answered}
+use Rattle.answers.specs.declared.Finding.{Finding}
 use Rattle.answers.specs.Result.{total-near}
 use Rattle.answers.specs.Nearest.{Nearest, nearest-some}
 use Rattle.answers.specs.Answered.{counted, answering, missedOf, Sound, sound-counted, sound-missed, sound-answering, nearest-missed}
-use Rattle.known.specs.Known.{filledOf, governsOf, testsWithin, totalFor, knownTotal, belowOf}
+use Rattle.known.specs.Known.{filledOf, governsOf, testsWithin, totalFor, knownTotal, answerHere}
 
-module _ (columns : ℕ → List ℕ) (known : Answered) (tests : ℕ) where
+module _ (columns : ℕ → List ℕ) (known : Finding) (tests : ℕ) where
   -- the known codeword is the answer, without a runner-up
-  abbrev alone : Answered
+  abbrev alone : Finding
   alone = counted tests (answering (Near (knownTotal columns known) Absent) known)
 
-  pub below-none : tests ≡ 0 → belowOf columns known tests ≡ missedOf known
-  unfolding belowOf
+  pub below-none : tests ≡ 0 → answerHere columns known tests ≡ missedOf known
+  unfolding answerHere
   below-none z = ap (λ b. cond b (missedOf known) alone) (eq-eqb tests 0 z)
 
-  pub below-some : (tests ≡ 0 → ⊥) → belowOf columns known tests ≡ alone
-  unfolding belowOf
+  pub below-some : (tests ≡ 0 → ⊥) → answerHere columns known tests ≡ alone
+  unfolding answerHere
   below-some n = ap (λ b. cond b (missedOf known) alone) (ne-eqb tests 0 n)
 
-  pub below-tests : belowOf columns known tests .tests ≡ tests
+  pub below-tests : answerHere columns known tests .tests ≡ tests
   unfolding missedOf counted answering
   below-tests = go (ℕ-discrete tests 0)
     where
-      go : Dec (tests ≡ 0) → belowOf columns known tests .tests ≡ tests
-      go (yes z) = ap (λ (f : Answered). f .tests) (below-none z) ∙ sym z
-      go (no n) = ap (λ (f : Answered). f .tests) (below-some n)
+      go : Dec (tests ≡ 0) → answerHere columns known tests .tests ≡ tests
+      go (yes z) = ap (λ (f : Finding). f .tests) (below-none z) ∙ sym z
+      go (no n) = ap (λ (f : Finding). f .tests) (below-some n)
 
-module _ {k : ℕ} {columns : ℕ → List ℕ} {known : Answered} (s : Sound k columns known) where
+module _ {k : ℕ} {columns : ℕ → List ℕ} {known : Finding} (s : Sound k columns known) where
   pub known-total : knownTotal columns known ≡ messageCost k columns (take k (known .message))
   unfolding knownTotal totalFor Near.messageCost
   known-total = go (known .answer) refl
@@ -68,15 +68,15 @@ module _ {k : ℕ} {columns : ℕ → List ℕ} {known : Answered} (s : Sound k 
       go NoneNear e = ap (totalOf places columns) (s .encoded)
       go (Near t d) e = s .cost t (total-near e)
 
-  pub sound-below : (tests : ℕ) → Sound k columns (belowOf columns known tests)
-  unfolding belowOf
+  pub sound-below : (tests : ℕ) → Sound k columns (answerHere columns known tests)
+  unfolding answerHere
   sound-below tests = go (eqb tests 0)
     where
       go : (b : Bool) → Sound k columns (cond b (missedOf known) (alone columns known tests))
       go true = sound-missed s
       go false = sound-counted tests (sound-answering Absent known-total s)
 
-  module _ (rate : Workable k) {counts : List ℕ} {b : ℕ} (marked : Marked k columns counts b) where
+  module _ (rate : Workable k) {counts : List ℕ} {b : ℕ} (marked : OpenFlags k columns counts b) where
     abbrev on : ℕ → Bool
     on = openAt columns
 
@@ -99,7 +99,7 @@ module _ {k : ℕ} {columns : ℕ → List ℕ} {known : Answered} (s : Sound k 
         governed-only m16 on T rate (s .word) t n (subst (λ u. Governed m16 on T k u t) (s .encoded) g) f
 
     pub governed-nearest : (ts : List (List ℕ)) → ((t : List ℕ) → List·Memᴰ t ts → Only m16 on T k m t) → (tests : ℕ)
-        → tests ≡ testsWithin k counts b (known .codeword) ts → Nearest k columns ts (belowOf columns known tests)
+        → tests ≡ testsWithin k counts b (known .codeword) ts → Nearest k columns ts (answerHere columns known tests)
     unfolding counted answering marginIs
     governed-nearest ts only tests within = go (ℕ-discrete tests 0)
       where
@@ -108,7 +108,7 @@ module _ {k : ℕ} {columns : ℕ → List ℕ} {known : Answered} (s : Sound k 
             within ∙ ap₂ (λ f r. Within.testsWithin m16 f r (known .codeword) ts) (marked .flags) (reach-marked marked)
             ∙ ap (λ u. Within.testsWithin m16 on T u ts) (s .encoded)
 
-        go : Dec (tests ≡ 0) → Nearest k columns ts (belowOf columns known tests)
+        go : Dec (tests ≡ 0) → Nearest k columns ts (answerHere columns known tests)
         go (yes z) =
             subst (Nearest k columns ts) (sym (below-none columns known tests z))
             (nearest-missed known (within-none m16 on T rate (s .word) columns ts only (sym count ∙ z)))

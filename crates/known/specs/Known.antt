@@ -5,12 +5,12 @@
 --   filledOf c word ps     the word with the symbols of c at the places ps, as the family has it
 --   governsOf k counts b known word ps   whether the known codeword is so close to the word, by the flags of the places that count and the number
 --                          of the others: the places outside ps where it differs from the word, ps, and T are together less than n − M − b
---   closestOf columns c word ps   the test word closest to c, and agreeingIn counts c u ps, at how many of the places ps that count u has the symbol of c:
+--   closestTest columns c word ps   the test word closest to c, and agreeingIn counts c u ps, at how many of the places ps that count u has the symbol of c:
 --                          as the family has them
 --   testsWithin k counts b c tests   how many test words are within T of the codeword c, as the family has it
 --   WithinOf k counts b …  what counting them below a node finds, as the family has it
 --   knownTotal columns known   the total of the known codeword, from the answer that it stands beside, if it is one
---   belowOf columns known tests   what is found where tests of the test words are within T of the known codeword, and no other codeword is near: it is
+--   answerHere columns known tests   what is found where tests of the test words are within T of the known codeword, and no other codeword is near: it is
 --                          the answer, without a runner-up, or none is near
 use mathlib.Core.Bool.{Bool, cond}
 use mathlib.Core.List.{List}
@@ -30,7 +30,7 @@ use Rattle.near.specs.Written as Written
 use Rattle.near.specs.Choices as Choices
 use Rattle.answers.specs.declared.Answer.{Answer}
 use Rattle.answers.specs.declared.Answer.the-variants.{NoneNear, Near}
-use Rattle.answers.specs.declared.Found.{Found}
+use Rattle.answers.specs.declared.Finding.{Finding}
 use Rattle.answers.specs.Answered.{counted, answering, missedOf}
 use Rattle.known.specs.declared.Undecided.{Undecided}
 
@@ -43,12 +43,12 @@ Fits u = (u .doubt ≤ mostDoubt) × (u .left ≤ u .doubt)
 abbrev pub filledOf : List ℕ → List ℕ → List ℕ → List ℕ
 filledOf c word ps = Governing.filledOf places c word ps
 
-unfoldable pub governsOf : ℕ → List ℕ → ℕ → Found → List ℕ → List ℕ → Bool
+unfoldable pub governsOf : ℕ → List ℕ → ℕ → Finding → List ℕ → List ℕ → Bool
 governsOf k counts b known word ps =
     ltb (differingIn (flagAt counts) places (known .codeword) (filledOf (known .codeword) word ps) + length ps + reachOf k b) (places - mOf k - b)
 
-abbrev pub closestOf : (ℕ → List ℕ) → List ℕ → List ℕ → List ℕ → List ℕ
-closestOf columns c word ps = Choices.closestOf places columns c word ps
+abbrev pub closestTest : (ℕ → List ℕ) → List ℕ → List ℕ → List ℕ → List ℕ
+closestTest columns c word ps = Choices.closestTest places columns c word ps
 
 abbrev pub agreeingIn : List ℕ → List ℕ → List ℕ → List ℕ → ℕ
 agreeingIn counts c u ps = Written.agreeingIn places (flagAt counts) c u ps
@@ -64,8 +64,8 @@ unfoldable pub totalFor : (ℕ → List ℕ) → List ℕ → Answer → ℕ
 totalFor columns c NoneNear = totalOf places columns c
 totalFor columns c (Near t d) = t
 
-unfoldable pub knownTotal : (ℕ → List ℕ) → Found → ℕ
+unfoldable pub knownTotal : (ℕ → List ℕ) → Finding → ℕ
 knownTotal columns known = totalFor columns (known .codeword) (known .answer)
 
-unfoldable pub belowOf : (ℕ → List ℕ) → Found → ℕ → Found
-belowOf columns known tests = cond (eqb tests 0) (missedOf known) (counted tests (answering (Near (knownTotal columns known) Absent) known))
+unfoldable pub answerHere : (ℕ → List ℕ) → Finding → ℕ → Finding
+answerHere columns known tests = cond (eqb tests 0) (missedOf known) (counted tests (answering (Near (knownTotal columns known) Absent) known))

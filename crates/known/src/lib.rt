@@ -11,9 +11,9 @@ ghost use Rattle.soft.specs.Doubt.{mostDoubt};
 ghost use Rattle.near.specs.Here.{blankLimit};
 ghost use Rattle.near.specs.Choices.{closerOf};
 ghost use Rattle.candidate.specs.Ranged.{Ranged};
-ghost use Rattle.known.specs.Known.{leftOf, Fits, filledOf, governsOf, closestOf, agreeingIn, WithinOf, knownTotal, belowOf};
+ghost use Rattle.known.specs.Known.{leftOf, Fits, filledOf, governsOf, closestTest, agreeingIn, WithinOf, knownTotal, answerHere};
 use answers::Answer;
-use answers::Found;
+use answers::Finding;
 use answers::missed;
 use candidate::Word;
 use candidate::distance;
@@ -56,7 +56,7 @@ fn filled(codeword: Word, word: Word, undecided: Undecided) -> Word
 // differ in at least 64 - M without the blank ones; and the known one differs from such a test word only in decided places in which it differs
 // from the word, and in places left.
 pub fn governs(
-    known: Found,
+    known: Finding,
     word: Word,
     k: usize,
     undecided: Undecided,
@@ -90,7 +90,7 @@ fn closer(symbol: u8, column: [u16; SYMBOLS]) -> u8
 // The test word below a node that differs least from the codeword.
 fn closest(codeword: Word, word: Word, costs: &[u16], undecided: Undecided) -> Word
     requires { ⌜ Fits undecided ⌝ }
-    ensures { λ r. ⌜ r ≡ closestOf (columnOf symbols (now (costs .entry))) codeword word (leftOf undecided) ⌝ }
+    ensures { λ r. ⌜ r ≡ closestTest (columnOf symbols (now (costs .entry))) codeword word (leftOf undecided) ⌝ }
 {
     let doubtful = undecided.doubtful;
     let doubt = undecided.doubt;
@@ -181,7 +181,7 @@ pub fn tests_within(
 }
 
 // The total of the known codeword: it stands in the answer, where there is one.
-fn known_total(known: Found, costs: &[u16]) -> u32
+fn known_total(known: Finding, costs: &[u16]) -> u32
     ensures { λ r. ⌜ r ≡ knownTotal (columnOf symbols (now (costs .entry))) known ⌝ }
 {
     let answer = known.answer;
@@ -198,15 +198,15 @@ fn known_total(known: Found, costs: &[u16]) -> u32
 
 // The known codeword as the answer of the test words below a node, where so many of them are within T of it and no other is near. So it has
 // no runner-up there, whatever rivals it has elsewhere.
-pub fn below(known: Found, tests: usize, costs: &[u16]) -> Found
-    ensures { λ r. ⌜ r ≡ belowOf (columnOf symbols (now (costs .entry))) known tests ⌝ }
+pub fn as_answer_here(known: Finding, tests: usize, costs: &[u16]) -> Finding
+    ensures { λ r. ⌜ r ≡ answerHere (columnOf symbols (now (costs .entry))) known tests ⌝ }
 {
     if tests == 0 {
         return missed(known);
     }
     let message = known.message;
     let codeword = known.codeword;
-    Found {
+    Finding {
         answer: Answer::Near {
             total: known_total(known, costs),
             margin: Margin::Absent,

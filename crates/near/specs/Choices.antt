@@ -3,7 +3,7 @@
 --
 --   closerOf symbol column       of the best and the second symbol the given one, if it is one of them, and the best otherwise
 --   closer-second, closer-best, closer-same   by cases
---   closestOf n columns c word ps   the test word closest to c: at each of the places ps, each taken below n, the closer symbol
+--   closestTest n columns c word ps   the test word closest to c: at each of the places ps, each taken below n, the closer symbol
 --   count-choices                d places in which c and the closest test word differ, m of the l places ps at which they agree and that count:
 --                                2 ^ (l − m) times the choices at m places that change at most T − d of them are within T, or none if d is above T
 --   choices-left                 m is at most l
@@ -54,8 +54,8 @@ closer-same symbol column e = go (ℕ-discrete symbol (secondOf column))
 abbrev pub closerAt : (ℕ → List ℕ) → List ℕ → ℕ → ℕ
 closerAt columns c p = closerOf (getD c p 0) (columns p)
 
-abbrev pub closestOf : ℕ → (ℕ → List ℕ) → List ℕ → List ℕ → List ℕ → List ℕ
-closestOf n columns c word ps = writtenOf n (closerAt columns c) word ps
+abbrev pub closestTest : ℕ → (ℕ → List ℕ) → List ℕ → List ℕ → List ℕ → List ℕ
+closestTest n columns c word ps = writtenOf n (closerAt columns c) word ps
 
 -- one place more, at which the two test words differ equally from c, or one of them once more
 doubled : (reach : ℕ) (b : Bool) (l m d : ℕ) → m ≤ l
@@ -95,7 +95,7 @@ module _ (𝓜 : Member) (counts : ℕ → Bool) (reach : ℕ) (columns : ℕ �
   within tests = testsWithin 𝓜 counts reach c tests
 
   abbrev closest : List ℕ → List ℕ → List ℕ
-  closest word ps = closestOf n columns c word ps
+  closest word ps = closestTest n columns c word ps
 
   abbrev agreeing : List ℕ → List ℕ → ℕ
   agreeing u ps = agreeingIn n counts c u ps

@@ -8,7 +8,7 @@ pub mod Distance
 pub mod Cheapest
 pub mod Tree
 pub mod Result
-pub mod Held
+pub mod Decider
 pub mod Left
 pub mod Written
 pub mod Flags

@@ -26,7 +26,7 @@ use lib.ListN.{getD, set, replicate}
 use Rattle.lists.specs.Count.{sumOf, count, kept}
 use Rattle.lists.specs.Every.{every}
 use Rattle.lists.specs.Listed.{listed}
-use Rattle.soft.specs.Column.{symbols, ceiling, costOf, firstBut, betterOf, bestBut, bestOf, secondOf, gapOf, countedGap, doubtGapOf, isBlank}
+use Rattle.soft.specs.Column.{symbols, ceiling, costOf, firstBut, cheaperOf, bestBut, bestOf, secondOf, gapOf, countedGap, doubtGapOf, isBlank}
 use Rattle.soft.specs.Bits.{bits, isNegative, magnitude, favoured, contradicts, bitCost, bitOf, symbolCost, bitColumn}
 use Rattle.soft.specs.Doubt.{mostDoubt, aheadBy, aheadOf}
 use Rattle.soft.specs.Threshold.{closest, closestOf}
@@ -42,7 +42,7 @@ unfoldable pub case10 : Bool
 case10 = reads (replicate symbols ceiling) 0 1 0
 
 pub c9 : T case9
-unfolding case9 reads bestOf secondOf gapOf bestBut betterOf firstBut
+unfolding case9 reads bestOf secondOf gapOf bestBut cheaperOf firstBut
 c9 = tt
 
 pub c9-open : isBlank (set (set (replicate symbols 7) 5 0) 9 0) ≡ false
@@ -54,7 +54,7 @@ unfolding isBlank every
 c10-blank = refl
 
 pub c10 : T case10
-unfolding case10 reads bestOf secondOf gapOf bestBut betterOf firstBut
+unfolding case10 reads bestOf secondOf gapOf bestBut cheaperOf firstBut
 c10 = tt
 
 unfoldable pub case105 : Bool
@@ -109,9 +109,9 @@ abbrev table : ℕ → List ℕ
 table p = getD ((0 ∷ 5 ∷ 9 ∷ []) ∷ (7 ∷ 7 ∷ 7 ∷ []) ∷ pinnedColumn ∷ (5 ∷ 8 ∷ 2 ∷ []) ∷ []) p []
 
 pub c108-table : (closestOf 4 0 mostDoubt table ≡ 3 ∷ []) × (closestOf 4 ceiling 1 table ≡ 3 ∷ []) × (closestOf 4 ceiling mostDoubt table ≡ 0 ∷ 3 ∷ [])
-unfolding closestOf closest kept aheadOf aheadBy count sumOf isBlank every doubtGapOf countedGap bestOf secondOf bestBut betterOf firstBut
+unfolding closestOf closest kept aheadOf aheadBy count sumOf isBlank every doubtGapOf countedGap bestOf secondOf bestBut cheaperOf firstBut
 c108-table = (refl, refl, refl)
 
 pub c108-pinned : closestOf 4 ceiling mostDoubt (λ p. pinnedColumn) ≡ 0 ∷ []
-unfolding closestOf closest kept aheadOf aheadBy count sumOf isBlank every doubtGapOf countedGap bestOf secondOf bestBut betterOf firstBut
+unfolding closestOf closest kept aheadOf aheadBy count sumOf isBlank every doubtGapOf countedGap bestOf secondOf bestBut cheaperOf firstBut
 c108-pinned = refl

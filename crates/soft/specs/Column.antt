@@ -7,7 +7,7 @@
 --   gapOf column           the gap (reliability): second cost minus best cost
 --   doubtGapOf column      the gap as it counts for choosing doubtful places; countedGap: of a best and a second cost
 --   isBlank column         the column is blank (an erasure): all its costs are equal
---   bestBut column b n     the best of the first n symbols, b left out; step by step, firstBut and betterOf
+--   bestBut column b n     the best of the first n symbols, b left out; step by step, firstBut and cheaperOf
 --   numberOf w column s    the cost of the symbol s times a width, plus the symbol: it puts symbols in order, equal costs to the smaller one
 --   pairAt bytes i         the number in two bytes, high first
 --   costsFrom n bytes      n costs from their bytes, two each: a column, or the columns of a table one after the other
@@ -37,11 +37,11 @@ unfoldable pub firstBut : ℕ → ℕ
 firstBut b = cond (eqb b 0) 1 0
 
 -- of the symbol held and the next: the next only if it is not b and costs less
-unfoldable pub betterOf : ℕ → ℕ → ℕ → ℕ → ℕ → ℕ
-betterOf b held heldCost next nextCost = cond (eqb next b) held (cond (ltb nextCost heldCost) next held)
+unfoldable pub cheaperOf : ℕ → ℕ → ℕ → ℕ → ℕ → ℕ
+cheaperOf b held heldCost next nextCost = cond (eqb next b) held (cond (ltb nextCost heldCost) next held)
 
 abbrev pub betterIn : List ℕ → ℕ → ℕ → ℕ → ℕ
-betterIn column b held next = betterOf b held (costOf column held) next (costOf column next)
+betterIn column b held next = cheaperOf b held (costOf column held) next (costOf column next)
 
 unfoldable pub bestBut : List ℕ → ℕ → ℕ → ℕ
 bestBut column b zero = firstBut b

@@ -1,6 +1,6 @@
 -- Laws of a column's best symbol, second symbol and gap, and of the gap as it counts for choosing doubtful places.
 --
---   firstBut-zero, firstBut-other, betterOf-left, betterOf-next, betterOf-held, bestBut-nil, bestBut-suc   the definitions step by step
+--   firstBut-zero, firstBut-other, cheaper-left, cheaper-next, cheaper-held, bestBut-nil, bestBut-suc   the definitions step by step
 --   BestBut column b n r   r is the best of the first n symbols other than b: least cost, and among equal costs the smallest
 --   bestBut-best           bestBut finds it
 --   bestBut-unique         there is only one
@@ -33,7 +33,7 @@ use borrow.Author.Tests.{lt-ltb, le-ltb, eq-eqb, ne-eqb}
 use Rattle.lists.specs.Block.{block, block-length, block-at}
 use Rattle.lists.specs.Least.{leastOf, nextOf, least-is, next-is}
 use Rattle.lists.specs.Listed.{listed, listed-length, listed-at, listed-ext}
-use Rattle.soft.specs.Column.{ceiling, costOf, costFrom, costsFrom, costAt, columnOf, firstBut, betterOf, betterIn, bestBut, bestOf, secondOf, numberOf, gapOf, countedGap, doubtGapOf}
+use Rattle.soft.specs.Column.{ceiling, costOf, costFrom, costsFrom, costAt, columnOf, firstBut, cheaperOf, betterIn, bestBut, bestOf, secondOf, numberOf, gapOf, countedGap, doubtGapOf}
 
 pub firstBut-zero : (b : ℕ) → b ≡ 0 → firstBut b ≡ 1
 unfolding firstBut
@@ -43,17 +43,17 @@ pub firstBut-other : (b : ℕ) → b ≢ 0 → firstBut b ≡ 0
 unfolding firstBut
 firstBut-other b e = simp (ne-eqb b 0 e)
 
-pub betterOf-left : (b held least next cost : ℕ) → next ≡ b → betterOf b held least next cost ≡ held
-unfolding betterOf
-betterOf-left b held least next cost e = simp (eq-eqb next b e)
+pub cheaper-left : (b held least next cost : ℕ) → next ≡ b → cheaperOf b held least next cost ≡ held
+unfolding cheaperOf
+cheaper-left b held least next cost e = simp (eq-eqb next b e)
 
-pub betterOf-next : (b held least next cost : ℕ) → next ≢ b → cost < least → betterOf b held least next cost ≡ next
-unfolding betterOf
-betterOf-next b held least next cost e l = simp (ne-eqb next b e, lt-ltb cost least l)
+pub cheaper-next : (b held least next cost : ℕ) → next ≢ b → cost < least → cheaperOf b held least next cost ≡ next
+unfolding cheaperOf
+cheaper-next b held least next cost e l = simp (ne-eqb next b e, lt-ltb cost least l)
 
-pub betterOf-held : (b held least next cost : ℕ) → next ≢ b → least ≤ cost → betterOf b held least next cost ≡ held
-unfolding betterOf
-betterOf-held b held least next cost e l = simp (ne-eqb next b e, le-ltb cost least l)
+pub cheaper-held : (b held least next cost : ℕ) → next ≢ b → least ≤ cost → cheaperOf b held least next cost ≡ held
+unfolding cheaperOf
+cheaper-held b held least next cost e l = simp (ne-eqb next b e, le-ltb cost least l)
 
 pub bestBut-nil : (column : List ℕ) (b : ℕ) → bestBut column b 0 ≡ firstBut b
 unfolding bestBut
@@ -76,7 +76,7 @@ bestBut-unique column b n r t x y =
     le-antisymm (x .first t (y .below) (y .other) (le-antisymm m l)) (y .first r (x .below) (x .other) (le-antisymm l m))
 
 -- the symbol held after n of them: it may be the first, which is not among them yet
-record Held (column : List ℕ) (b n r : ℕ) : Type 0 where
+record HeldSymbol (column : List ℕ) (b n r : ℕ) : Type 0 where
   place : r < n ⊎ (r ≡ firstBut b)
   other : r ≢ b
   least : (s : ℕ) → s < n → s ≢ b → costOf column r ≤ costOf column s
@@ -104,7 +104,7 @@ first-other b = go (ℕ-discrete b 0)
     go (no z) e = omega (arith, firstBut-other b z)
 
 module _ (column : List ℕ) (b : ℕ) where
-  held-step : (n r : ℕ) → Held column b n r → Held column b (suc n) (betterIn column b r n)
+  held-step : (n r : ℕ) → HeldSymbol column b n r → HeldSymbol column b (suc n) (betterIn column b r n)
   held-step n r h = go (ℕ-discrete n b) (decLe (costOf column r) (costOf column n))
     where
       -- one symbol more: a fact of the earlier ones and of this one
@@ -119,7 +119,7 @@ module _ (column : List ℕ) (b : ℕ) where
       at : n ≢ b → r ≤ n
       at e = ⊎-elim (λ l. omega arith) (λ (q : r ≡ firstBut b). omega (arith, first-le b n e)) (h .place)
 
-      keep : (n ≢ b → costOf column r ≤ costOf column n) → Held column b (suc n) r
+      keep : (n ≢ b → costOf column r ≤ costOf column n) → HeldSymbol column b (suc n) r
       keep l =
           record {
             place = later (h .place);
@@ -128,7 +128,7 @@ module _ (column : List ℕ) (b : ℕ) where
             first = more {P = λ s. costOf column s ≡ costOf column r → r ≤ s} (h .first) (λ e q. at e);
           }
 
-      exchanged : n ≢ b → costOf column n < costOf column r → Held column b (suc n) n
+      exchanged : n ≢ b → costOf column n < costOf column r → HeldSymbol column b (suc n) n
       exchanged e l =
           record {
             place = inl (omega arith);
@@ -141,13 +141,13 @@ module _ (column : List ℕ) (b : ℕ) where
                 (λ z q. omega arith);
           }
 
-      go : Dec (n ≡ b) → Dec (costOf column r ≤ costOf column n) → Held column b (suc n) (betterIn column b r n)
-      go (yes e) d = rw (betterOf-left b r (costOf column r) n (costOf column n) e) (keep (λ z. absurd (z e)))
-      go (no e) (yes l) = rw (betterOf-held b r (costOf column r) n (costOf column n) e l) (keep (λ z. l))
+      go : Dec (n ≡ b) → Dec (costOf column r ≤ costOf column n) → HeldSymbol column b (suc n) (betterIn column b r n)
+      go (yes e) d = rw (cheaper-left b r (costOf column r) n (costOf column n) e) (keep (λ z. absurd (z e)))
+      go (no e) (yes l) = rw (cheaper-held b r (costOf column r) n (costOf column n) e l) (keep (λ z. l))
       go (no e) (no l) =
-          rw (betterOf-next b r (costOf column r) n (costOf column n) e (omega arith)) (exchanged e (omega arith))
+          rw (cheaper-next b r (costOf column r) n (costOf column n) e (omega arith)) (exchanged e (omega arith))
 
-  held-all : (n : ℕ) → Held column b n (bestBut column b n)
+  held-all : (n : ℕ) → HeldSymbol column b n (bestBut column b n)
   held-all zero =
       rw bestBut-nil
       (record { place = inr refl; other = first-other b; least = λ s l. absurd (omega arith); first = λ s l. absurd (omega arith) })

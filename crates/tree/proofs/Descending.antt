@@ -23,16 +23,16 @@ use Rattle.soft.specs.Blank.{openAt}
 use Rattle.soft.specs.BlankLaws.{open-count}
 use Rattle.near.specs.Here.{mOf, reachOf, reachIn, limitOf, blanksIn, Places}
 use Rattle.family.specs.Member.{m16}
-use Rattle.near.specs.Held.{limit-decides}
+use Rattle.near.specs.Decider.{limit-decides}
 use Rattle.near.specs.Tree.{places-cons, decided-step, tree-spent}
-use Rattle.answers.specs.declared.Found.{Found}
+use Rattle.answers.specs.declared.Finding.{Finding}
 use Rattle.answers.specs.Nearest.{Nearest}
 use Rattle.tree.specs.Searching.{Lowest, Ready, DecidedOf, SearchOf, BranchOf}
 use Rattle.candidate.specs.Ranged.{Ranged, workable}
-use Rattle.candidate.specs.Marked.{Marked, reach-marked, repairs-marked}
+use Rattle.candidate.specs.OpenFlags.{OpenFlags, reach-marked, repairs-marked}
 use Rattle.answers.specs.Answered.{counted, missedOf, Sound, nearest-missed}
 use Rattle.answers.specs.Better.{betterOf, better-tests, better-joins}
-use Rattle.known.specs.Known.{governsOf, WithinOf, belowOf}
+use Rattle.known.specs.Known.{governsOf, WithinOf, answerHere}
 use Rattle.near.specs.Left.{places-rest, split-places, twice}
 use Rattle.known.specs.Governing.{below-tests, governs-only, governed-nearest}
 
@@ -51,7 +51,7 @@ lowest-turn leads parity q r p at h a b one l = record { within = h; alike = sam
 
 -- a node that is spent, one that a row decides, and one that has a place left
 module _ {k : ℕ} (rate : Ranged k) (columns : ℕ → List ℕ) (leads : List ℕ) (left L : ℕ) (L-is : L ≡ limitOf k (blanksIn columns)) where
-  pub node-spent : (word ps : List ℕ) (rows : List (List ℕ)) (odd : ℕ) → Lowest leads 1 classes odd → (known : Found) → L < leadAt leads odd
+  pub node-spent : (word ps : List ℕ) (rows : List (List ℕ)) (odd : ℕ) → Lowest leads 1 classes odd → (known : Finding) → L < leadAt leads odd
       → SearchOf k columns word ps rows leads left (missedOf known)
   unfolding missedOf counted
   node-spent word ps rows odd low known far =
@@ -62,8 +62,8 @@ module _ {k : ℕ} (rate : Ranged k) (columns : ℕ → List ℕ) (leads : List 
             (tree-spent m16 (openAt columns) (reachIn k columns) (workable rate) columns (R .decided) refl (R .stored .basis) (λ r h e. omega (arith, L-is, low .lowest r h e)) .1);
       }
 
-  module _ {counts : List ℕ} {b : ℕ} (marked : Marked k columns counts b) (r : ℕ) (r-is : r ≡ reachOf k b) (class : ℕ) (close : leadAt leads class ≤ L) where
-    pub node-decided : (word ps : List ℕ) (rows : List (List ℕ)) (f : Found) → class < classes → length ps ≡ left
+  module _ {counts : List ℕ} {b : ℕ} (marked : OpenFlags k columns counts b) (r : ℕ) (r-is : r ≡ reachOf k b) (class : ℕ) (close : leadAt leads class ≤ L) where
+    pub node-decided : (word ps : List ℕ) (rows : List (List ℕ)) (f : Finding) → class < classes → length ps ≡ left
         → leadAt leads class / 2 + left + r < places - b → DecidedOf k columns word ps (getD rows class []) (leadAt leads class) left f
         → SearchOf k columns word ps rows leads left f
     unfolding rowValues valuesOf
@@ -102,10 +102,10 @@ module _ {k : ℕ} (rate : Ranged k) (columns : ℕ → List ℕ) (leads : List 
 -- one branch: the place is decided with the symbol, by a codeword that is known or by one more node
 module _ {k : ℕ} (rate : Ranged k) (columns : ℕ → List ℕ) (word : List ℕ) (place symbol : ℕ) (ps : List ℕ) (rows : List (List ℕ)) (leads : List ℕ)
     (left : ℕ) (size : length word ≡ places) where
-  pub branch-known : {counts : List ℕ} {b : ℕ} → Marked k columns counts b → (known : Found) (tests : ℕ) (holds : Bool) → Sound k columns known
+  pub branch-known : {counts : List ℕ} {b : ℕ} → OpenFlags k columns counts b → (known : Finding) (tests : ℕ) (holds : Bool) → Sound k columns known
       → holds ≡ governsOf k counts b known (set word place symbol) ps → holds ≡ true
       → WithinOf k counts b columns (known .codeword) (set word place symbol) ps left tests
-      → BranchOf k columns word place symbol ps rows leads left (belowOf columns known tests)
+      → BranchOf k columns word place symbol ps rows leads left (answerHere columns known tests)
   branch-known marked known tests holds sound test governs counted =
       record {
         few = omega (arith, below-tests columns known tests, counted .few);
@@ -130,7 +130,7 @@ module _ {k : ℕ} (rate : Ranged k) (columns : ℕ → List ℕ) (word : List �
               (subst (λ l. Stored (mOf k) word l (R .nodes) rows leads) (sym L-is) (R .stored)));
         }
 
-    pub branch-node : (f : Found) → SearchOf k columns (set word place symbol) ps rows′ leads′ left f
+    pub branch-node : (f : Finding) → SearchOf k columns (set word place symbol) ps rows′ leads′ left f
         → BranchOf k columns word place symbol ps rows leads left f
     branch-node f S = record { few = S .few; finds = λ R P. S .finds (next-ready R P) (places-rest P) }
 
@@ -144,7 +144,7 @@ module _ (doubtful : List ℕ) (doubt left : ℕ) (long : length doubtful ≡ mo
 
   module _ (k : ℕ) (columns : ℕ → List ℕ) (word : List ℕ) (place : ℕ) (place-is : place ≡ x % places) (s o : ℕ) (s-is : s ≡ bestAt columns place)
       (o-is : o ≡ secondAt columns place) where
-    pub node-branch : (rows : List (List ℕ)) (leads : List ℕ) (a b : Found) → BranchOf k columns word place s rest rows leads (left - 1) a
+    pub node-branch : (rows : List (List ℕ)) (leads : List ℕ) (a b : Finding) → BranchOf k columns word place s rest rows leads (left - 1) a
         → BranchOf k columns word place o rest rows leads (left - 1) b
         → SearchOf k columns word (drop (doubt - left) (take doubt doubtful)) rows leads left (betterOf k a b)
     node-branch rows leads a b A B =

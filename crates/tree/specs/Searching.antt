@@ -28,7 +28,7 @@ use Rattle.soft.specs.Blank.{openAt}
 use Rattle.soft.specs.Column.{places}
 use Rattle.soft.specs.TestWord.{expand}
 use Rattle.near.specs.Here.{mOf, reachIn, limitOf, blanksIn, Places, Decided}
-use Rattle.answers.specs.declared.Found.{Found}
+use Rattle.answers.specs.declared.Finding.{Finding}
 use Rattle.answers.specs.Nearest.{Nearest}
 
 pub record Lowest (leads : List ℕ) (parity n r : ℕ) : Type 0 where
@@ -52,14 +52,14 @@ pub record Decides (k : ℕ) (columns : ℕ → List ℕ) (word ps row : List �
   pub leads : Lead K16 polynomial lead
   pub decides : lead / 2 + length ps + reachIn k columns < count places (openAt columns)
 
-pub record DecidedOf (k : ℕ) (columns : ℕ → List ℕ) (word ps row : List ℕ) (lead left : ℕ) (f : Found) : Type 0 where
+pub record DecidedOf (k : ℕ) (columns : ℕ → List ℕ) (word ps row : List ℕ) (lead left : ℕ) (f : Finding) : Type 0 where
   pub few : f .tests ≤ 2 ^ left
   pub finds : Decides k columns word ps row lead → Places ps → Nearest k columns (expand columns word ps) f
 
-pub record SearchOf (k : ℕ) (columns : ℕ → List ℕ) (word ps : List ℕ) (rows : List (List ℕ)) (leads : List ℕ) (left : ℕ) (f : Found) : Type 0 where
+pub record SearchOf (k : ℕ) (columns : ℕ → List ℕ) (word ps : List ℕ) (rows : List (List ℕ)) (leads : List ℕ) (left : ℕ) (f : Finding) : Type 0 where
   pub few : f .tests ≤ 2 ^ left
   pub finds : Ready k columns word ps rows leads → Places ps → Nearest k columns (expand columns word ps) f
 
-pub record BranchOf (k : ℕ) (columns : ℕ → List ℕ) (word : List ℕ) (place symbol : ℕ) (ps : List ℕ) (rows : List (List ℕ)) (leads : List ℕ) (left : ℕ) (f : Found) : Type 0 where
+pub record BranchOf (k : ℕ) (columns : ℕ → List ℕ) (word : List ℕ) (place symbol : ℕ) (ps : List ℕ) (rows : List (List ℕ)) (leads : List ℕ) (left : ℕ) (f : Finding) : Type 0 where
   pub few : f .tests ≤ 2 ^ left
   pub finds : Ready k columns word (place ∷ ps) rows leads → Places (place ∷ ps) → Nearest k columns (expand columns (set word place symbol) ps) f

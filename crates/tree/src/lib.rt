@@ -8,11 +8,11 @@ ghost use Rattle.basis.specs.Step.{classes};
 ghost use Rattle.soft.specs.Column.{places, symbols, columnOf};
 ghost use Rattle.answers.specs.Answered.{Sound};
 ghost use Rattle.candidate.specs.Ranged.{Ranged};
-ghost use Rattle.candidate.specs.Marked.{Marked};
+ghost use Rattle.candidate.specs.OpenFlags.{OpenFlags};
 ghost use Rattle.known.specs.Known.{leftOf, Fits};
 ghost use Rattle.tree.specs.Searching.{Lowest, DecidedOf, SearchOf, BranchOf};
 use answers::Answer;
-use answers::Found;
+use answers::Finding;
 use answers::better;
 use answers::missed;
 use basis::CLASSES;
@@ -28,7 +28,7 @@ use columns::costs::PLACES;
 use columns::costs::column_of;
 use interpolation::node::extend;
 use known::Undecided;
-use known::below;
+use known::as_answer_here;
 use known::governs;
 use known::tests_within;
 use planes::rows::Row;
@@ -68,12 +68,12 @@ fn decided(
     costs: &[u16],
     k: usize,
     undecided: Undecided,
-    known: Found,
+    known: Finding,
     counts: [u8; PLACES],
     blanks: usize,
-) -> Found
+) -> Finding
     requires { ⌜ Ranged k × Fits undecided × Sound k (columnOf symbols (now costs)) known
-        × Marked k (columnOf symbols (now costs)) counts blanks ⌝ }
+        × OpenFlags k (columnOf symbols (now costs)) counts blanks ⌝ }
     ensures { λ r.
         ⌜ DecidedOf k (columnOf symbols (now (costs .entry))) word (leftOf undecided) row lead (undecided .left) r
         × Sound k (columnOf symbols (now (costs .entry))) r ⌝ }
@@ -85,13 +85,13 @@ fn decided(
     let message = held.message;
     let codeword = held.codeword;
     let tests = tests_within(codeword, word, costs, k, undecided, counts, blanks);
-    let only = Found {
+    let only = Finding {
         answer: Answer::NoneNear,
         message,
         codeword,
         tests: 0,
     };
-    below(only, tests, costs)
+    as_answer_here(only, tests, costs)
 }
 
 // One branch of a node: the place is decided with the symbol. Where the known codeword governs it, its test words are only counted.
@@ -102,14 +102,14 @@ fn branch(
     costs: &[u16],
     k: usize,
     undecided: Undecided,
-    known: Found,
+    known: Finding,
     place: usize,
     symbol: u8,
     counts: [u8; PLACES],
     blanks: usize,
-) -> Found
+) -> Finding
     requires { ⌜ Ranged k × Fits undecided × (place < places) × Sound k (columnOf symbols (now costs)) known
-        × Marked k (columnOf symbols (now costs)) counts blanks ⌝ }
+        × OpenFlags k (columnOf symbols (now costs)) counts blanks ⌝ }
     ensures { λ r.
         ⌜ BranchOf k (columnOf symbols (now (costs .entry))) word place symbol (leftOf undecided) rows leads (undecided .left) r
         × Sound k (columnOf symbols (now (costs .entry))) r ⌝ }
@@ -119,7 +119,7 @@ fn branch(
     if governs(known, next_word, k, undecided, counts, blanks) {
         let codeword = known.codeword;
         let tests = tests_within(codeword, next_word, costs, k, undecided, counts, blanks);
-        return below(known, tests, costs);
+        return as_answer_here(known, tests, costs);
     }
     let limit = largest_key(k, blanks);
     let change = word[place] ^ symbol;
@@ -146,12 +146,12 @@ fn branches(
     costs: &[u16],
     k: usize,
     undecided: Undecided,
-    known: Found,
+    known: Finding,
     counts: [u8; PLACES],
     blanks: usize,
-) -> Found
+) -> Finding
     requires { ⌜ Ranged k × Fits undecided × Sound k (columnOf symbols (now costs)) known
-        × Marked k (columnOf symbols (now costs)) counts blanks × (0 < undecided .left) ⌝ }
+        × OpenFlags k (columnOf symbols (now costs)) counts blanks × (0 < undecided .left) ⌝ }
     ensures { λ r.
         ⌜ SearchOf k (columnOf symbols (now (costs .entry))) word (leftOf undecided) rows leads (undecided .left) r
         × Sound k (columnOf symbols (now (costs .entry))) r ⌝ }
@@ -202,12 +202,12 @@ pub fn search(
     costs: &[u16],
     k: usize,
     undecided: Undecided,
-    known: Found,
+    known: Finding,
     counts: [u8; PLACES],
     blanks: usize,
-) -> Found
+) -> Finding
     requires { ⌜ Ranged k × Fits undecided × Sound k (columnOf symbols (now costs)) known
-        × Marked k (columnOf symbols (now costs)) counts blanks ⌝ }
+        × OpenFlags k (columnOf symbols (now costs)) counts blanks ⌝ }
     ensures { λ r.
         ⌜ SearchOf k (columnOf symbols (now (costs .entry))) word (leftOf undecided) rows leads (undecided .left) r
         × Sound k (columnOf symbols (now (costs .entry))) r ⌝ }

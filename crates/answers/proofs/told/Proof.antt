@@ -1,13 +1,13 @@
 -- The two cases.
 use mathlib.Core.Path.{_≡_, sym, ap, _∙_}
 use Rattle.answers.specs.declared.Answer.{Answer}
-use Rattle.answers.specs.declared.Found.{Found}
+use Rattle.answers.specs.declared.Finding.{Finding}
 use Rattle.answers.specs.Answered.{toldFor, toldOf}
 use borrow.Author.Needs.{needs}
 use Rattle.answers.proofs.told.Statement.{statement}
 use Rattle.answers.proofs.told.Tie as tie
 
-told-by : (f : Found) {a : Answer} → f .answer ≡ a → toldFor a f ≡ toldOf f
+told-by : (f : Finding) {a : Answer} → f .answer ≡ a → toldFor a f ≡ toldOf f
 unfolding toldOf
 told-by f e = ap (λ a. toldFor a f) (sym e)
 

@@ -10,7 +10,7 @@ use Rattle.summary.specs.Summary.{SummaryOf}
 use Rattle.chase.specs.Call.{Asked, wellFormed}
 use Rattle.chase.specs.Laws.{asked-form}
 use Rattle.candidate.specs.Ranged.{top-small, limit-small}
-use Rattle.candidate.specs.Marked.{Marked}
+use Rattle.candidate.specs.OpenFlags.{OpenFlags}
 use Rattle.candidate.specs.Ranged.{Ranged, known-range}
 use Rattle.near.specs.Here.{blankLimit}
 use Rattle.known.specs.Known.{Fits}
@@ -77,7 +77,7 @@ may-ask c =
     asked-form _ _ _ _ (formed (c .before .before .before .before))
     (omega (arith, number, c .before .blank-limit .ensures, c .if5 .left))
 
-few-blank : (c : tie.Else5) → Marked (c .before .before .before .before .before .before .before .before .before .before .args .rate) (columnOf symbols (c .before .before .before .before .before .before .before .before .before .before .args .costs .now)) (c .before .before .before .before .before .before .before .before .before .before .args .summary .counts) (c .before .before .blanks .result)
+few-blank : (c : tie.Else5) → OpenFlags (c .before .before .before .before .before .before .before .before .before .before .args .rate) (columnOf symbols (c .before .before .before .before .before .before .before .before .before .before .args .costs .now)) (c .before .before .before .before .before .before .before .before .before .before .args .summary .counts) (c .before .before .blanks .result)
 few-blank c =
     marked _ _ (summed (c .before .before .before .before) .counts) _ (c .before .before .blanks .ensures) _ (may-ask c .size) _ (c .before .blank-limit .ensures) (c .if5 .left)
 
@@ -111,7 +111,7 @@ returns-6 c =
     let a = c .before .before .before .before .before .before .before .before .before .before in
     c .told .ensures
     ∙ root-known _ _ _ _ _ _ _ _ _ (may-ask a) (few-blank a) (summed (c .before .before .before .before .before .before .before .before .before .before .before .before .before .before) .best) (c .before .before .before .before .before .before .before .before .doubled-places .ensures) _ _ _
-    (c .before .before .before .before .before .before .first-known .ensures .sound _) (c .before .before .before .before .before .governs .ensures) (c .before .before .before .before .if6 .taken) (c .before .before .tests-within .ensures) (c .before .below .ensures)
+    (c .before .before .before .before .before .before .first-known .ensures .sound _) (c .before .before .before .before .before .governs .ensures) (c .before .before .before .before .if6 .taken) (c .before .before .tests-within .ensures) (c .before .as-answer-here .ensures)
 
 top-order-requires : tie.Need-top-order-requires
 top-order-requires c κs = search needs

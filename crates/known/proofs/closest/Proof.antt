@@ -6,7 +6,7 @@ use Rattle.soft.specs.Column.{places, symbols, columnOf}
 use Rattle.soft.specs.Doubt.{mostDoubt}
 use Rattle.near.specs.Written.{written-turn, written-end}
 use Rattle.near.specs.Choices.{closerOf}
-use Rattle.known.specs.Known.{closestOf}
+use Rattle.known.specs.Known.{closestTest}
 use borrow.Author.Needs.{needs}
 use Rattle.known.proofs.closest.Statement.{statement}
 use Rattle.known.proofs.closest.Tie as tie
@@ -14,7 +14,7 @@ use Rattle.known.proofs.closest.Tie as tie
 abbrev Inv-loop : tie.InvT-loop
 Inv-loop costs codeword doubtful doubt out₀ i₀ out i =
     (length doubtful ≡ mostDoubt) × (length out ≡ places)
-    × (closestOf (columnOf symbols costs) codeword out₀ (drop i₀ (take doubt doubtful)) ≡ closestOf (columnOf symbols costs) codeword out (drop i (take doubt doubtful)))
+    × (closestTest (columnOf symbols costs) codeword out₀ (drop i₀ (take doubt doubtful)) ≡ closestTest (columnOf symbols costs) codeword out (drop i (take doubt doubtful)))
 
 abbrev μ-loop : tie.MeasureT-loop
 μ-loop costs codeword doubtful doubt out₀ i₀ out i = doubt - i

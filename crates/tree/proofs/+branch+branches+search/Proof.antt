@@ -12,7 +12,7 @@ use Rattle.answers.specs.Better.{sound-better}
 use Rattle.known.specs.Governing.{sound-below}
 use Rattle.tree.specs.Searching.{SearchOf, BranchOf}
 use Rattle.candidate.specs.Ranged.{reach-small, limit-small}
-use Rattle.candidate.specs.Marked.{limit-marked}
+use Rattle.candidate.specs.OpenFlags.{limit-open}
 use Rattle.tree.proofs.Descending.{branch-known, branch-node, node-spent, node-decided, node-open, node-branch}
 use Rattle.near.specs.Left.{rest-length}
 use Rattle.near.specs.Near as Near
@@ -37,7 +37,7 @@ use Rattle.columns.proofs.column.best.Reads as best-reads
 use Rattle.columns.proofs.column.second.Reads as second-reads
 use Rattle.columns.proofs.costs.column_of.Reads as column-of-reads
 use Rattle.interpolation.proofs.node.extend.Reads as extend-reads
-use Rattle.known.proofs.below.Reads as below-reads
+use Rattle.known.proofs.as_answer_here.Reads as as-answer-here-reads
 use Rattle.known.proofs.governs.Reads as governs-reads
 use Rattle.known.proofs.tests_within.Reads as tests-within-reads
 use Rattle.tree.proofs.decided.Reads as decided-reads
@@ -81,8 +81,8 @@ branch-claims t = (
   governs-reads.Learnt,
   tests-within-reads.Asked,
   tests-within-reads.Learnt,
-  below-reads.Asked,
-  below-reads.Learnt,
+  as-answer-here-reads.Asked,
+  as-answer-here-reads.Learnt,
   largest-key-reads.Asked,
   largest-key-reads.Learnt,
   extend-reads.Asked,
@@ -147,8 +147,8 @@ branch-below-requires t c κs = search needs
 branch-returns : (t : ℕ) → branch-lts.Need-returns (branch-claims t) (branch-at t) branch.Post
 branch-returns t c =
     let h = c .before .before .before .before .before .before .pre .1 in (
-      subst (BranchOf _ _ _ _ _ _ _ _ _) (sym (c .below .ensures)) (branch-known (h .0) _ _ _ _ _ _ _ _ (branch-lengths t (c .before .before .before .before .before .before)) (h .4) _ _ _ (h .3) (c .before .before .before .before .governs .ensures) (c .before .before .before .if1 .taken) (c .before .tests-within .ensures)),
-      subst (Sound _ _) (sym (c .below .ensures)) (sound-below (h .3) _),
+      subst (BranchOf _ _ _ _ _ _ _ _ _) (sym (c .as-answer-here .ensures)) (branch-known (h .0) _ _ _ _ _ _ _ _ (branch-lengths t (c .before .before .before .before .before .before)) (h .4) _ _ _ (h .3) (c .before .before .before .before .governs .ensures) (c .before .before .before .if1 .taken) (c .before .tests-within .ensures)),
+      subst (Sound _ _) (sym (c .as-answer-here .ensures)) (sound-below (h .3) _),
     )
 
 branch-largest-key-requires : (t : ℕ) → branch-lts.Need-largest-key-requires (branch-claims t) (branch-at t) branch.Post
@@ -173,7 +173,7 @@ branch-returns-2 : (t : ℕ) → branch-lts.Need-returns-2 (branch-claims t) (br
 branch-returns-2 t c =
     let s = c .before .before .before .before .before .before .before .before in
     let h = s .pre .1 in
-    (branch-node (h .0) _ _ _ _ _ _ _ _ (branch-lengths t s) _ (c .before .before .before .before .largest-key .ensures ∙ limit-marked (h .4)) _ _ (c .before .extend .ensures) _ (c .search .ensures .0), c .search .ensures .1)
+    (branch-node (h .0) _ _ _ _ _ _ _ _ (branch-lengths t s) _ (c .before .before .before .before .largest-key .ensures ∙ limit-open (h .4)) _ _ (c .before .extend .ensures) _ (c .search .ensures .0), c .search .ensures .1)
 
 branches-lengths : (t : ℕ) (c : branches-lts.Start (branches-claims t) (branches-at t) branches.Post)
     → length (c .args .t6 .doubtful) ≡ mostDoubt
@@ -248,7 +248,7 @@ search-returns : (t : ℕ) → search-lts.Need-returns (search-claims t) (search
 unfolding leadAt
 search-returns t c =
     let h = c .before .before .before .before .before .pre .1 in (
-      subst (SearchOf _ _ _ _ _ _ _) (sym (c .missed .ensures)) (node-spent (h .0) _ _ _ _ (c .before .before .before .largest-key .ensures ∙ limit-marked (h .3)) _ _ _ _ (c .before .before .least-from .ensures) _ (c .before .if1 .taken)),
+      subst (SearchOf _ _ _ _ _ _ _) (sym (c .missed .ensures)) (node-spent (h .0) _ _ _ _ (c .before .before .before .largest-key .ensures ∙ limit-open (h .3)) _ _ _ _ (c .before .before .least-from .ensures) _ (c .before .if1 .taken)),
       subst (Sound _ _) (sym (c .missed .ensures)) (sound-missed (h .2)),
     )
 
@@ -313,7 +313,7 @@ search-returns-2 : (t : ℕ) → search-lts.Need-returns-2 (search-claims t) (se
 unfolding leadAt
 search-returns-2 t c =
     let h = c .before .before .before .before .before .before .before .before .before .before .before .pre .1 in (
-      node-decided (h .0) _ _ _ _ (c .before .before .before .before .before .before .before .before .before .largest-key .ensures ∙ limit-marked (h .3)) (h .3) _ (c .before .before .before .reach .ensures) _ (search-close t (c .before .before .before .before .before)) _ _ _ _ (c .before .before .before .before .before .lower .ensures .0)
+      node-decided (h .0) _ _ _ _ (c .before .before .before .before .before .before .before .before .before .largest-key .ensures ∙ limit-open (h .3)) (h .3) _ (c .before .before .before .reach .ensures) _ (search-close t (c .before .before .before .before .before)) _ _ _ _ (c .before .before .before .before .before .lower .ensures .0)
           (rest-length _ _ _ (search-lengths t (c .before .before .before .before .before .before .before .before .before .before .before)) (h .1 .0) (h .1 .1)) (c .before .before .if2 .taken) (c .decided .ensures .0),
       c .decided .ensures .1,
     )
@@ -322,7 +322,7 @@ search-branches-requires : (t : ℕ) → search-lts.Need-branches-requires (sear
 unfolding leadAt
 search-branches-requires t c κs =
     let h = c .before .before .before .before .before .before .before .before .before .pre in
-    let some = node-open (h .1 .0) _ (c .before .before .before .before .before .before .before .before .before .args .t2) _ _ (c .before .before .before .before .before .before .before .largest-key .ensures ∙ limit-marked (h .1 .3)) (h .1 .3) _ (c .before .reach .ensures) (c .before .before .before .lower .result) (search-close t (c .before .before .before)) (c .if2 .left) in
+    let some = node-open (h .1 .0) _ (c .before .before .before .before .before .before .before .before .before .args .t2) _ _ (c .before .before .before .before .before .before .before .largest-key .ensures ∙ limit-open (h .1 .3)) (h .1 .3) _ (c .before .reach .ensures) (c .before .before .before .lower .result) (search-close t (c .before .before .before)) (c .if2 .left) in
     (omega (arith, h .0), (h .1 .0, h .1 .1, h .1 .2, h .1 .3, some))
 
 search-returns-3 : (t : ℕ) → search-lts.Need-returns-3 (search-claims t) (search-at t) search′.Post

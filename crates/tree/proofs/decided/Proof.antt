@@ -34,8 +34,8 @@ returns-2 : tie.Need-returns-2
 returns-2 c =
     let h = c .before .before .before .before .before .before .before .pre in
     let C = c .before .before .before .before .candidate-of .ensures in (
-      subst (DecidedOf _ _ _ _ _ _ _) (sym (c .below .ensures)) (decided-odd (h .0) (h .3) _ _ _ _ _ C _ (c .before .tests-within .ensures)),
-      subst (Sound _ _) (sym (c .below .ensures)) (sound-below (only-sound C) _),
+      subst (DecidedOf _ _ _ _ _ _ _) (sym (c .as-answer-here .ensures)) (decided-odd (h .0) (h .3) _ _ _ _ _ C _ (c .before .tests-within .ensures)),
+      subst (Sound _ _) (sym (c .as-answer-here .ensures)) (sound-below (only-sound C) _),
     )
 
 pub decided-spec : {M : Type 1} → statement M

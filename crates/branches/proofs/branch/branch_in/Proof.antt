@@ -1,13 +1,13 @@
 -- By the answer found.
 use mathlib.Core.Path.{_≡_, sym, ap, _∙_}
 use Rattle.answers.specs.declared.Answer.{Answer}
-use Rattle.answers.specs.declared.Found.{Found}
+use Rattle.answers.specs.declared.Finding.{Finding}
 use Rattle.branches.specs.Beside.{branchIn, branchBy}
 use borrow.Author.Needs.{needs}
 use Rattle.branches.proofs.branch.branch_in.Statement.{statement}
 use Rattle.branches.proofs.branch.branch_in.Tie as tie
 
-branch-by : (f : Found) {a : Answer} → f .answer ≡ a → branchBy a (f .codeword) ≡ branchIn f
+branch-by : (f : Finding) {a : Answer} → f .answer ≡ a → branchBy a (f .codeword) ≡ branchIn f
 unfolding branchIn
 branch-by f e = ap (λ a. branchBy a (f .codeword)) (sym e)
 

@@ -2,7 +2,7 @@
 use mathlib.Core.Path.{_≡_, ap, _∙_}
 use mathlib.Core.List.{List}
 use Prim.Native.Nat.{ℕ}
-use Rattle.answers.specs.declared.Found.{Found}
+use Rattle.answers.specs.declared.Finding.{Finding}
 use Rattle.chase.specs.Call.{nearestOf}
 use Rattle.agreement.specs.Faded.{fadedCosts}
 use Rattle.agreement.specs.Both.{undoubted}
@@ -11,7 +11,7 @@ use borrow.Author.Needs.{needs}
 use Rattle.branches.proofs.branch.branch_of.Statement.{statement}
 use Rattle.branches.proofs.branch.branch_of.Tie as tie
 
-branch-found : (rate : ℕ) (word blanks : List ℕ) {costs : List ℕ} {f : Found} → f ≡ nearestOf rate costs undoubted 0 → costs ≡ fadedCosts blanks word
+branch-found : (rate : ℕ) (word blanks : List ℕ) {costs : List ℕ} {f : Finding} → f ≡ nearestOf rate costs undoubted 0 → costs ≡ fadedCosts blanks word
     → branchIn f ≡ branchOf rate word blanks
 unfolding branchOf
 branch-found rate word blanks e h = ap branchIn (e ∙ ap (λ costs. nearestOf rate costs undoubted 0) h)

@@ -1,5 +1,5 @@
 -- `fibre` meets its contract: the sums of each four lanes of the products, at one of the four.
-use Rattle.coefficients.proofs.Marked.{fibre-by}
+use Rattle.coefficients.proofs.Fourths.{fibre-by}
 use borrow.Author.Needs.{needs}
 use Rattle.coefficients.proofs.fibres.fibre.Statement.{statement}
 use Rattle.coefficients.proofs.fibres.fibre.Tie as tie

@@ -1,5 +1,5 @@
 -- `entry` meets its contract: the four lanes of x, repeated, times the dual.
-use Rattle.coefficients.proofs.Marked.{entry-by}
+use Rattle.coefficients.proofs.Fourths.{entry-by}
 use borrow.Author.Needs.{needs}
 use Rattle.coefficients.proofs.orders.entry.Statement.{statement}
 use Rattle.coefficients.proofs.orders.entry.Tie as tie

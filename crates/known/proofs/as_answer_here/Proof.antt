@@ -6,8 +6,8 @@ use Rattle.totals.specs.declared.margin.Margin.the-variants.{Absent}
 use Rattle.answers.specs.declared.Answer.the-variants.{Near}
 use Rattle.known.specs.Governing.{below-none, below-some}
 use borrow.Author.Needs.{needs}
-use Rattle.known.proofs.below.Statement.{statement}
-use Rattle.known.proofs.below.Tie as tie
+use Rattle.known.proofs.as_answer_here.Statement.{statement}
+use Rattle.known.proofs.as_answer_here.Tie as tie
 
 missed-requires : tie.Need-missed-requires
 missed-requires c κs = search needs
@@ -22,5 +22,5 @@ returns-2 : tie.Need-returns-2
 unfolding counted answering
 returns-2 c = found-same _ _ (ap (λ t. Near t Absent) (c .known-total .ensures)) refl refl refl ∙ sym (below-some _ _ _ (c .before .before .before .if1 .left))
 
-pub below-spec : {M : Type 1} → statement M
-below-spec = tie.close (tie.spec missed-requires returns known-total-requires returns-2)
+pub as-answer-here-spec : {M : Type 1} → statement M
+as-answer-here-spec = tie.close (tie.spec missed-requires returns known-total-requires returns-2)

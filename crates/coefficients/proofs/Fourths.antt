@@ -17,7 +17,7 @@ use Rattle.planes.specs.Lanes.{lane}
 use Rattle.planes.specs.Elements.{element}
 use Rattle.planes.specs.Arrays.{planesIn, elementAt, productOf, product-element}
 use Rattle.coefficients.specs.Moved.{Repeats, folded, element-folded, placedAt, element-placed, repeatedAt, element-repeated}
-use Rattle.coefficients.specs.Marked.{marks-16}
+use Rattle.coefficients.specs.Fourths.{marks-16}
 use Rattle.coefficients.specs.Reading.{marks, metOf, repeatOf, Fibre, Entry}
 open Field K16 using (_⊗_)
 

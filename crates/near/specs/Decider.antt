@@ -3,7 +3,7 @@
 --
 --   symbolIn f t       symbol t of the message of the function whose coefficients are the numbers f, by order
 --   message-in         the message of these symbols is the function's
---   Held k word c      c is a Q through the word whose weight, half its lead, and T are less than the places that count
+--   Decider k word c      c is a Q through the word whose weight, half its lead, and T are less than the places that count
 --   limit-decides      so is every Q with its lead up to the limit, where so many wrong places can be repaired
 --   word-spent         where every Q through a word leads above the limit, no codeword is within T of it
 --   held-lead          where a codeword is within T of the word, its lead is that of its part with z,
@@ -67,7 +67,7 @@ module _ (𝓜 : Member) where
 module _ (𝓜 : Member) (counts : ℕ → Bool) (reach : ℕ) where
   open Member 𝓜 using (gf, w, wide)
 
-  pub record Held (k : ℕ) (word : List ℕ) (c : ℕ → GF gf) : Type 0 where
+  pub record Decider (k : ℕ) (word : List ℕ) (c : ℕ → GF gf) : Type 0 where
     pub lead : ℕ
     pub through : ThroughNodes 𝓜 (mOf 𝓜 k) (nodesOf 𝓜 counts word) c
     pub leads : Lead (K gf) c lead
@@ -84,7 +84,7 @@ module _ (𝓜 : Member) (counts : ℕ → Bool) (reach : ℕ) where
       codeword-none 𝓜 counts reach k word
       (λ m f. let h = near-exists 𝓜 counts reach word rate m (f .passed) in omega (arith, h .4, above (h .0) (h .1) (h .2) (h .3)))
 
-  module _ {k : ℕ} (rate : Workable 𝓜 k) {word : List ℕ} {c : ℕ → GF gf} (h : Held k word c) {m : List ℕ} (f : Found (symbols 𝓜) k (nearTo 𝓜 counts reach k word) m) where
+  module _ {k : ℕ} (rate : Workable 𝓜 k) {word : List ℕ} {c : ℕ → GF gf} (h : Decider k word c) {m : List ℕ} (f : Found (symbols 𝓜) k (nearTo 𝓜 counts reach k word) m) where
     pub held-lead : (j : ℕ) × (h .lead ≡ 2 * (j + mOf 𝓜 k) + 1) × Lead (K gf) (withZ (K gf) (mOf 𝓜 k) c) j
     held-lead = near-lead 𝓜 counts reach word rate (h .through) (h .leads) (h .decides) m (f .passed)
 
@@ -104,7 +104,7 @@ module _ (𝓜 : Member) (counts : ℕ → Bool) (reach k : ℕ) (columns : ℕ 
   module _ {c : ℕ → GF gf} {l : ℕ} (through : ThroughNodes 𝓜 (mOf 𝓜 k) ns c) (leads : Lead (K gf) c l)
       (decides : l / 2 + length ps + reach < count (places 𝓜) counts) where
     -- at the places that are decided
-    held : Held 𝓜 (without counts ps) reach k word c
+    held : Decider 𝓜 (without counts ps) reach k word c
     held =
         record {
           lead = l;
@@ -117,7 +117,7 @@ module _ (𝓜 : Member) (counts : ℕ → Bool) (reach k : ℕ) (columns : ℕ 
         → Found (symbols 𝓜) k (nearTo 𝓜 (without counts ps) reach k word) m
     found t i m f = record { word = f .word; passed = near-without 𝓜 counts reach k columns word ps t i m (f .passed) }
 
-    pub node-held : Held 𝓜 (without counts ps) reach k word c
+    pub node-held : Decider 𝓜 (without counts ps) reach k word c
         × ((t : List ℕ) → List·Memᴰ t (expand columns word ps) → (m : List ℕ) → Found (symbols 𝓜) k (nearTo 𝓜 counts reach k t) m
         → Found (symbols 𝓜) k (nearTo 𝓜 (without counts ps) reach k word) m)
     node-held = (held, found)
