@@ -16,7 +16,7 @@ use native.Mathlib.Nat.{le-step, lt-suc-self, eq-or-lt-of-le, le-of-suc-le-suc, 
 use native.Mathlib.Nat as Nat
 use native.Mathlib.Decide.{ℕ-discrete}
 use native.Mathlib.Omega.{arith}
-use Rattle.algebra.specs.Field.{Field, add-assoc, add-comm, add-left-comm, add-zero, zero-add, mul-add, add-mul, mul-zero, zero-mul, ring}
+use Rattle.algebra.specs.Field.{Field, add-assoc, add-comm, add-left-comm, add-zero, zero-add, mul-add, add-mul, mul-zero, zero-mul}
 
 module _ {F : Type 0} (K : Field F) where
   open Field K using (_⊕_, _⊗_, 𝟘)

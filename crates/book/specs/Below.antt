@@ -6,12 +6,12 @@
 --   tableBelowOf rate table t m message report   1 if the rate is unknown, 2 if a buffer has the wrong size, 4 if the maximum m is 0 or larger than the
 --                          largest doubt; else what decoding by the table's columns and these places answers
 --   below-rate, below-size, below-doubt, below-decoded   the four cases; below-refused: where the checks of rate and sizes refuse, it gives their number
---   below-too-blank, below-blank-only   of the last: it gives 12 exactly where more places are blank than leave a T; below-zero: so of a table of zero bytes
+--   below-too-blank, below-blank-only   of the last: it gives 12 exactly where more places are blank than leave a T
 --   below-accepted         an accepted call has a maximum from 1 to the largest doubt and answers as decoding does
 --   doubtFor table t m     the doubt that is counted: how many places have a gap below t, but 1 at least and m at most (doubt-for-some, doubt-for-most)
 --   below-picked           the places picked are those that a doubt so large picks,
 --   below-as-table         so with a maximum that is allowed it is table decoding with that doubt
---   below-most, below-length   no more than m are picked; exactly that doubt, where no more places are blank than leave a T; below-some: at least one
+--   below-length       exactly that doubt is picked, where no more places are blank than leave a T; below-some: at least one
 --   below-open             no blank place is picked
 --   below-fit, below-opens the places picked are a doubtful list that opening accepts,
 --   below-as-session       and closing a book that was opened with them and got all columns, in whatever order, answers the same;
@@ -29,7 +29,7 @@ use Rattle.refusals.specs.Refusal.{accepted, unknownRate, wrongSize, wrongDoubt
 use Rattle.lists.specs.Distinct.{below, distinct, and-left, and-right, and-both}
 use Rattle.soft.specs.Blank.{openAt, blanksOf}
 use Rattle.soft.specs.Threshold.{closestOf, doubtBelow}
-use Rattle.soft.specs.ThresholdLaws.{closest-doubtful, doubt-below-most, doubt-below-some, closestOf-most, closestOf-length, closest-open}
+use Rattle.soft.specs.ThresholdLaws.{closest-doubtful, doubt-below-most, doubt-below-some, closestOf-length, closest-open}
 use Rattle.near.specs.Near.{blankLimit}
 use Rattle.book.specs.Model.{Model, places}
 use Rattle.book.specs.Book.{Entry, newBook, Outcome}
@@ -38,7 +38,7 @@ use Rattle.book.specs.Delivery.{deliverRow}
 use Rattle.book.specs.Closing.{reportLength, Closed, refusedClosing, decodeOf, closeOf}
 use Rattle.book.specs.ClosingLaws.{refused-number, decode-too-blank, decode-blank-only}
 use Rattle.book.specs.RowLaws.{open-accepted}
-use Rattle.book.specs.Table.{sizes-fit, sizes-unfit, tableLength, tableColumns, pickedOf, tableFits, checksOf, refused-by-checks, tableOf, limit-below, zero-table, picked-fit, Delivered, table-as-session, entriesOf, order-delivered, order-accepted}
+use Rattle.book.specs.Table.{sizes-fit, sizes-unfit, tableLength, tableColumns, pickedOf, tableFits, checksOf, refused-by-checks, tableOf, limit-below, picked-fit, Delivered, table-as-session, entriesOf, order-delivered, order-accepted}
 
 module _ (𝓓 : Model) where
   open Model 𝓓 using (member, known, mostDoubt)
@@ -143,10 +143,6 @@ module _ (𝓓 : Model) where
   doubtFor table t m = doubtBelow (places 𝓓) t m (tableColumns 𝓓 table)
 
   module _ (table : List ℕ) (t m : ℕ) where
-    pub below-most : length (pickedBelow table t m) ≤ m
-    unfolding pickedBelow
-    below-most = closestOf-most (places 𝓓) t m (tableColumns 𝓓 table)
-
     pub below-open : (p : ℕ) → List·Memᴰ p (pickedBelow table t m) → openAt (tableColumns 𝓓 table) p ≡ true
     unfolding pickedBelow
     below-open = closest-open (places 𝓓) t m (tableColumns 𝓓 table)
@@ -223,10 +219,3 @@ module _ (𝓓 : Model) where
                   below-as-session row (order-delivered 𝓓 table order apart in-range every-place)
                       ∙ ap (λ (o : Outcome). closeOf 𝓓 (o .book) message report) (sym accepts),
                 )
-
-  pub below-zero : {rate : ℕ} → known rate ≡ true → (t m : ℕ) → 1 ≤ m → m ≤ mostDoubt → (message report : List ℕ) → length message ≡ rate
-      → length report ≡ reportLength 𝓓 → tableBelowOf rate (replicate (tableLength 𝓓) 0) t m message report ≡ refusedClosing tooBlank message report
-  below-zero {rate} known t m some few message report long whole-report =
-      let table : List ℕ = replicate (tableLength 𝓓) 0 in
-      below-as-table table t m some few rate message report
-      ∙ zero-table 𝓓 {rate = rate} known (doubtFor table t m) (omega (arith, doubt-for-most table t m)) message report long whole-report

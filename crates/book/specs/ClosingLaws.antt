@@ -1,7 +1,7 @@
 -- Closing, case by case.
 --
 --   fits-both, fits-of   the size check passes exactly if the message buffer has k bytes and the report its length
---   close-size, close-missing, close-decoded   the three cases of closing; close-too-blank: of the last, where too many places are blank
+--   close-size, close-missing, close-decoded   the three cases of closing
 --   decode-too-blank, decode-none, decode-some   the three cases of decoding; Decoded, decode-cases: it is one of them
 --   decode-blank-only    it gives 12 exactly where more places are blank than leave a T
 --   decode-report, close-report   an accepted call gives the report of the message that it gives
@@ -179,12 +179,6 @@ module _ (𝓓 : Model) where
         → closeOf 𝓓 book message report ≡ decodeOf 𝓓 (book .rate) (columnsOf 𝓓 (book .row)) (book .doubtful) message report
     unfolding closeOf
     close-decoded e m = rw (e, m)
-
-    pub close-too-blank : closingFits 𝓓 book message report ≡ true → someMissing 𝓓 (book .row) ≡ false
-        → blankLimit member (book .rate) < blanksOf (places 𝓓) (columnsOf 𝓓 (book .row))
-        → closeOf 𝓓 book message report ≡ refusedClosing tooBlank message report
-    close-too-blank e m h =
-        close-decoded e m ∙ decode-too-blank (book .rate) (columnsOf 𝓓 (book .row)) (book .doubtful) message report h
 
     pub close-kept : (closeOf 𝓓 book message report .number ≡ accepted → ⊥) → Kept message report (closeOf 𝓓 book message report)
     close-kept n = go (closingFits 𝓓 book message report) refl (someMissing 𝓓 (book .row)) refl

@@ -22,8 +22,8 @@ use lib.Dec.{T, eqb, ltb, leb, le→leb, leb→le}
 use lib.ListN.{length}
 use borrow.Author.Tests.{eq-eqb, ne-eqb, eqb-true, lt-ltb, le-leb, lt-leb, leb-true}
 use Rattle.lists.specs.Count.{count, count-ext, count-le}
-use Rattle.lists.specs.Distinct.{among, among-member, below, below-among, and-left, and-right}
-use Rattle.lists.specs.Every.{true-T, T-true}
+use Rattle.lists.specs.Distinct.{among-member, below, below-among, and-left, and-right}
+use Rattle.lists.specs.Every.{T-true}
 use Rattle.lists.specs.Listed.{listed-length}
 use Rattle.lists.specs.Words.{allBelow, Word}
 use Rattle.lists.specs.Answers.{Answers, Found, free, answers-some, answers-none}
@@ -31,7 +31,7 @@ use Rattle.refusals.specs.Refusal.{accepted, unknownRate, wrongSize, noSymbol, 
 use Rattle.soft.specs.Total.{differingIn, everywhere}
 use Rattle.family.specs.Member.{m16}
 use Rattle.code.specs.Encoding.{encodeOf, knownRate}
-use Rattle.near.specs.Near.{nearTo, codewordNear}
+use Rattle.near.specs.Near.{nearTo}
 use Rattle.near.specs.Reach.{Repairable, radius, count-everywhere}
 use Rattle.near.specs.Laws.{word-answers}
 use Rattle.near.specs.Codeword.{placeAt, near-one}

@@ -14,7 +14,7 @@
 --   open-refused-rate, open-refused-list, open-accepted      the three cases of opening
 --   deliver-above, deliver-taken, deliver-accepted           the three cases of delivery
 --   deliver-only         it is accepted in the last case alone
---   new-proper, entry-proper, deliver-proper   opening gives a proper book, and delivery of a cost for each symbol keeps it so
+--   new-proper, entry-proper   opening gives a proper book, and so does one more entry of a cost for each symbol
 use mathlib.Core.Bool.{Bool, true, false, cond, not, _&&_, _||_, true≢false}
 use mathlib.Core.Path.{_≡_, refl, sym, ap, _∙_, fun-ext}
 use mathlib.Core.List.{List, [], _∷_, _++_}
@@ -229,14 +229,6 @@ module _ (𝓓 : Model) where
               (and-both (wide (book .row)) (eqb (length column) (width 𝓓) && true) (proper .all-wide)
               (and-both (eqb (length column) (width 𝓓)) true (eq-eqb (length column) (width 𝓓) long) refl));
         }
-
-  pub deliver-proper : (book : Book) (p : ℕ) (column : List ℕ) → Proper book → length column ≡ width 𝓓 → Proper (deliverOf 𝓓 book p column .book)
-  deliver-proper book p column proper long = go (decLt p (places 𝓓)) (taken (book .row) p) refl
-    where
-      go : Dec (p < places 𝓓) → (b : Bool) → taken (book .row) p ≡ b → Proper (deliverOf 𝓓 book p column .book)
-      go (yes h) true e = rw (deliver-taken book p column h e) proper
-      go (yes h) false e = rw (deliver-accepted book p column h e) (entry-proper book p column proper h e long)
-      go (no h) b e = rw (deliver-above book p column (omega arith)) proper
 
   pub wide-cons : (e : Entry) (row : List Entry) → wide (e ∷ row) ≡ true → (length (e .column) ≡ width 𝓓) × (wide row ≡ true)
   unfolding wide

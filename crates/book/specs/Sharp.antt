@@ -151,10 +151,6 @@ zero-encodes = zero-codeword m16 39 .encodes
 light-encodes : encodeOf m16 39 light ≡ listed 64 symbol39
 light-encodes = light-39 .encodes
 
-pub different : zeros ≢ light
-unfolding listed
-different e = omega (arith, ap (λ (w : List ℕ). getD w 4 0) (sym zero-encodes ∙ ap (encodeOf m16 39) e ∙ light-encodes))
-
 abbrev pub between : Book
 between = record { rate = 39; doubtful = eight; row = frame 50 }
 

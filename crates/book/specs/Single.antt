@@ -14,9 +14,9 @@ use Prim.Native.Nat.{ℕ, _+_, _<_, _≤_}
 use native.Mathlib.Omega.{arith}
 use lib.Dec.{T, leb}
 use lib.ListN.{length, getD}
-use Rattle.lists.specs.Count.{count, count-ext}
+use Rattle.lists.specs.Count.{count-ext}
 use Rattle.lists.specs.Answers.{Answers, Found, free, best, answers-unique, answers-some, answers-none, answers-iff}
-use Rattle.soft.specs.Blank.{openAt, blanksOf}
+use Rattle.soft.specs.Blank.{openAt}
 use Rattle.soft.specs.BlankLaws.{open-count}
 use Rattle.soft.specs.Total.{differingIn}
 use Rattle.soft.specs.TotalLaws.{differing-mono, differing-comm, differing-open}
@@ -26,7 +26,7 @@ use Rattle.near.specs.Near.{nearTo, codewordNear}
 use Rattle.near.specs.Near as Near
 use Rattle.near.specs.Laws.{near-member, member-near, near-answers, word-answers, answer-none}
 use Rattle.near.specs.Codeword.{near-one}
-use Rattle.near.specs.Here.{reachOf, reachIn, blanksIn, blankLimit, answerOf, Workable}
+use Rattle.near.specs.Here.{reachOf, reachIn, blanksIn, blankLimit, answerOf}
 use Rattle.book.specs.Here.{places, width, fitPlaces}
 use Rattle.book.specs.OpeningLaws.{known-rate, rate-workable}
 use Rattle.book.specs.Engine.{unblankedBy, nearBy}

@@ -16,8 +16,8 @@
 --   limit-below, all-blank   at a known rate these are not all: a table of blank columns is refused with 12
 --   zero-blank, zero-table   so is one of zero bytes: all its columns are blank
 --   table-accepted         an accepted call has no larger doubt than the largest and answers as decoding does
---   picked-length, picked-most   where no more places are blank than leave a T, exactly as many are picked as the doubt says; and never more
---   picked-fit, picked-opens   the places picked are a doubtful list that opening accepts
+--   picked-most          never more are picked than the doubt says
+--   picked-fit           the places picked are a doubtful list that opening accepts
 --   Delivered table row    each of the modem's places is in the row with its column of the table, in whatever order, and nothing else is
 --   delivered-columns, delivered-none-missing   so the row's columns are the table's, and none is missing
 --   table-as-session       table decoding answers as closing a book does that was opened with the places picked and got all columns
@@ -45,16 +45,16 @@ use Rattle.lists.specs.Member.{member-at}
 use Rattle.soft.specs.Column as Soft
 use Rattle.soft.specs.ColumnLaws.{column-length, cost-column, costs-length}
 use Rattle.soft.specs.Doubt.{doubtfulOf}
-use Rattle.soft.specs.DoubtLaws.{doubtful-length, doubtful-most, doubtful-rising, doubtful-below}
+use Rattle.soft.specs.DoubtLaws.{doubtful-most, doubtful-rising, doubtful-below}
 use Rattle.soft.specs.Blank.{blankAt, openAt, blanksOf}
 use Rattle.soft.specs.BlankLaws.{blank-same, open-count}
 use Rattle.near.specs.Near.{blankLimit}
 use Rattle.near.specs.Reach.{reach-is}
 use Rattle.book.specs.Model.{Model, places, width}
 use Rattle.book.specs.Book.{Entry, Book, newBook, columnIn, taken, present, someMissing}
-use Rattle.book.specs.Opening.{fitDoubt, openOf}
+use Rattle.book.specs.Opening.{fitDoubt}
 use Rattle.book.specs.OpeningLaws.{list-fits}
-use Rattle.book.specs.RowLaws.{placesOf, open-accepted}
+use Rattle.book.specs.RowLaws.{placesOf}
 use Rattle.book.specs.Delivery.{deliverRow}
 use Rattle.book.specs.RowDelivery.{extended, row-delivered}
 use Rattle.book.specs.Columns.{columnsOf, columns-taken, columns-none}
@@ -318,12 +318,6 @@ module _ (𝓓 : Model) where
 
   -- ---- the places picked
 
-  pub picked-length : {rate : ℕ} → known rate ≡ true → (table : List ℕ) (doubt : ℕ) → doubt ≤ mostDoubt
-      → blanksOf (places 𝓓) (tableColumns table) ≤ blankLimit member rate → length (pickedOf table doubt) ≡ doubt
-  unfolding pickedOf
-  picked-length {rate} known table doubt few blanks =
-      doubtful-length (places 𝓓) doubt (tableColumns table) (omega (arith, doubt-fits rate known))
-
   pub picked-most : (table : List ℕ) (doubt : ℕ) → length (pickedOf table doubt) ≤ doubt
   unfolding pickedOf
   picked-most table doubt = doubtful-most (places 𝓓) doubt (tableColumns table)
@@ -339,10 +333,6 @@ module _ (𝓓 : Model) where
           in-range = λ i l. omega (arith, doubtful-below (places 𝓓) doubt (tableColumns table) (getD list i 0) (member-at list 0 i l));
           rises = λ i l. doubtful-rising (places 𝓓) doubt (tableColumns table) .rises i (suc i) (omega arith) l;
         })
-
-    pub picked-opens : (rate : ℕ) → known rate ≡ true
-        → openOf 𝓓 rate (pickedOf table doubt) ≡ record { number = accepted; book = newBook rate (pickedOf table doubt) }
-    picked-opens rate known = open-accepted 𝓓 rate (pickedOf table doubt) known picked-fit
 
   -- ---- as a session
 

@@ -1,7 +1,7 @@
 -- The blank places as they are handed down to functions: a flag for each place, and how many are blank.
 --
 --   OpenFlags k columns counts b   the flags are 1 at the places that are not blank in the columns, b are blank, and no more than the rate allows
---   reach-open, limit-open  T and the limit of keys by b are those of the columns
+--   limit-open             the limit of keys by b is that of the columns
 --   repairs-open              T wrong places of those that are not blank can be repaired
 --   differing-open            two words differ in as many of the places flagged as of those that are not blank
 use mathlib.Core.Path.{_≡_, ap, subst}
@@ -10,7 +10,7 @@ use Prim.Native.Nat.{ℕ, _≤_}
 use Rattle.soft.specs.Blank.{openAt, blanksOf, flagAt}
 use Rattle.soft.specs.Column.{places}
 use Rattle.soft.specs.Total.{differingIn}
-use Rattle.near.specs.Here.{blankLimit, reachOf, reachIn, limitOf, repairable}
+use Rattle.near.specs.Here.{blankLimit, reachIn, limitOf, repairable}
 use Rattle.near.specs.Reach.{Repairable}
 use Rattle.family.specs.Member.{m16}
 use Rattle.candidate.specs.Ranged.{Ranged, workable}
@@ -21,9 +21,6 @@ pub record OpenFlags (k : ℕ) (columns : ℕ → List ℕ) (counts : List ℕ) 
   pub few : b ≤ blankLimit k
 
 module _ {k : ℕ} {columns : ℕ → List ℕ} {counts : List ℕ} {b : ℕ} (marked : OpenFlags k columns counts b) where
-  pub reach-open : reachOf k b ≡ reachIn k columns
-  reach-open = ap (reachOf k) (marked .number)
-
   pub limit-open : limitOf k b ≡ limitOf k (blanksOf places columns)
   limit-open = ap (limitOf k) (marked .number)
 

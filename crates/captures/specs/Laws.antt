@@ -1,7 +1,7 @@
 -- What follows of the calls on whole captures.
 --
 --   decode-on, decode-refused    decoding an accepted capture is closing what it opens as; a refused one gives the number of its opening
---   sort-on, sort-refused        the same of putting one into place order, and writing
+--   sort-on        the same of putting one into place order, and writing
 --   written-decodes              the capture of a proper book with no place missing decodes as closing that book answers
 --   written-sorts                and it is in place order: sorted, it stays as it is
 --   decode-size, decode-decoded  of an accepted capture: 2 if a buffer has the wrong size, else what decoding by its columns and its doubtful list
@@ -50,10 +50,6 @@ module _ (bytes : List ℕ) where
     pub sort-on : openCaptureOf bytes .number ≡ accepted → sortCaptureOf bytes out ≡ writeOf (openCaptureOf bytes .book) out
     unfolding sortCaptureOf writeOpened
     sort-on n = rw (eq-eqb (openCaptureOf bytes .number) accepted n)
-
-    pub sort-refused : openCaptureOf bytes .number ≢ accepted → sortCaptureOf bytes out ≡ filled (openCaptureOf bytes .number) out
-    unfolding sortCaptureOf writeOpened
-    sort-refused n = rw (ne-eqb (openCaptureOf bytes .number) accepted n)
 
 -- ---- the capture of a book
 

@@ -21,7 +21,7 @@ use lib.Dec.{ltb, ltb→lt, lt→ltb}
 use borrow.Author.Tests.{lt-ltb, le-ltb}
 use Rattle.lists.specs.Count.{bit, count, count-none, count-mono, count-strict, count-but, kept, kept-ext}
 use Rattle.lists.specs.Distinct.{and-both}
-use Rattle.lists.specs.Least.{leastOf, least-bound, least-le, least-at}
+use Rattle.lists.specs.Least.{leastOf, least-le, least-at}
 use Rattle.lists.specs.Rank.{rankOf}
 use Rattle.doubt.specs.Keys.{entryOf, Apart, chosenBy, chosenOf}
 

@@ -5,7 +5,7 @@
 --   entryOf keys p         the key of place p in a list
 --   KeyOf n far columns p key   the key of place p, of n places
 --   Keyed n far columns keys    the keys of all of them
---   Apart n far keys       no two places that are not blank share a key; keyed-apart: those of a table do not
+--   Apart n far keys       no two places that are not blank share a key
 --   chosenWith far d key rank   a place with this key and so many ahead of it is not blank, and fewer than d are ahead
 --   chosenBy n far d keys q     the same of place q, by the keys
 --   chosenOf n far d keys  the places chosen, rising
@@ -29,7 +29,7 @@ use Rattle.lists.specs.Rank.{rankOf}
 use Rattle.soft.specs.Blank.{openAt}
 use Rattle.soft.specs.Column.{places, ceiling}
 use Rattle.soft.specs.Doubt.{aheadOf, fewAhead, gapAt, smallest, doubtfulOf}
-use Rattle.soft.specs.DoubtLaws.{key-injective, ahead-rank}
+use Rattle.soft.specs.DoubtLaws.{ahead-rank}
 use Rattle.soft.specs.Ranks.{rank-in}
 use Rattle.soft.specs.Threshold.{closestOf, belowOf, clampOf, doubtBelow}
 use Rattle.soft.specs.ThresholdLaws.{closest-doubtful}
@@ -70,13 +70,6 @@ module _ {n far : ℕ} {columns : ℕ → List ℕ} {keys : List ℕ} (K : Keyed
       go : (b : Bool) → openAt columns p ≡ b → entryOf keys p ≡ gapAt columns p * n + p
       go true e = K .at p l .ordered e .0
       go false e = absurd (omega (arith, K .at p l .behind e))
-
-  pub keyed-apart : Apart n far keys
-  keyed-apart =
-      record {
-        apart = λ p q lp lq h e.
-            key-injective n (gapAt columns) p q lp lq (sym (key-below p lp h) ∙ e ∙ key-below q lq (omega arith));
-      }
 
   pub rank-ahead : (q : ℕ) → q < n → openAt columns q ≡ true → rankOf (entryOf keys) n q ≡ aheadOf n (openAt columns) (gapAt columns) q
   rank-ahead q l o =

@@ -9,7 +9,7 @@ use lib.ListN.{length, getD, set, length-set, replicate, getD-replicate}
 use lib.Seq.{getD-set-same, getD-set-other}
 use borrow.Author.Tests.{eq-eqb}
 use Rattle.algebra.specs.Field.{Field}
-use Rattle.galois.specs.Field16.{GF, K16, toF, toF-zero}
+use Rattle.galois.specs.Field16.{K16, toF, toF-zero}
 use Rattle.hermitian.specs.Keys.{IsKey}
 use Rattle.family.specs.Member.{m16, places}
 use Rattle.planes.specs.Arrays.{Carries, symbolsOf}
@@ -21,7 +21,6 @@ use Rattle.values.specs.Eliminating as Values
 use Rattle.values.specs.Eliminating.{pivots-start, pivots-absent, pivots-stored, pivots-none, reduced-least}
 use Rattle.parts.specs.Parts.{valuesOf}
 use Rattle.elimination.specs.declared.reducing.Reduced.{Reduced}
-use Rattle.elimination.specs.declared.solving.Solved.{Solved}
 use Rattle.elimination.specs.Terms.{TermRow}
 use Rattle.elimination.specs.Reducing.{pivotValues, Reduces}
 use Rattle.elimination.specs.Solving.{Tries, Keeps, SolvedOf}

@@ -15,7 +15,7 @@ use Rattle.galois.specs.Field16.{K16, toF-zero, toF-one}
 use Rattle.hermitian.specs.Present.{Present}
 use Rattle.hermitian.specs.Value.{monomial}
 use Rattle.hermitian.specs.Keys.{IsKey, key-even, key-odd, even-key, odd-key}
-use Rattle.family.specs.Member.{m16, places, px, py}
+use Rattle.family.specs.Member.{m16, px, py}
 use Rattle.planes.specs.Arrays.{elementAt, Carries, symbolsOf, spreadOf, spread-carries, productOf, product-element}
 use Rattle.planes.specs.Rows.{valueAt, joinedOf, whole-joined, slope-joined}
 use Rattle.values.specs.Eliminating.{Reduced, reduced-plain, reduced-z}

@@ -3,7 +3,6 @@ ghost use mathlib.Core.Path.{_≡_};
 ghost use Prim.Native.Nat.{_≤_};
 ghost use Rattle.hermitian.specs.Present.{Present};
 ghost use Rattle.hermitian.specs.Keys.{IsKey};
-ghost use Rattle.family.specs.Member.{m16};
 ghost use Rattle.planes.specs.Arrays.{Carries};
 ghost use Rattle.elimination.specs.Terms.{monomialAt, PowerOf, Tests, TermRow};
 use planes::Planes;

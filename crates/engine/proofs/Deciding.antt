@@ -9,7 +9,7 @@ use native.Mathlib.Omega.{arith}
 use lib.Dec.{ltb}
 use lib.ListN.{length, take}
 use borrow.Author.Tests.{le-leb, lt-leb, le-ltb}
-use Rattle.lists.specs.Count.{bit, count}
+use Rattle.lists.specs.Count.{count}
 use Rattle.lists.specs.Distinct.{among}
 use Rattle.lists.specs.Listed.{listed}
 use Rattle.lists.specs.Over.{over, over-same}
@@ -31,7 +31,7 @@ use Rattle.near.specs.Near.{nearTo, codewordNear}
 use Rattle.near.specs.Reach.{Repairable, radius}
 use Rattle.near.specs.Tree.{decided-through}
 use Rattle.near.specs.Interpolated.{nodesOf}
-use Rattle.near.specs.Decider.{Decider, limit-decides, word-spent}
+use Rattle.near.specs.Decider.{limit-decides, word-spent}
 use Rattle.near.specs.Governing.{Only, only-near, only-far}
 use Rattle.near.specs.Here.{mOf, reachOf, blankLimit, limitOf}
 use Rattle.interpolant.specs.LeastQ.{readingLength, readingOf}

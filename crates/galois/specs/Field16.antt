@@ -1,7 +1,7 @@
 -- GF(16): the laws of every such field at this one, under the names that the crates at this member's sizes use.
 --
 --   GF, K16      the carrier, the numbers below 16, and the field
---   the others   as BinaryField has them; alpha-lt, alpha-cycle: α ^ 15 = 1, so powers of α go round
+--   the others   as BinaryField has them; alpha-cycle: α ^ 15 = 1, so powers of α go round
 use mathlib.Core.Path.{_≡_}
 use mathlib.Core.Logic.{_≢_}
 use Prim.Native.Nat.{ℕ, _%_, _<_}
@@ -58,12 +58,6 @@ toF-one = BinaryField.toF-one gf16
 pub toF-ne-zero : (a : ℕ) → a % 16 ≢ 0 → toF a ≢ 𝟘
 toF-ne-zero = BinaryField.toF-ne-zero gf16
 
-pub value-add : (x y : GF) → value (x ⊕ y) ≡ bitXor (value x) (value y)
-value-add = BinaryField.value-add gf16
-
-pub value-times : (x y : GF) → value (x ⊗ y) ≡ times (value x) (value y)
-value-times = BinaryField.value-times gf16
-
 pub value-zero : value 𝟘 ≡ 0
 value-zero = BinaryField.value-zero gf16
 
@@ -72,9 +66,6 @@ value-one = BinaryField.value-one gf16
 
 pub times-lt : (a b : ℕ) → times a b < 16
 times-lt = BinaryField.times-lt gf16
-
-pub inverse-lt : (a : ℕ) → inverse a < 16
-inverse-lt = BinaryField.inverse-lt gf16
 
 pub inverse-mod : (a : ℕ) → inverse (a % 16) ≡ inverse a
 inverse-mod = BinaryField.inverse-mod gf16
@@ -88,24 +79,11 @@ xor-below = BinaryField.xor-below gf16
 pub times-comm : (a b : ℕ) → times a b ≡ times b a
 times-comm = BinaryField.times-comm gf16
 
-pub times-assoc : (a b c : ℕ) → times (times a b) c ≡ times a (times b c)
-times-assoc = BinaryField.times-assoc gf16
-
 pub times-zero : (a : ℕ) → times a 0 ≡ 0
 times-zero = BinaryField.times-zero gf16
 
 pub times-one : (a : ℕ) → a < 16 → times a 1 ≡ a
 times-one = BinaryField.times-one gf16
-
-pub times-add : (a b c : ℕ) → times a (bitXor b c) ≡ bitXor (times a b) (times a c)
-times-add = BinaryField.times-add gf16
-
-pub times-inverse : (a : ℕ) → a % 16 ≢ 0 → times a (inverse a) ≡ 1
-times-inverse = BinaryField.times-inverse gf16
-
-pub alpha-lt : (n : ℕ) → alpha n < 16
-unfolding alpha
-alpha-lt n = Binary.power-lt 4 3 cases-16 2 n
 
 pub alpha-cycle : (n : ℕ) → alpha (n % 15) ≡ alpha n
 unfolding alpha

@@ -4,7 +4,7 @@
 --   gf16        its record
 --   times a b   a × b: shift and reduce, on a and b below 16
 --   alpha n     α ^ n
---   inverse a   the inverse of a, and 0 for 0 (inverse-zero): a ^ 14
+--   inverse a   the inverse of a, and 0 for 0: a ^ 14
 --   powers      the powers α ^ 0 to α ^ 14, as document 01 lists them; alpha-15: the next one is 1 again
 --   alpha-4     α ^ 4 = α + 1
 use mathlib.Core.Path.{_≡_, refl}
@@ -42,10 +42,6 @@ powers = refl
 pub alpha-4 : alpha 4 ≡ bitXor (alpha 1) 1
 unfolding alpha Binary.power Binary.times Binary.shiftAdd Binary.xtime
 alpha-4 = refl
-
-pub inverse-zero : inverse 0 ≡ 0
-unfolding Binary.inverse Binary.power Binary.times Binary.shiftAdd Binary.xtime
-inverse-zero = refl
 
 pub alpha-15 : alpha 15 ≡ 1
 unfolding alpha Binary.power Binary.times Binary.shiftAdd Binary.xtime

@@ -2,7 +2,7 @@
 --
 --   order w i j         the order of x^i y^j: w·i + (w + 1)·j
 --   xPower, yPower      the powers of x and of y in the monomial of a present order
---   order-present, order-x, order-y, order-injective, order-of   monomials with j < w and present orders are one to one
+--   order-x, order-y, order-injective, order-of   monomials with j < w and present orders are one to one
 --   rank w n            how many present orders lie below n
 --   rank-present        in row q, orders q·w to q·w + w − 1, the rank of a present one is genus (q + 1) and its rest
 --   rank-large          from w(w − 1) on every order is present: exactly genus w of those below n are absent
@@ -26,7 +26,7 @@ use lib.Dec.{leb}
 use lib.ListN.{length, getD, length-append, List·getD-append}
 use lib.Seq.{getD-at}
 use borrow.Author.Tests.{le-leb, lt-leb}
-use Rattle.hermitian.specs.Present.{Present, decPresent, divided, present-at, present-large, genus, genus-zero, genus-suc, genus-double}
+use Rattle.hermitian.specs.Present.{Present, decPresent, divided, present-large, genus, genus-zero, genus-suc, genus-double}
 
 abbrev pub order : ℕ → ℕ → ℕ → ℕ
 order w i j = w * i + (w + 1) * j
@@ -40,9 +40,6 @@ yPower w o = o % w
 -- the order as a quotient and a rest by w
 order-row : (w i j : ℕ) → order w i j ≡ (i + j) * w + j
 order-row w i j = omega (arith, mul-comm w i, mul-comm w j)
-
-pub order-present : (w i j : ℕ) → j < w → Present w (order w i j)
-order-present w i j h = present-at (i + j) j h (omega arith) (order-row w i j)
 
 pub order-y : (w i j : ℕ) → j < w → yPower w (order w i j) ≡ j
 order-y w i j h = divided (i + j) j h (order-row w i j) .1

@@ -6,7 +6,7 @@
 --   mod-below         o % w < w
 --   present-at        q·w + r is present where r ≤ q
 --   present-large     every order from w(w − 1) on is present
---   present-zero, present-x, present-y   the order of 1; the orders of x and of y added to a present one
+--   present-zero, present-x   the order of 1; the order of x added to a present one
 --   present-plus      the sum of two present orders is present
 --   genus w           w(w − 1)/2, the genus of the curve: that many orders are absent
 --   genus-zero, genus-suc, genus-mono   genus 0 = 0; genus (suc r) = genus r + r; it rises with w
@@ -64,9 +64,6 @@ module _ (w : ℕ) (two : 2 ≤ w) where
       go (no h) =
           present-at (a / w + b / w) (a % w + b % w) (omega arith) (omega arith)
           (omega (arith, div-add-mod' a w, div-add-mod' b w))
-
-  pub present-y : (o : ℕ) → Present w o → Present w (o + suc w)
-  present-y o h = present-plus o (suc w) h (present-at 1 1 (omega arith) (omega arith) (omega arith))
 
 -- the genus of y^w + y = x^(w+1)
 unfoldable pub genus : ℕ → ℕ

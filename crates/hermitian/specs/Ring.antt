@@ -4,7 +4,7 @@
 --   timesX, timesY   multiplication by x and by y; `descent` and `top` are its second term
 --   timesMonomial o  multiplication by the monomial of order o: y as often as it has y, then one shift for all its x
 --   fn-plus, fn-scale, fn-zero, fn-unit, fn-shift, fn-timesX, fn-timesY, fn-timesMonomial   they keep to Fn
---   lead-timesY, lead-timesMonomial    the lead goes up by w + 1, by o …
+--   lead-timesY          the lead goes up by w + 1
 --   timesY-lead, timesMonomial-lead    … and keeps its coefficient
 use mathlib.Core.Path.{_≡_, refl, sym, ap, ap₂, _∙_, subst}
 use mathlib.Core.Logic.{_≢_}
@@ -150,13 +150,6 @@ module _ {F : Type 0} (K : Field F) (w : ℕ) where
       ap (λ k. shift K ((o / w - o % w) * w) (powY (o % w) c) k) e
       ∙ shift-at K ((o / w - o % w) * w) (l + o % w * suc w) (powY (o % w) c)
       ∙ powY-lead l (o % w) b
-
-  pub lead-timesMonomial : {c : ℕ → F} {l : ℕ} (o : ℕ) → Present w o → Lead K c l → Lead K (timesMonomial o c) (l + o)
-  lead-timesMonomial {c} {l} o p h =
-      record {
-        ne = λ e. h .ne (sym (timesMonomial-lead l o p (h .above)) ∙ e);
-        above = below-mono K (omega arith) (below-timesMonomial o p (h .above));
-      }
 
   module _ (two : 2 ≤ w) where
     pub fn-shift : (s : ℕ) → Present w s → {c : ℕ → F} → Fn c → Fn (shift K s c)

@@ -4,7 +4,6 @@ ghost use Prim.Native.Nat.{_<_, _≤_};
 ghost use lib.ListN.{length};
 ghost use Rattle.lists.specs.Listed.{listed};
 ghost use Rattle.hermitian.specs.Keys.{first};
-ghost use Rattle.planes.specs.Arrays.{Carries, symbolsOf};
 ghost use Rattle.interpolation.specs.Start.{YPowers, StartRow, Started};
 use crate::PLACES;
 use basis::CLASSES;

@@ -5,7 +5,6 @@
 --   chosen             they can be listed so
 --   decNot             the opposite decision
 --   count-opposite     accepted and not accepted ones together are n
---   count-all, count-le    where all are accepted the count is n; it is never more
 use mathlib.Core.Path.{_≡_, refl, sym, ap, _∙_, subst}
 use mathlib.Core.Logic.{_⊎_, inl, inr, ⊎-elim}
 use Prim.Native.Nat.{ℕ, zero, suc, _+_, _<_, _≤_}
@@ -66,19 +65,6 @@ module _ {P : ℕ → Type 0} (dec : (i : ℕ) → Dec (P i)) where
   pub count-suc : (n : ℕ) → count (suc n) ≡ oneMore (dec n) (count n)
   unfolding count
   count-suc n = refl
-
-  pub count-le : (n : ℕ) → count n ≤ n
-  count-le zero = omega (arith, count-nil)
-  count-le (suc n) = go (dec n) (count-le n)
-    where
-      go : Dec (P n) → count n ≤ n → count (suc n) ≤ suc n
-      go (yes p) ih = omega (arith, count-suc n, one-more-yes (dec n) (count n) p)
-      go (no p) ih = omega (arith, count-suc n, one-more-no (dec n) (count n) p)
-
-  pub count-all : (n : ℕ) → ((i : ℕ) → i < n → P i) → count n ≡ n
-  count-all zero h = count-nil
-  count-all (suc n) h =
-      count-suc n ∙ one-more-yes (dec n) (count n) (h n (le-refl (suc n))) ∙ ap suc (count-all n (λ i l. h i (omega arith)))
 
   pub record Chosen (n : ℕ) : Type 0 where
     pub at : ℕ → ℕ

@@ -4,7 +4,7 @@
 --   nextOf b n f     the next least of them, where b stands twice: a number that occurs twice among the least is the next one too
 --   least-nil, least-suc, next-nil, next-suc   the definitions step by step
 --   least-turn, next-turn   one turn of a loop that keeps both
---   least-bound, least-le   the least is no larger than any of them; least-above: what is no larger than all of them is no larger than the least
+--   least-le   the least is no larger than any of them; least-above: what is no larger than all of them is no larger than the least
 --   least-at         it is one of them, where it is not b
 --   least-next       nor than the next
 --   next-le          the next is no larger than one of any two; next-above: what is no larger than one of any two is no larger than the next
@@ -51,10 +51,6 @@ module _ (b : ℕ) (f : ℕ → ℕ) where
       → r ≡ nextOf b (n + 1) f
   next-turn n held least r v e g q h =
       h ∙ ap₂ min e (ap₂ max g q) ∙ sym (next-suc n) ∙ ap (λ k. nextOf b k f) (sym (add-one n))
-
-  pub least-bound : (n : ℕ) → leastOf b n f ≤ b
-  least-bound zero = omega (arith, least-nil)
-  least-bound (suc n) = omega (arith, least-suc n, least-bound n)
 
   pub least-le : (n k : ℕ) → k < n → leastOf b n f ≤ f k
   least-le zero k h = absurd (omega arith)

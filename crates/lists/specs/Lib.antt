@@ -14,7 +14,6 @@ pub mod Block
 pub mod Member
 pub mod Same
 pub mod XorSum
-pub mod Summed
 pub mod Count
 pub mod Different
 pub mod Rank

@@ -1,7 +1,6 @@
 -- Sums of numbers by exclusive or: xorSum n f is f 0, f 1, …, f (n − 1), added.
 --
 --   xorSum-nil, xorSum-suc   the recursion, as equations
---   xorSum-ext               equal terms below n give equal sums
 --   xorSum-more              terms that are zero from m on add nothing
 --   xorSum-single            a sum with one term that is not zero is that term
 --   xorSum-below             terms below 2 ^ b have a sum below it
@@ -24,11 +23,6 @@ xorSum-nil f = refl
 pub xorSum-suc : (n : ℕ) (f : ℕ → ℕ) → xorSum (suc n) f ≡ bitXor (xorSum n f) (f n)
 unfolding xorSum
 xorSum-suc n f = refl
-
-pub xorSum-ext : (n : ℕ) (f g : ℕ → ℕ) → ((k : ℕ) → k < n → f k ≡ g k) → xorSum n f ≡ xorSum n g
-unfolding xorSum
-xorSum-ext zero f g h = refl
-xorSum-ext (suc n) f g h = ap₂ bitXor (xorSum-ext n f g (λ k l. h k (le-step l))) (h n (lt-suc-self n))
 
 pub xorSum-below : (b n : ℕ) (f : ℕ → ℕ) → ((k : ℕ) → k < n → f k < 2 ^ b) → xorSum n f < 2 ^ b
 unfolding xorSum

@@ -11,7 +11,7 @@ use native.Mathlib.Omega.{arith}
 use lib.Dec.{ltb, leb}
 use lib.ListN.{getD}
 use borrow.Author.Tests.{le-leb, lt-leb, le-ltb}
-use Rattle.lists.specs.Count.{count, count-none}
+use Rattle.lists.specs.Count.{count-none}
 use Rattle.soft.specs.Column.{places}
 use Rattle.marks.specs.Low.{above, belowBy, Splits}
 

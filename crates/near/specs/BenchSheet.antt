@@ -2,7 +2,7 @@
 --
 --   benchSheet      the ten lines, in order
 --   all-pass        the theorem: every line passes
---   AllPass tests   every test of a table passes; passes-at: so does each
+--   AllPass tests   every test of a table passes
 use mathlib.Core.Bool.{Bool, true}
 use mathlib.Core.List.{List, [], _∷_}
 use Prim.Native.Nat.{ℕ, zero, suc, _<_}
@@ -42,8 +42,3 @@ pub all-pass : AllPass benchSheet
 all-pass =
     and-then c1
     (and-then c2 (and-then c3 (and-then c4 (and-then c5 (and-then c6 (and-then c7 (and-then c8 (and-then c9 (and-then c10 none-left)))))))))
-
-pub passes-at : {tests : List Bool} → AllPass tests → (n : ℕ) → n < length tests → T (getD tests n true)
-passes-at none-left n h = absurd (not-suc-le-zero h)
-passes-at (and-then t rest) zero h = t
-passes-at (and-then t rest) (suc n) h = passes-at rest n (le-of-suc-le-suc h)

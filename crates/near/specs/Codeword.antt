@@ -1,6 +1,6 @@
 -- A message as a function on the curve: what nearness of words says in the theory, for every member and any places that count.
 --
---   codeword-symbol, codeword-cost   a codeword has a symbol at each place, so its cost there is one of the column's
+--   codeword-symbol     a codeword has a symbol at each place
 --   symbolsOf word       a word as elements of the field, by place
 --   messageFunction k m       the function of a message
 --   messageFunction-fn, messageFunction-order, encode-val   it is a function of order at most M, and the codeword holds its values
@@ -37,7 +37,7 @@ use Rattle.hermitian.specs.Points.{Points, points-some}
 use Rattle.hermitian.specs.Decoding.{Near, near-unique}
 use Rattle.hermitian.specs.Orders.{orderOf}
 use Rattle.hermitian.specs.Message.{messageFn, message-at, message-fn, message-order, message-val}
-use Rattle.soft.specs.Total.{symbolAt, costIn, agree, differAt, differingIn}
+use Rattle.soft.specs.Total.{symbolAt, agree, differAt, differingIn}
 use Rattle.family.specs.Member.{Member, symbols, places, px, py}
 use Rattle.family.specs.Points.{points}
 use Rattle.family.specs.Encoding.{encodeOf, valueAt, toF-valueAt}
@@ -50,11 +50,6 @@ module _ (𝓜 : Member) where
 
   pub codeword-symbol : (k : ℕ) (m : List ℕ) (p : ℕ) → p < places 𝓜 → symbolAt (encodeOf 𝓜 k m) p < symbols 𝓜
   codeword-symbol k m p h = encode-at 𝓜 k m p h
-
-  -- so a total never counts the 0 that stands for the cost of what is no symbol
-  pub codeword-cost : (k : ℕ) (m : List ℕ) (columns : ℕ → List ℕ) (p : ℕ) → p < places 𝓜 → length (columns p) ≡ symbols 𝓜
-      → List·Memᴰ (costIn columns (encodeOf 𝓜 k m) p) (columns p)
-  codeword-cost k m columns p h long = member-at (columns p) 0 (symbolAt (encodeOf 𝓜 k m) p) (omega (arith, codeword-symbol k m p h))
 
   unfoldable pub symbolsOf : List ℕ → ℕ → GF gf
   symbolsOf word p = toF gf (getD word p 0)

@@ -1,7 +1,7 @@
 -- The doubtful places left at a node, from one of them on: `drop (doubt - left) (take doubt doubtful)`, in a list of any length.
 --
 --   left-cons, left-none     the next place and the others; and none
---   none-left, some-left     where the number of those left is 0, and where it is not
+--   some-left           where the number of those left is not 0
 --   rest-length              so many are left
 --   places-rest              the others are places too
 --   split-places             the places left are the one that is decided next, and the rest
@@ -26,9 +26,6 @@ module _ (doubtful : List ℕ) (doubt i : ℕ) where
   left-none h =
       let b : length (take doubt doubtful) ≤ i = omega (arith, length-take doubt doubtful) in
       drop-of-length-le (take doubt doubtful) b
-
-pub none-left : (doubt left : ℕ) (doubtful : List ℕ) → left ≡ 0 → drop (doubt - left) (take doubt doubtful) ≡ []
-none-left doubt left doubtful e = left-none doubtful doubt (doubt - left) (omega arith)
 
 pub some-left : (left : ℕ) → (left ≡ 0 → ⊥) → 0 < left
 some-left left h = omega arith

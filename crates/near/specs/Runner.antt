@@ -5,7 +5,6 @@
 --   margin-absent                there is none exactly if no other codeword is near
 --   margin-some                  where m is the answer, it is d exactly if there is a runner-up whose total is m's total and d
 --   margin-beaten, margin-nobody   what the answer costs more than a message that beats it; none where no codeword is near
---   margin-columns               only the columns of the places matter
 --   margin-le                    it is no larger than what every codeword costs at most
 --   margin-governed              where no codeword but that of m is within T of a test word, there is none
 --   margin-append                the margin of two lists is the smaller of theirs
@@ -21,9 +20,7 @@ use Rattle.lists.specs.Words.{words}
 use Rattle.lists.specs.Answers.{Answers, Beats, Found}
 use Rattle.lists.specs.Margin as Margin
 use Rattle.lists.specs.Margin.{marginAmong, RunnerUp, lesser, lesser-none, lesser-comm}
-use Rattle.soft.specs.TotalLaws.{totalOf-ext}
-use Rattle.family.specs.Member.{Member, symbols, places}
-use Rattle.family.specs.Encoding.{encodeOf}
+use Rattle.family.specs.Member.{Member, symbols}
 use Rattle.near.specs.Near.{nearTo, near, messageCost, answerOf}
 use Rattle.near.specs.Laws.{near-member, near-answers, found-append}
 
@@ -58,13 +55,6 @@ module _ (𝓜 : Member) (counts : ℕ → Bool) (reach : ℕ) where
     pub margin-nobody : answerOf 𝓜 counts reach k columns ts ≡ none → (m : List ℕ) → marginOf k columns ts m ≡ none
     unfolding marginOf
     margin-nobody e m = Margin.margin-nobody (symbols 𝓜) k (messageCost 𝓜 k columns) (near 𝓜 counts reach k ts) (answered e) m
-
-    pub margin-columns : {dues : ℕ → List ℕ} → ((p : ℕ) → p < places 𝓜 → columns p ≡ dues p) → (m : List ℕ)
-        → marginOf k columns ts m ≡ marginOf k dues ts m
-    unfolding marginOf messageCost
-    margin-columns {dues} h m =
-        ap (λ cost. marginAmong cost (near 𝓜 counts reach k ts) (words (symbols 𝓜) k) m)
-        (fun-ext (λ n. totalOf-ext (places 𝓜) columns dues (encodeOf 𝓜 k n) h))
 
     pub margin-le : {b : ℕ} → ((n : List ℕ) → messageCost 𝓜 k columns n ≤ b) → (m : List ℕ) {d : ℕ} → marginOf k columns ts m ≡ some d → d ≤ b
     unfolding marginOf

@@ -12,7 +12,6 @@
 --   unblanked-nil, unblanked-in, unblanked-out, unblanked-snoc   the definition step by step
 --   unblanked-member       a place of those that count is in the list, and counts; member-unblanked: and the other way round
 --   unblanked-length       they are no more than the list has; unblanked-split: with those that do not count they are as many
---   unblanked-ext          only what is said of the list's places matters
 --   unblanked-different    different places stay different
 use mathlib.Core.Bool.{Bool, true, false, not, cond}
 use mathlib.Core.Path.{_≡_, refl, sym, ap, ap₂, _∙_, subst, fun-ext}
@@ -201,9 +200,3 @@ module _ (counts : ℕ → Bool) where
       go : (b : Bool) → counts p ≡ b → Different (unblanked counts ps) → Different (unblanked counts (p ∷ ps))
       go true e ih = subst Different (sym (unblanked-in p ps e)) (different-cons (λ m. fresh (unblanked-member ps p m .0)) ih)
       go false e ih = subst Different (sym (unblanked-out p ps e)) ih
-
-pub unblanked-ext : (c e : ℕ → Bool) (ps : List ℕ) → ((p : ℕ) → List·Memᴰ p ps → c p ≡ e p) → unblanked c ps ≡ unblanked e ps
-unfolding unblanked
-unblanked-ext c e [] h = refl
-unblanked-ext c e (p ∷ ps) h =
-    ap₂ (λ (b : Bool) (l : List ℕ). cond b (p ∷ l) l) (h p (List·Memᴰ·head refl)) (unblanked-ext c e ps (λ q m. h q (List·Memᴰ·tail m)))

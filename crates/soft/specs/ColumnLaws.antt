@@ -3,7 +3,6 @@
 --   firstBut-zero, firstBut-other, cheaper-left, cheaper-next, cheaper-held, bestBut-nil, bestBut-suc   the definitions step by step
 --   BestBut column b n r   r is the best of the first n symbols other than b: least cost, and among equal costs the smallest
 --   bestBut-best           bestBut finds it
---   bestBut-unique         there is only one
 --   best-best              the best symbol is the best with none left out; best-least, best-first: its cost is least, equal costs are at no smaller symbol
 --   second-best            the second symbol is the best of the others; second-other: it differs from the best
 --   best-below, second-below   both are symbols of the column
@@ -68,12 +67,6 @@ pub record BestBut (column : List ℕ) (b n r : ℕ) : Type 0 where
   pub other : r ≢ b
   pub least : (s : ℕ) → s < n → s ≢ b → costOf column r ≤ costOf column s
   pub first : (s : ℕ) → s < n → s ≢ b → costOf column s ≡ costOf column r → r ≤ s
-
-pub bestBut-unique : (column : List ℕ) (b n r t : ℕ) → BestBut column b n r → BestBut column b n t → r ≡ t
-bestBut-unique column b n r t x y =
-    let l : costOf column r ≤ costOf column t = x .least t (y .below) (y .other) in
-    let m : costOf column t ≤ costOf column r = y .least r (x .below) (x .other) in
-    le-antisymm (x .first t (y .below) (y .other) (le-antisymm m l)) (y .first r (x .below) (x .other) (le-antisymm l m))
 
 -- the symbol held after n of them: it may be the first, which is not among them yet
 record HeldSymbol (column : List ℕ) (b n r : ℕ) : Type 0 where

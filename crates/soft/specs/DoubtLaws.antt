@@ -1,7 +1,7 @@
 -- Laws of the doubtful places.
 --
 --   ahead-cases            a place is ahead by a smaller gap, or by an equal one and as the lower place; smaller-ahead: by a smaller gap it always is
---   none-ahead, ahead-none   the places ahead count 0 exactly if no place that counts is ahead: the place is the first
+--   ahead-none             the places ahead count 0 where no place that counts is ahead: the place is the first
 --   ahead-key              of two of n places one is ahead exactly if its key, the gap times n plus the place, is smaller
 --   key-injective          no two places share a key
 --   ahead-rank             so the places ahead are counted by a rank
@@ -27,7 +27,7 @@ use native.Mathlib.Omega.{arith}
 use lib.Dec.{T, ltb, eqb, ltb→lt, lt→ltb, eqb→eq}
 use lib.ListN.{length}
 use borrow.Author.Tests.{lt-ltb, le-ltb, ltb-true, eq-eqb, ne-eqb}
-use Rattle.lists.specs.Count.{count, count-ext, count-none, count-zero, count-mono, count-strict, kept, kept-ext, kept-length, kept-member, kept-passes, kept-rising, kept-none, Rising}
+use Rattle.lists.specs.Count.{count, count-ext, count-zero, count-mono, count-strict, kept, kept-ext, kept-length, kept-member, kept-passes, kept-rising, kept-none, Rising}
 use Rattle.lists.specs.Distinct.{and-both}
 use Rattle.lists.specs.Every.{both-left, both-right, both-intro, T-true, true-T}
 use Rattle.soft.specs.Column.{ceiling, costOf, secondOf, doubtGapOf, isBlank}
@@ -82,16 +82,6 @@ doubtful-none n columns =
 
 -- the first of the places that count
 module _ (n : ℕ) (gap : ℕ → ℕ) (counts : ℕ → Bool) (q : ℕ) where
-  pub none-ahead : ((p : ℕ) → p < n → counts p ≡ true → T (ahead gap p q) → ⊥) → aheadOf n counts gap q ≡ 0
-  unfolding aheadOf
-  none-ahead none =
-      count-none n (λ p. counts p && ahead gap p q)
-      (λ p l. T-false (counts p && ahead gap p q) (λ t. none p l (T-true (counts p) (both-left (counts p) (ahead gap p q) t)) (both-right (counts p) (ahead gap p q) t)))
-    where
-      T-false : (b : Bool) → (T b → ⊥) → b ≡ false
-      T-false true f = absurd (f tt)
-      T-false false f = refl
-
   pub ahead-none : aheadOf n counts gap q ≡ 0 → (p : ℕ) → p < n → counts p ≡ true → T (ahead gap p q) → ⊥
   unfolding aheadOf
   ahead-none e p l c t =

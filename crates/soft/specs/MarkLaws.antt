@@ -1,16 +1,14 @@
 -- Laws of the mark: its sum of smallest gaps is what it says, and a marked word is undercut by none that differs from it in far places.
 --
---   sumIn-suc, sumIn-same  one place more; where f is the same at every place, the sum is so many times that
+--   sumIn-same             where f is the same at every place, the sum is so many times that
 --   low-count              where at least j places count, exactly j of them are summed; low-most: never more
 --   lowSum-none            none where j is 0
 --   lowSum-le              the sum of any at least j places that count is no smaller
 --   lowSum-threshold       by any t that at most j gaps are below, and at least j are up to: the sum of those below, and t for each of the rest
---   lowSum-ext, marked-ext   only the n places matter
---   best-total             the best costs are what the word of best symbols costs; best-total-le: no word of symbols costs less
 --   excess-ext             of the excess only the n places matter; excess-total: a word of symbols costs over all best costs what its changed places do
 --   blank-gap              the plain gap of a blank column is 0
 --   unchanged-count        changed and unchanged places are all
---   unchanged-blank        a blank place is unchanged; unchanged-cases: an unchanged place is blank, or the word has the best symbol there
+--   unchanged-cases        an unchanged place is blank, or the word has the best symbol there
 --   slack-none             the slack is 0 where no fewer than far places are changed
 --   marked-total, total-marked   a word is marked exactly if it costs at most all best costs and the slack
 --   marked-least           no word of symbols costs less than a marked one, if it differs from that in at least far of the n places
@@ -31,19 +29,14 @@ use Rattle.soft.specs.Column.{costOf, bestOf, secondOf, gapOf, isBlank}
 use Rattle.soft.specs.ColumnLaws.{best-below, best-least, second-below, second-best, gap-cost}
 use Rattle.soft.specs.BlankLaws.{blank-same}
 use Rattle.soft.specs.Doubt.{ahead, aheadBy, aheadOf, fewAhead, smallest}
-use Rattle.soft.specs.DoubtLaws.{ahead-cases, smaller-ahead, aheadOf-ext, smallest-length, smallest-most, smallest-ahead}
-use Rattle.soft.specs.TestWord.{bestAt, bestWord}
-use Rattle.soft.specs.TestWordLaws.{bestWord-at}
+use Rattle.soft.specs.DoubtLaws.{ahead-cases, smaller-ahead, smallest-length, smallest-most, smallest-ahead}
+use Rattle.soft.specs.TestWord.{bestAt}
 use Rattle.soft.specs.Total.{symbolAt, costIn, totalOf, changedAt, changedOf, agree, differAt, differingIn, differing}
-use Rattle.soft.specs.TotalLaws.{agree-true, changed-blank, totalOf-ext, changedOf-ext}
+use Rattle.soft.specs.TotalLaws.{agree-true}
 use Rattle.soft.specs.Threshold.{belowOf}
 use Rattle.soft.specs.Mark.{isBelow, sumIn, lowSum, bestCost, bestTotal, plainGap, unchanged, slack, isMarked, excessIn}
 
 -- ---- sums over the places that count
-
-pub sumIn-suc : (n : ℕ) (counts : ℕ → Bool) (f : ℕ → ℕ) → sumIn (suc n) counts f ≡ sumIn n counts f + cond (counts n) (f n) 0
-unfolding sumIn
-sumIn-suc n counts f = sumOf-suc n (λ p. cond (counts p) (f p) 0)
 
 pub sumIn-same : (n : ℕ) (counts : ℕ → Bool) (t : ℕ) → sumIn n counts (λ p. t) ≡ count n counts * t
 unfolding sumIn
@@ -233,11 +226,6 @@ module _ (n j : ℕ) (counts : ℕ → Bool) (gap : ℕ → ℕ) (t : ℕ) where
         )
 
 module _ (n j : ℕ) (c e : ℕ → Bool) (g h : ℕ → ℕ) (counts : (p : ℕ) → p < n → c p ≡ e p) (gaps : (p : ℕ) → p < n → g p ≡ h p) where
-  pub lowSum-ext : lowSum n j c g ≡ lowSum n j e h
-  unfolding lowSum sumIn
-  lowSum-ext =
-      sumOf-ext n _ _
-      (λ p l. ap₂ (λ (b : Bool) x. cond b x 0) (ap₂ (λ (a : Bool) r. a && ltb r j) (counts p l) (aheadOf-ext n c e g h counts gaps p l)) (gaps p l))
 
 -- ---- best costs and unchanged places
 
@@ -246,21 +234,7 @@ blank-gap column two e =
     let same : costOf column (secondOf column) ≡ costOf column (bestOf column) = blank-same column .0 e (secondOf column) (bestOf column) (second-below column two) (best-below column two) in
     omega (arith, gap-cost column two)
 
-pub best-total : (n : ℕ) (columns : ℕ → List ℕ) → bestTotal n columns ≡ totalOf n columns (bestWord n columns)
-unfolding bestTotal totalOf
-best-total n columns =
-    sumOf-ext n (bestCost columns) (costIn columns (bestWord n columns)) (λ p l. ap (costOf (columns p)) (sym (bestWord-at n columns p l)))
-
-pub best-total-le : (n : ℕ) (columns : ℕ → List ℕ) (word : List ℕ) → ((p : ℕ) → p < n → 1 < length (columns p))
-    → ((p : ℕ) → p < n → symbolAt word p < length (columns p)) → bestTotal n columns ≤ totalOf n columns word
-unfolding bestTotal totalOf
-best-total-le n columns word two symbols =
-    sumOf-mono n (bestCost columns) (costIn columns word) (λ p l. best-least (columns p) (two p l) (symbolAt word p) (symbols p l))
-
 module _ (columns : ℕ → List ℕ) (word : List ℕ) (p : ℕ) where
-  pub unchanged-blank : isBlank (columns p) ≡ true → unchanged columns word p ≡ true
-  unchanged-blank e = ap not (changed-blank columns word p e)
-
   pub unchanged-cases : T (unchanged columns word p) → (isBlank (columns p) ≡ true) ⊎ (symbolAt word p ≡ bestAt columns p)
   unchanged-cases t = go (isBlank (columns p)) refl (eqb (symbolAt word p) (bestAt columns p)) refl t
     where
@@ -400,13 +374,3 @@ module _ (n far : ℕ) (columns : ℕ → List ℕ) (word : List ℕ) where
             lowSum-le n (far - changedOf n columns word) (unchanged columns word) (plainGap columns) moved
                 (λ p l s. both-right (differAt word other p) (unchanged columns word p) s) (moved-count apart),
           )
-
-pub marked-ext : (n far : ℕ) (c e : ℕ → List ℕ) (word : List ℕ) → ((p : ℕ) → p < n → c p ≡ e p) → isMarked n far c word ≡ isMarked n far e word
-unfolding isMarked slack bestTotal
-marked-ext n far c e word h =
-    ap₂ leb
-    (ap₂ (λ x y. x - y) (totalOf-ext n c e word h) (sumOf-ext n (bestCost c) (bestCost e) (λ p l. ap (λ column. costOf column (bestOf column)) (h p l))))
-    (ap (λ changed. lowSum n (far - changed) (unchanged c word) (plainGap c)) (changedOf-ext n c e word h)
-    ∙ lowSum-ext n (far - changedOf n e word) (unchanged c word) (unchanged e word) (plainGap c) (plainGap e)
-    (λ p l. ap (λ column. not (not (isBlank column) && not (eqb (symbolAt word p) (bestOf column)))) (h p l))
-    (λ p l. ap gapOf (h p l)))

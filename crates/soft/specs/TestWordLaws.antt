@@ -11,7 +11,6 @@
 --   testWords-different    no two are equal: different doubtful places, each with two symbols at least, make different words
 --   chosen-test            whichever of the two symbols is chosen at each doubtful place that is not blank, a test word has the chosen ones
 --   bestWord-length, bestWord-at   the word of best symbols
---   bestWord-ext, expand-ext, testWords-ext   only the columns of the places matter
 use mathlib.Core.Bool.{true, not, true≢false}
 use mathlib.Core.Path.{_≡_, refl, sym, ap, ap₂, _∙_, subst}
 use mathlib.Core.List.{List, [], _∷_, _++_, List·Memᴰ, List·Memᴰ·head, List·Memᴰ·tail, List·Memᴰ·cases-cons, List·Memᴰ·append-cases, List·Memᴰ·not-nil, List·Memᴰ·eq-of-singleton, Memᴰ·append-left, Memᴰ·append-right}
@@ -22,11 +21,11 @@ use native.Mathlib.Decide.{decLe, ℕ-discrete}
 use native.Mathlib.Omega.{arith}
 use lib.ListN.{length, getD, set, length-append, length-set}
 use lib.Seq.{getD-set-same, getD-set-other, set-getD, set-out}
-use Rattle.lists.specs.Listed.{listed-length, listed-at, listed-ext}
+use Rattle.lists.specs.Listed.{listed-length, listed-at}
 use Rattle.lists.specs.Different.{Different, different-nil, different-cons, different-append}
-use Rattle.soft.specs.Column.{bestOf, secondOf, isBlank}
+use Rattle.soft.specs.Column.{isBlank}
 use Rattle.soft.specs.Blank.{openAt, unblanked}
-use Rattle.soft.specs.BlankLaws.{unblanked-nil, unblanked-member, member-unblanked, unblanked-different, unblanked-ext}
+use Rattle.soft.specs.BlankLaws.{unblanked-nil, unblanked-member, member-unblanked, unblanked-different}
 use Rattle.soft.specs.TestWord.{bestAt, secondAt, Offered, bestWord, expand, testWords}
 use Rattle.soft.specs.ColumnLaws.{second-other}
 
@@ -244,26 +243,3 @@ module _ (columns : ℕ → List ℕ) (symbol : ℕ → ℕ) where
         r .1,
         λ p l m c. r .2 p (omega (arith, bestWord-length n columns)) (inl (member-unblanked (openAt columns) doubtful p m c)),
       )
-
--- only the columns of the places matter
-pub bestWord-ext : (n : ℕ) (c e : ℕ → List ℕ) → ((p : ℕ) → p < n → c p ≡ e p) → bestWord n c ≡ bestWord n e
-unfolding bestWord
-bestWord-ext n c e h = listed-ext n (bestAt c) (bestAt e) (λ p l. ap bestOf (h p l))
-
-pub expand-ext : (c e : ℕ → List ℕ) (word ps : List ℕ) → ((p : ℕ) → List·Memᴰ p ps → c p ≡ e p) → expand c word ps ≡ expand e word ps
-expand-ext c e word [] h = expand-nil c word ∙ sym (expand-nil e word)
-expand-ext c e word (p ∷ ps) h =
-    let q : c p ≡ e p = h p (List·Memᴰ·head refl) in
-    expand-cons c word p ps
-    ∙ ap₂ (λ (u v : List (List ℕ)). u ++ v)
-    (expand-ext c e (set word p (bestAt c p)) ps (λ k m. h k (List·Memᴰ·tail m)) ∙ ap (λ x. expand e (set word p (bestOf x)) ps) q)
-    (expand-ext c e (set word p (secondAt c p)) ps (λ k m. h k (List·Memᴰ·tail m)) ∙ ap (λ x. expand e (set word p (secondOf x)) ps) q)
-    ∙ sym (expand-cons e word p ps)
-
-pub testWords-ext : (n : ℕ) (c e : ℕ → List ℕ) (doubtful : List ℕ) → ((p : ℕ) → p < n → c p ≡ e p) → ((p : ℕ) → List·Memᴰ p doubtful → p < n)
-    → testWords n c doubtful ≡ testWords n e doubtful
-unfolding testWords
-testWords-ext n c e doubtful h b =
-    ap (expand c (bestWord n c)) (unblanked-ext (openAt c) (openAt e) doubtful (λ p m. ap (λ x. not (isBlank x)) (h p (b p m))))
-    ∙ expand-ext c e (bestWord n c) (unblanked (openAt e) doubtful) (λ p m. h p (b p (unblanked-member (openAt e) doubtful p m .0)))
-    ∙ ap (λ w. expand e w (unblanked (openAt e) doubtful)) (bestWord-ext n c e h)

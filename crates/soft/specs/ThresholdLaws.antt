@@ -14,10 +14,9 @@
 --   closest-all            where all gaps are below it, only the maximum bounds the choice
 --   closest-rising, closest-below, closest-counts   they rise, and are places that count
 --   closest-ahead          each chosen place is ahead of each place that counts and is not chosen
---   closest-ext            only the n places matter
 --   closest-doubtful       of a table: the doubtful places with a doubt that is counted; doubt-below-most, doubt-below-some: the maximum at
 --                          most, and 1 at least
---   closestOf-close, close-closestOf, closestOf-first, closestOf-most, closestOf-length, closestOf-rising, closestOf-below, closestOf-ext   the same of
+--   closestOf-close, close-closestOf, closestOf-first, closestOf-most, closestOf-length, closestOf-rising, closestOf-below   the same of
 --                          a table's places
 --   closest-open           no blank place is chosen
 --   closest-pinned         a place whose second cost is at the ceiling, over a lower best, is chosen only as the first,
@@ -35,12 +34,12 @@ use borrow.Author.Tests.{lt-ltb, le-ltb, eq-eqb, ne-eqb}
 use Rattle.lists.specs.Count.{count, count-mono, count-strict, count-none, kept-ext, kept-length, kept-member, kept-passes, kept-rising, Rising}
 use Rattle.lists.specs.Member.{member-at}
 use Rattle.lists.specs.Every.{both-left, both-right, both-intro, T-true, true-T}
-use Rattle.soft.specs.Column.{ceiling, costOf, secondOf, doubtGapOf, isBlank}
+use Rattle.soft.specs.Column.{ceiling, costOf, secondOf}
 use Rattle.soft.specs.ColumnLaws.{PinnedSecond, doubt-gap-pinned}
 use Rattle.soft.specs.Blank.{openAt, blanksOf}
 use Rattle.soft.specs.BlankLaws.{open-count}
 use Rattle.soft.specs.Doubt.{ahead, aheadOf, fewAhead, smallest, gapAt, doubtfulOf}
-use Rattle.soft.specs.DoubtLaws.{ahead-cases, smaller-ahead, ahead-none, aheadOf-ext, smallest-length, smallest-most, smallest-below, smallest-counts, smallest-few, smallest-ahead, pinned-behind}
+use Rattle.soft.specs.DoubtLaws.{ahead-cases, smaller-ahead, ahead-none, smallest-length, smallest-most, smallest-below, smallest-counts, smallest-few, smallest-ahead, pinned-behind}
 use Rattle.soft.specs.Threshold.{isClose, closest, closestOf, belowOf, clampOf, doubtBelow}
 
 -- ---- the number chosen
@@ -273,16 +272,6 @@ module _ (n t m : ℕ) (counts : ℕ → Bool) (gap : ℕ → ℕ) where
       at q l true e = simp (lt-ltb (gap q) t (small q l e), or-true, and-true)
       at q l false e = simp e
 
--- only what is said of the n places matters
-pub closest-ext : (n t m : ℕ) (c e : ℕ → Bool) (g h : ℕ → ℕ) → ((p : ℕ) → p < n → c p ≡ e p) → ((p : ℕ) → p < n → g p ≡ h p)
-    → closest n t m c g ≡ closest n t m e h
-unfolding closest
-closest-ext n t m c e g h counts gaps =
-    kept-ext n (isClose n t m c g) (isClose n t m e h)
-    (λ q l.
-    ap₂ (λ (a b : Bool). a && b) (counts q l)
-    (ap₂ (λ r x. ltb r m && (eqb r 0 || ltb x t)) (aheadOf-ext n c e g h counts gaps q l) (gaps q l)))
-
 -- ---- the same of a table's places
 
 module _ (n t m : ℕ) (columns : ℕ → List ℕ) where
@@ -343,8 +332,3 @@ module _ (n t m : ℕ) (columns : ℕ → List ℕ) where
       go (no a) =
           absurd
           (ahead-none n (gapAt columns) (openAt columns) q (closest-pinned low q h s) p l o (pinned-behind columns p q (omega arith) h))
-
-pub closestOf-ext : (n t m : ℕ) (c e : ℕ → List ℕ) → ((p : ℕ) → p < n → c p ≡ e p) → closestOf n t m c ≡ closestOf n t m e
-unfolding closestOf
-closestOf-ext n t m c e h =
-    closest-ext n t m (openAt c) (openAt e) (gapAt c) (gapAt e) (λ p l. ap (λ x. not (isBlank x)) (h p l)) (λ p l. ap doubtGapOf (h p l))

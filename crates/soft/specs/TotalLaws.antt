@@ -1,11 +1,10 @@
 -- Laws of a word's total, pinned and changed places, of the places in which two words differ, and of the report.
 --
---   totalOf-suc, pinnedOf-suc, changedOf-suc   one place more
+--   totalOf-suc, pinnedOf-suc   one place more
 --   pinned-summed          a cost at the ceiling is summed as it stands, and counted as pinned
 --   pinned-total           the pinned places alone cost the ceiling each
 --   pinned-told            no place is pinned exactly if no symbol of the word costs the ceiling at its place
 --   total-bound            n costs of at most b cost at most n * b
---   totalOf-ext, pinnedOf-ext, changedOf-ext   only the columns of the places matter
 --   differing-le, differing-self, differing-comm, differing-triangle, differing-none   differing is a distance of words of n places
 --   differing-mono         where fewer places count, two words differ in no more of them; differing-fewer: so of those that count than of all
 --   differing-set          a word with one symbol or another at a place
@@ -44,10 +43,6 @@ module _ (columns : ℕ → List ℕ) (word : List ℕ) where
   pub pinnedOf-suc : (n : ℕ) → pinnedOf (suc n) columns word ≡ pinnedOf n columns word + bit (pinnedAt columns word n)
   unfolding pinnedOf
   pinnedOf-suc n = count-suc n (pinnedAt columns word)
-
-  pub changedOf-suc : (n : ℕ) → changedOf (suc n) columns word ≡ changedOf n columns word + bit (changedAt columns word n)
-  unfolding changedOf
-  changedOf-suc n = count-suc n (changedAt columns word)
 
   pub pinned-summed : (n : ℕ) → costIn columns word n ≡ ceiling
       → (totalOf (suc n) columns word ≡ totalOf n columns word + ceiling) × (pinnedOf (suc n) columns word ≡ suc (pinnedOf n columns word))
@@ -88,18 +83,6 @@ module _ (columns : ℕ → List ℕ) (word : List ℕ) where
   changed-le n = count-le n (changedAt columns word)
 
 module _ (n : ℕ) (c e : ℕ → List ℕ) (word : List ℕ) (h : (p : ℕ) → p < n → c p ≡ e p) where
-  pub totalOf-ext : totalOf n c word ≡ totalOf n e word
-  unfolding totalOf
-  totalOf-ext = sumOf-ext n (costIn c word) (costIn e word) (λ p l. ap (λ x. costOf x (symbolAt word p)) (h p l))
-
-  pub pinnedOf-ext : pinnedOf n c word ≡ pinnedOf n e word
-  unfolding pinnedOf
-  pinnedOf-ext = count-ext n (pinnedAt c word) (pinnedAt e word) (λ p l. ap (λ x. eqb (costOf x (symbolAt word p)) ceiling) (h p l))
-
-  pub changedOf-ext : changedOf n c word ≡ changedOf n e word
-  unfolding changedOf
-  changedOf-ext =
-      count-ext n (changedAt c word) (changedAt e word) (λ p l. ap (λ x. not (isBlank x) && not (eqb (symbolAt word p) (bestOf x))) (h p l))
 
 -- two words agree at a place exactly if both have an entry there and it is the same
 pub agree-true : (u v : List ℕ) (p : ℕ) → p < length u → p < length v → symbolAt u p ≡ symbolAt v p → agree u v p ≡ true

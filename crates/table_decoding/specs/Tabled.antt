@@ -9,7 +9,6 @@ use mathlib.Core.List.{List}
 use Prim.Native.Nat.{ℕ, _*_, _≤_}
 use native.Mathlib.Omega.{arith}
 use lib.ListN.{length, take}
-use Rattle.lists.specs.Padded.{padded-take}
 use Rattle.soft.specs.Column.{places, symbols, costsFrom, columnOf}
 use Rattle.soft.specs.ColumnLaws.{costs-length}
 use Rattle.soft.specs.Doubt.{mostDoubt, doubtfulOf}

@@ -2,7 +2,6 @@
 --
 --   marginIs d        the margin of the enum: none where it is absent
 --   marginFrom o      the enum's case of a margin; is-from, from-is: the two are inverse to each other
---   margin-injective  so equal margins are the same case
 use mathlib.Core.Path.{_≡_, refl, sym, ap, _∙_}
 use mathlib.Core.Option.{Option, none, some}
 use Prim.Native.Nat.{ℕ}
@@ -26,6 +25,3 @@ pub from-is : (d : Margin) → marginFrom (marginIs d) ≡ d
 unfolding marginIs marginFrom
 from-is Absent = refl
 from-is (Of d) = refl
-
-pub margin-injective : {d e : Margin} → marginIs d ≡ marginIs e → d ≡ e
-margin-injective {d} {e} h = sym (from-is d) ∙ ap marginFrom h ∙ from-is e

@@ -5,59 +5,26 @@ use borrow.Author.Needs.{needs}
 use Rattle.answers.proofs.better.Statement.{statement}
 use Rattle.answers.proofs.better.Tie as tie
 
-add-tests : tie.Need-add-tests
-add-tests c = search needs
-
-enum-known-first : tie.Need-enum-known-first
-enum-known-first c = search needs
-
-enum-told : tie.Need-enum-told
-enum-told c = search needs
-
 returns : tie.Need-returns
 returns c = join-other _ _ _ _ (search needs) refl refl refl refl
-
-enum-known-other : tie.Need-enum-known-other
-enum-known-other c = search needs
-
-enum-told-2 : tie.Need-enum-told-2
-enum-told-2 c = search needs
 
 returns-2 : tie.Need-returns-2
 returns-2 c = join-first _ _ _ _ _ _ (search needs) (search needs) refl refl refl refl
 
-sub-t17 : tie.Need-sub-t17
-sub-t17 c = search needs
-
-lesser-requires : tie.Need-lesser-requires
-lesser-requires c κs = search needs
-
 returns-3 : tie.Need-returns-3
 returns-3 c = join-cheaper _ _ _ _ _ _ _ (c .before .before .before .before .before .before .first .given .1) (c .before .before .before .other .given .1) _ refl (c .before .if1 .taken) (c .lesser .ensures) refl refl refl
 
-lesser-requires-2 : tie.Need-lesser-requires-2
-lesser-requires-2 c κs = search needs
-
 returns-4 : tie.Need-returns-4
 returns-4 c = join-dearer _ _ _ _ _ _ _ (c .before .before .before .before .before .before .before .first .given .1) (c .before .before .before .before .other .given .1) _ refl (c .before .if2 .taken) (c .lesser2 .ensures) refl refl refl
-
-before-requires : tie.Need-before-requires
-before-requires c κs = search needs
 
 returns-5 : tie.Need-returns-5
 returns-5 c =
     join-before _ _ _ _ _ _ _ (c .before .before .before .before .before .before .before .before .first .given .1) (c .before .before .before .before .before .other .given .1) _ refl (search needs) (sym (c .before .before2 .ensures) ∙ c .if3 .taken) refl refl refl
 
-before-requires-2 : tie.Need-before-requires-2
-before-requires-2 c κs = search needs
-
 returns-6 : tie.Need-returns-6
 returns-6 c =
     join-after _ _ _ _ _ _ _ (c .before .before .before .before .before .before .before .before .before .before .first .given .1) (c .before .before .before .before .before .before .before .other .given .1) _ refl (search needs) (sym (c .before .before .before .before2 .ensures) ∙ c .before .before .if3 .left)
     (sym (c .before .before3 .ensures) ∙ c .if4 .taken) refl refl refl
-
-lesser-requires-3 : tie.Need-lesser-requires-3
-lesser-requires-3 c κs = search needs
 
 returns-7 : tie.Need-returns-7
 returns-7 c =
@@ -68,21 +35,21 @@ pub better-spec : {M : Type 1} → statement M
 better-spec =
     tie.close
     (tie.spec
-    add-tests
-    enum-known-first
-    enum-told
+    (λ c. search needs)
+    (λ c. search needs)
+    (λ c. search needs)
     returns
-    enum-known-other
-    enum-told-2
+    (λ c. search needs)
+    (λ c. search needs)
     returns-2
-    sub-t17
-    lesser-requires
+    (λ c. search needs)
+    (λ c κs. search needs)
     returns-3
-    lesser-requires-2
+    (λ c κs. search needs)
     returns-4
-    before-requires
+    (λ c κs. search needs)
     returns-5
-    before-requires-2
+    (λ c κs. search needs)
     returns-6
-    lesser-requires-3
+    (λ c κs. search needs)
     returns-7)

@@ -11,12 +11,6 @@ array-share-prefix-list c = search needs
 slice-aggregate-open : tie.Need-slice-aggregate-open
 slice-aggregate-open c = sym (length-take-le _ _ (array-share-prefix-list (c .before)))
 
-open-requires : tie.Need-open-requires
-open-requires c κs = search needs
-
-returns : tie.Need-returns
-returns c = search needs
-
 pub fresh-spec : {M : Type 1} → statement M
 fresh-spec =
-    tie.close (tie.spec array-share-prefix-list slice-aggregate-open open-requires returns)
+    tie.close (tie.spec array-share-prefix-list slice-aggregate-open (λ c κs. search needs) (λ c. search needs))

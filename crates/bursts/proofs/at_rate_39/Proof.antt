@@ -4,14 +4,8 @@ use borrow.Author.Needs.{needs}
 use Rattle.bursts.proofs.at_rate_39.Statement.{statement}
 use Rattle.bursts.proofs.at_rate_39.Tie as tie
 
-through-burst-requires : tie.Need-through-burst-requires
-through-burst-requires c κs = search needs
-
-same-length : tie.Need-same-length
-same-length c = search needs
-
 returns : tie.Need-returns
 returns c = relied _ _ _ _ (c .before .before .through-burst .ensures)
 
 pub at-rate-39-spec : {M : Type 1} → statement M
-at-rate-39-spec = tie.close (tie.spec through-burst-requires same-length returns)
+at-rate-39-spec = tie.close (tie.spec (λ c κs. search needs) (λ c. search needs) returns)

@@ -7,35 +7,14 @@ use borrow.Author.Needs.{needs}
 use Rattle.bursts.proofs.through_burst.Statement.{statement}
 use Rattle.bursts.proofs.through_burst.Tie as tie
 
-slice-aggregate-build : tie.Need-slice-aggregate-build
-slice-aggregate-build c = search needs
-
-build-requires : tie.Need-build-requires
-build-requires c κs = search needs
-
 returns : tie.Need-returns
 returns c = through-refused _ _ _ _ _ (c .before .before .build .ensures) (c .if1 .taken)
-
-lies-within-requires : tie.Need-lies-within-requires
-lies-within-requires c κs = search needs
 
 returns-2 : tie.Need-returns-2
 returns-2 c = through-beyond _ _ _ _ _ (c .before .before .before .before .build .ensures) (c .before .before .if1 .left) (sym (c .before .lies-within .ensures) ∙ not-true _ (c .if2 .taken))
 
-slice-aggregate-strike : tie.Need-slice-aggregate-strike
-slice-aggregate-strike c = search needs
-
 strike-requires : tie.Need-strike-requires
 strike-requires c κs = (search needs, leb-true _ _ (sym (c .before .before .lies-within .ensures) ∙ not-false _ (c .before .if2 .left)))
-
-slice-aggregate-take-apart : tie.Need-slice-aggregate-take-apart
-slice-aggregate-take-apart c = search needs
-
-take-apart-requires : tie.Need-take-apart-requires
-take-apart-requires c κs = search needs
-
-same-length : tie.Need-same-length
-same-length c = search needs
 
 returns-3 : tie.Need-returns-3
 returns-3 c =
@@ -46,14 +25,14 @@ pub through-burst-spec : {M : Type 1} → statement M
 through-burst-spec =
     tie.close
     (tie.spec
-    slice-aggregate-build
-    build-requires
+    (λ c. search needs)
+    (λ c κs. search needs)
     returns
-    lies-within-requires
+    (λ c κs. search needs)
     returns-2
-    slice-aggregate-strike
+    (λ c. search needs)
     strike-requires
-    slice-aggregate-take-apart
-    take-apart-requires
-    same-length
+    (λ c. search needs)
+    (λ c κs. search needs)
+    (λ c. search needs)
     returns-3)

@@ -21,20 +21,8 @@ abbrev μ-loop : tie.MeasureT-loop
 loop-holds : tie.Need-loop-holds Inv-loop μ-loop
 loop-holds c = (search needs, filled-start _ _)
 
-order-requires : tie.Need-order-requires Inv-loop μ-loop
-order-requires c κs = search needs
-
 array-read-out : tie.Need-array-read-out Inv-loop μ-loop
 array-read-out c = order-fits _ (c .order .ensures) .1
-
-array-write-out : tie.Need-array-write-out Inv-loop μ-loop
-array-write-out c = search needs
-
-add-t : tie.Need-add-t Inv-loop μ-loop
-add-t c = search needs
-
-loop-less : tie.Need-loop-less Inv-loop μ-loop
-loop-less c = search needs
 
 loop-again : tie.Need-loop-again Inv-loop μ-loop
 loop-again c = (search needs, filled-turn 0 (c .before .before .loop .inv .1) _ (search needs) (symbol-at _ _ (search needs) (c .order .ensures)))
@@ -51,10 +39,10 @@ message-of-spec =
     Inv-loop
     μ-loop
     loop-holds
-    order-requires
+    (λ c κs. search needs)
     array-read-out
-    array-write-out
-    add-t
-    loop-less
+    (λ c. search needs)
+    (λ c. search needs)
+    (λ c. search needs)
     loop-again
     returns)

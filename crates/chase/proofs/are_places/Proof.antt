@@ -25,12 +25,6 @@ loop-holds : tie.Need-loop-holds Inv-loop μ-loop
 unfolding Family.arePlaces below distinct
 loop-holds c = (search needs, search needs, search needs, flag-all (c .args .t1), refl)
 
-array-read-place : tie.Need-array-read-place Inv-loop μ-loop
-array-read-place c = search needs
-
-cast-place : tie.Need-cast-place Inv-loop μ-loop
-cast-place c = search needs
-
 returns : tie.Need-returns Inv-loop μ-loop
 returns c =
     let i = c .before .before .loop .inv in
@@ -38,24 +32,12 @@ returns c =
     let b : c .before .before .loop .i < c .before .before .before .args .doubt = search needs in
     sym (places-above _ _ _ (i .1) h b (c .if1 .taken))
 
-array-read-if2 : tie.Need-array-read-if2 Inv-loop μ-loop
-array-read-if2 c = search needs
-
 returns-2 : tie.Need-returns-2 Inv-loop μ-loop
 returns-2 c =
     let i = c .before .before .before .loop .inv in
     let h : c .before .before .before .before .args .doubt ≤ mostDoubt = search needs in
     let b : c .before .before .before .loop .i < c .before .before .before .before .args .doubt = search needs in
     sym (places-again _ _ _ (i .1) h b _ (c .before .if1 .left) (c .if2 .taken) (i .3))
-
-array-write-unnamed : tie.Need-array-write-unnamed Inv-loop μ-loop
-array-write-unnamed c = search needs
-
-add-i : tie.Need-add-i Inv-loop μ-loop
-add-i c = search needs
-
-loop-less : tie.Need-loop-less Inv-loop μ-loop
-loop-less c = search needs
 
 loop-again : tie.Need-loop-again Inv-loop μ-loop
 loop-again c =
@@ -79,13 +61,13 @@ are-places-spec =
     Inv-loop
     μ-loop
     loop-holds
-    array-read-place
-    cast-place
+    (λ c. search needs)
+    (λ c. search needs)
     returns
-    array-read-if2
+    (λ c. search needs)
     returns-2
-    array-write-unnamed
-    add-i
-    loop-less
+    (λ c. search needs)
+    (λ c. search needs)
+    (λ c. search needs)
     loop-again
     returns-3)

@@ -22,32 +22,8 @@ abbrev μ-loop : tie.MeasureT-loop
 loop-holds : tie.Need-loop-holds Inv-loop μ-loop
 loop-holds c = (search needs, search needs, search needs, count-start (flagAt (c .args .counts)) (c .args .t1), doubled-start (flagAt (c .args .counts)) (c .args .t1) mostDoubt)
 
-array-read-place : tie.Need-array-read-place Inv-loop μ-loop
-array-read-place c = search needs
-
-cast-has-flag : tie.Need-cast-has-flag Inv-loop μ-loop
-cast-has-flag c = search needs
-
-has-flag-requires : tie.Need-has-flag-requires Inv-loop μ-loop
-has-flag-requires c κs = search needs
-
 with-place-requires : tie.Need-with-place-requires Inv-loop μ-loop
 with-place-requires c κs = ap length (c .before .before .before .loop .inv .4) ∙ padded-length mostDoubt _
-
-bit-requires : tie.Need-bit-requires Inv-loop μ-loop
-bit-requires c κs = search needs
-
-cast-count : tie.Need-cast-count Inv-loop μ-loop
-cast-count c = search needs
-
-add-count : tie.Need-add-count Inv-loop μ-loop
-add-count c = search needs
-
-add-i : tie.Need-add-i Inv-loop μ-loop
-add-i c = search needs
-
-loop-less : tie.Need-loop-less Inv-loop μ-loop
-loop-less c = search needs
 
 loop-again : tie.Need-loop-again Inv-loop μ-loop
 loop-again c =
@@ -76,14 +52,14 @@ doubled-places-spec =
     Inv-loop
     μ-loop
     loop-holds
-    array-read-place
-    cast-has-flag
-    has-flag-requires
+    (λ c. search needs)
+    (λ c. search needs)
+    (λ c κs. search needs)
     with-place-requires
-    bit-requires
-    cast-count
-    add-count
-    add-i
-    loop-less
+    (λ c κs. search needs)
+    (λ c. search needs)
+    (λ c. search needs)
+    (λ c. search needs)
+    (λ c. search needs)
     loop-again
     returns)

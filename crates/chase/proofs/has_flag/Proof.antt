@@ -15,11 +15,5 @@ returns c =
     let b : length (a .t1) ≤ a .place = omega (arith, c .if1 .taken) in
     sym (ap (λ x. eqb x 1) (List·getD-eq-default (a .t1) 0 b))
 
-array-read-result : tie.Need-array-read-result
-array-read-result c = search needs
-
-returns-2 : tie.Need-returns-2
-returns-2 c = search needs
-
 pub has-flag-spec : {M : Type 1} → statement M
-has-flag-spec = tie.close (tie.spec returns array-read-result returns-2)
+has-flag-spec = tie.close (tie.spec returns (λ c. search needs) (λ c. search needs))

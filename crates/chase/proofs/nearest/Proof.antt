@@ -3,9 +3,6 @@ use borrow.Author.Needs.{needs}
 use Rattle.chase.proofs.nearest.Statement.{statement}
 use Rattle.chase.proofs.nearest.Tie as tie
 
-summary-of-requires : tie.Need-summary-of-requires
-summary-of-requires c κs = search needs
-
 nearest-by-requires : tie.Need-nearest-by-requires
 nearest-by-requires c κs = c .summary-of .ensures
 
@@ -13,4 +10,4 @@ returns : tie.Need-returns
 returns c = c .nearest-by .ensures
 
 pub nearest-spec : {M : Type 1} → statement M
-nearest-spec = tie.close (tie.spec summary-of-requires nearest-by-requires returns)
+nearest-spec = tie.close (tie.spec (λ c κs. search needs) nearest-by-requires returns)

@@ -20,29 +20,14 @@ use borrow.Author.Needs.{needs}
 use Rattle.chase.proofs.nearest_by.Statement.{statement}
 use Rattle.chase.proofs.nearest_by.Tie as tie
 
-none-near-requires : tie.Need-none-near-requires
-none-near-requires c κs = search needs
-
 returns : tie.Need-returns
 returns c = unasked _ _ _ _ _ (unasked-rate _ _ _ _ (inl (c .before .if1 .taken))) (c .none-near .ensures)
-
-none-near-requires-2 : tie.Need-none-near-requires-2
-none-near-requires-2 c κs = search needs
 
 returns-2 : tie.Need-returns-2
 returns-2 c = unasked _ _ _ _ _ (unasked-rate _ _ _ _ (inr (c .before .if2 .taken))) (c .none-near2 .ensures)
 
-none-near-requires-3 : tie.Need-none-near-requires-3
-none-near-requires-3 c κs = search needs
-
 returns-3 : tie.Need-returns-3
 returns-3 c = unasked _ _ _ _ _ (unasked-doubt _ _ _ _ (c .before .if3 .taken)) (c .none-near3 .ensures)
-
-well-formed-requires : tie.Need-well-formed-requires
-well-formed-requires c κs = search needs
-
-none-near-requires-4 : tie.Need-none-near-requires-4
-none-near-requires-4 c κs = search needs
 
 returns-4 : tie.Need-returns-4
 returns-4 c =
@@ -54,15 +39,6 @@ formed c = sym (c .before .well-formed .ensures) ∙ not-false _ (c .if4 .left)
 -- what the summary says
 summed : (c : tie.Else4) → SummaryOf (columnOf symbols (c .before .before .before .before .before .before .args .costs .now)) (c .before .before .before .before .before .before .args .summary)
 summed c = c .before .before .before .before .before .before .pre
-
-blanks-requires : tie.Need-blanks-requires
-blanks-requires c κs = search needs
-
-blank-limit-requires : tie.Need-blank-limit-requires
-blank-limit-requires c κs = search needs
-
-none-near-requires-5 : tie.Need-none-near-requires-5
-none-near-requires-5 c κs = search needs
 
 returns-5 : tie.Need-returns-5
 returns-5 c =
@@ -100,21 +76,12 @@ governs-requires c κs = askable c
 tests-within-requires : tie.Need-tests-within-requires
 tests-within-requires c κs = askable (c .before .before .before)
 
-below-requires : tie.Need-below-requires
-below-requires c κs = search needs
-
-told-requires : tie.Need-told-requires
-told-requires c κs = search needs
-
 returns-6 : tie.Need-returns-6
 returns-6 c =
     let a = c .before .before .before .before .before .before .before .before .before .before in
     c .told .ensures
     ∙ root-known _ _ _ _ _ _ _ _ _ (may-ask a) (few-blank a) (summed (c .before .before .before .before .before .before .before .before .before .before .before .before .before .before) .best) (c .before .before .before .before .before .before .before .before .doubled-places .ensures) _ _ _
     (c .before .before .before .before .before .before .first-known .ensures .sound _) (c .before .before .before .before .before .governs .ensures) (c .before .before .before .before .if6 .taken) (c .before .before .tests-within .ensures) (c .before .as-answer-here .ensures)
-
-top-order-requires : tie.Need-top-order-requires
-top-order-requires c κs = search needs
 
 largest-key-requires : tie.Need-largest-key-requires
 largest-key-requires c κs =
@@ -140,9 +107,6 @@ search-requires c κs =
       few-blank a,
     )
 
-told-requires-2 : tie.Need-told-requires-2
-told-requires-2 c κs = search needs
-
 returns-7 : tie.Need-returns-7
 returns-7 c =
     let a = c .before .before .before .before .before .before .before .before .before .before .before .before .before in
@@ -155,30 +119,30 @@ pub nearest-by-spec : {M : Type 1} → statement M
 nearest-by-spec =
     tie.close
     (tie.spec
-    none-near-requires
+    (λ c κs. search needs)
     returns
-    none-near-requires-2
+    (λ c κs. search needs)
     returns-2
-    none-near-requires-3
+    (λ c κs. search needs)
     returns-3
-    well-formed-requires
-    none-near-requires-4
+    (λ c κs. search needs)
+    (λ c κs. search needs)
     returns-4
-    blanks-requires
-    blank-limit-requires
-    none-near-requires-5
+    (λ c κs. search needs)
+    (λ c κs. search needs)
+    (λ c κs. search needs)
     returns-5
     doubled-places-requires
     first-known-requires
     governs-requires
     tests-within-requires
-    below-requires
-    told-requires
+    (λ c κs. search needs)
+    (λ c κs. search needs)
     returns-6
-    top-order-requires
+    (λ c κs. search needs)
     largest-key-requires
     settled-places-requires
     settle-requires
     search-requires
-    told-requires-2
+    (λ c κs. search needs)
     returns-7)

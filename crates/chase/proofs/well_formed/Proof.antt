@@ -8,9 +8,6 @@ use borrow.Author.Needs.{needs}
 use Rattle.chase.proofs.well_formed.Statement.{statement}
 use Rattle.chase.proofs.well_formed.Tie as tie
 
-known-rate-requires : tie.Need-known-rate-requires
-known-rate-requires c κs = search needs
-
 -- past the first test the rate is known
 known : (c : tie.Else1) → knownRate (c .before .before .before .args .rate) ≡ true
 known c = sym (c .before .known-rate .ensures) ∙ not-false _ (c .if1 .left)
@@ -24,13 +21,10 @@ returns-2 c = sym (size-refused _ _ _ _ (known (c .before)) (c .if2 .taken))
 returns-3 : tie.Need-returns-3
 returns-3 c = sym (doubt-refused _ _ _ _ (known (c .before .before)) (c .before .if2 .left) (c .if3 .taken))
 
-are-places-requires : tie.Need-are-places-requires
-are-places-requires c κs = search needs
-
 returns-4 : tie.Need-returns-4
 returns-4 c = c .are-places .ensures ∙ sym (places-asked _ _ _ _ (known (c .before .before .before)) (c .before .before .if2 .left) (c .before .if3 .left))
 
 pub well-formed-spec : {M : Type 1} → statement M
 well-formed-spec =
     tie.close
-    (tie.spec known-rate-requires returns returns-2 returns-3 are-places-requires returns-4)
+    (tie.spec (λ c κs. search needs) returns returns-2 returns-3 (λ c κs. search needs) returns-4)

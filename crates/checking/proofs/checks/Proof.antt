@@ -10,9 +10,6 @@ use Rattle.book.specs.Table.{checks-rate, checks-size, checks-fit}
 use Rattle.checking.proofs.checks.Statement.{statement}
 use Rattle.checking.proofs.checks.Tie as tie
 
-known-rate-requires : tie.Need-known-rate-requires
-known-rate-requires c κs = search needs
-
 -- past the first check the rate is known
 known : (c : tie.Else1) → knownRate (c .before .before .args .rate) ≡ true
 known c = sym (c .before .known-rate .ensures) ∙ not-false _ (c .if1 .left)
@@ -33,4 +30,4 @@ returns-5 : tie.Need-returns-5
 returns-5 c = sym (checks-fit modem64 _ _ _ _ _ (known (c .before .before .before)) (c .before .before .if2 .left) (c .before .if3 .left) (c .if4 .left))
 
 pub checks-spec : {M : Type 1} → statement M
-checks-spec = tie.close (tie.spec known-rate-requires returns returns-2 returns-3 returns-4 returns-5)
+checks-spec = tie.close (tie.spec (λ c κs. search needs) returns returns-2 returns-3 returns-4 returns-5)

@@ -19,17 +19,11 @@ use Rattle.closing.proofs.close.Tie as tie
 table-room : (c : tie.Start) → length (c .args .session .costs) ≡ 1024
 table-room c = search needs
 
-cast-rate : tie.Need-cast-rate
-cast-rate c = search needs
-
 returns : tie.Need-returns
 returns c = closing-wrong-size _ _ _ (inl (c .if1 .taken))
 
 returns-2 : tie.Need-returns-2
 returns-2 c = closing-wrong-size _ _ _ (inr (c .if2 .taken))
-
-all-taken-requires : tie.Need-all-taken-requires
-all-taken-requires c κs = search needs
 
 returns-3 : tie.Need-returns-3
 returns-3 c =
@@ -50,9 +44,6 @@ slice-aggregate-open c =
     let l : length (s .doubtful) ≡ mostDoubt = search needs in
     sym (length-take-le (s .doubt) (s .doubtful) (omega arith))
 
-open-requires : tie.Need-open-requires
-open-requires c κs = search needs
-
 returns-5 : tie.Need-returns-5
 returns-5 c =
     closing-by-hand _ _ _ _
@@ -61,9 +52,6 @@ returns-5 c =
 slice-aggregate-summary-of : tie.Need-slice-aggregate-summary-of
 slice-aggregate-summary-of c =
     sym (table-room (c .before .before .before .before .before .before .before .before .before .before .before .before .before .before .before .before))
-
-summary-of-requires : tie.Need-summary-of-requires
-summary-of-requires c κs = search needs
 
 slice-aggregate-decode : tie.Need-slice-aggregate-decode
 slice-aggregate-decode c =
@@ -81,12 +69,6 @@ decode-requires c κs =
       c .before .before .before .summary-of .ensures,
     )
 
-same-length : tie.Need-same-length
-same-length c = search needs
-
-same-length-2 : tie.Need-same-length-2
-same-length-2 c = search needs
-
 returns-6 : tie.Need-returns-6
 returns-6 c =
     closing-decoded _ _ _ (c .before .before .before .before .before .before .before .before .before .before .before .before .before .before .before .before .before .before .before .before .before .if1 .left) (c .before .before .before .before .before .before .before .before .before .before .before .before .before .before .before .before .before .before .before .before .if2 .left) (sym (c .before .before .before .before .before .before .before .before .before .before .before .before .before .before .before .before .before .before .all-taken .ensures) ∙ not-false _ (c .before .before .before .before .before .before .before .before .before .before .before .before .before .before .before .before .before .if3 .left)) (c .before .before .before .before .decode .ensures)
@@ -95,20 +77,20 @@ pub close-spec : {M : Type 1} → statement M
 close-spec =
     tie.close
     (tie.spec
-    cast-rate
+    (λ c. search needs)
     returns
     returns-2
-    all-taken-requires
+    (λ c κs. search needs)
     returns-3
     returns-4
     array-share-prefix-doubtful
     slice-aggregate-open
-    open-requires
+    (λ c κs. search needs)
     returns-5
     slice-aggregate-summary-of
-    summary-of-requires
+    (λ c κs. search needs)
     slice-aggregate-decode
     decode-requires
-    same-length
-    same-length-2
+    (λ c. search needs)
+    (λ c. search needs)
     returns-6)

@@ -3,11 +3,5 @@ use borrow.Author.Needs.{needs}
 use Rattle.curve.proofs.x_at.Statement.{statement}
 use Rattle.curve.proofs.x_at.Tie as tie
 
-cast-result : tie.Need-cast-result
-cast-result c = search needs
-
-returns : tie.Need-returns
-returns c = search needs
-
 pub x-at-spec : {M : Type 1} → statement M
-x-at-spec = tie.close (tie.spec cast-result returns)
+x-at-spec = tie.close (tie.spec (λ c. search needs) (λ c. search needs))

@@ -9,14 +9,8 @@ use borrow.Author.Needs.{needs}
 use Rattle.curve.proofs.y_at.Statement.{statement}
 use Rattle.curve.proofs.y_at.Tie as tie
 
-ys-requires : tie.Need-ys-requires
-ys-requires c κs = search needs
-
-array-read-result : tie.Need-array-read-result
-array-read-result c = search needs
-
 returns : tie.Need-returns
 returns c = ap (λ l. getD l (c .before .args .place % 64) 0) (c .ys .ensures) ∙ listed-at 64 (c .before .args .place % 64) yOf 0 (omega arith)
 
 pub y-at-spec : {M : Type 1} → statement M
-y-at-spec = tie.close (tie.spec ys-requires array-read-result returns)
+y-at-spec = tie.close (tie.spec (λ c κs. search needs) (λ c. search needs) returns)

@@ -28,12 +28,6 @@ report-room c = search needs
 nearest-by-requires : tie.Need-nearest-by-requires
 nearest-by-requires c κs = c .before .before .before .before .before .pre .1
 
-enum-known-answer : tie.Need-enum-known-answer
-enum-known-answer c = search needs
-
-enum-told : tie.Need-enum-told
-enum-told c = search needs
-
 unanswered-requires : tie.Need-unanswered-requires
 unanswered-requires c κs = c .before .before .before .before .before .before .before .before .pre .0 .askable .known
 
@@ -41,27 +35,6 @@ returns : tie.Need-returns
 returns c =
     answered-none (c .before .before .before .before .before .before .before .before .before .pre .0 .askable)
     (nearest-call _ _ _ _ _ (c .before .before .before .nearest-by .ensures)) _ _ (c .before .enum-told .given .1) (c .unanswered .ensures _ (c .before .before .before .before .before .before .before .before .before .pre .1 .counts))
-
-slice-aggregate-copy : tie.Need-slice-aggregate-copy
-slice-aggregate-copy c = search needs
-
-copy-requires : tie.Need-copy-requires
-copy-requires c κs = search needs
-
-slice-aggregate-pinned : tie.Need-slice-aggregate-pinned
-slice-aggregate-pinned c = search needs
-
-pinned-requires : tie.Need-pinned-requires
-pinned-requires c κs = search needs
-
-slice-aggregate-changed-places : tie.Need-slice-aggregate-changed-places
-slice-aggregate-changed-places c = search needs
-
-changed-places-requires : tie.Need-changed-places-requires
-changed-places-requires c κs = search needs
-
-changed-requires : tie.Need-changed-requires
-changed-requires c κs = search needs
 
 slice-aggregate-mark : tie.Need-slice-aggregate-mark
 slice-aggregate-mark c = sym (word-room (c .before .before .before .before .before .before .before .before .before .before .before .before .before .before .before .before))
@@ -81,21 +54,6 @@ cast-report : tie.Need-cast-report
 cast-report c =
     omega (arith, tests-few (c .before .before .before .before .before .before .before .before .before .before .before .before .before .before .before .before .before .before .before .before .before .before .before .before .before .pre .0 .askable) (nearest-call _ _ _ _ _ (c .before .before .before .before .before .before .before .before .before .before .before .before .before .before .before .before .before .before .before .nearest-by .ensures)) _ _ (c .before .before .before .before .before .before .before .before .before .before .before .before .before .before .before .before .before .answer .given .1))
 
-report-requires : tie.Need-report-requires
-report-requires c κs = search needs
-
-slice-aggregate-copy-2 : tie.Need-slice-aggregate-copy-2
-slice-aggregate-copy-2 c = search needs
-
-copy-requires-2 : tie.Need-copy-requires-2
-copy-requires-2 c κs = search needs
-
-same-length : tie.Need-same-length
-same-length c = search needs
-
-same-length-2 : tie.Need-same-length-2
-same-length-2 c = search needs
-
 returns-2 : tie.Need-returns-2
 returns-2 c =
     let given = c .before .before .before .before .before .before .before .before .before .before .before .before .before .before .before .before .before .before .before .before .before .before .before .before .before .before .before .before .before .before .before .pre in
@@ -110,24 +68,24 @@ decode-spec =
     tie.close
     (tie.spec
     nearest-by-requires
-    enum-known-answer
-    enum-told
+    (λ c. search needs)
+    (λ c. search needs)
     unanswered-requires
     returns
-    slice-aggregate-copy
-    copy-requires
-    slice-aggregate-pinned
-    pinned-requires
-    slice-aggregate-changed-places
-    changed-places-requires
-    changed-requires
+    (λ c. search needs)
+    (λ c κs. search needs)
+    (λ c. search needs)
+    (λ c κs. search needs)
+    (λ c. search needs)
+    (λ c κs. search needs)
+    (λ c κs. search needs)
     slice-aggregate-mark
     least-distance-requires
     mark-requires
     cast-report
-    report-requires
-    slice-aggregate-copy-2
-    copy-requires-2
-    same-length
-    same-length-2
+    (λ c κs. search needs)
+    (λ c. search needs)
+    (λ c κs. search needs)
+    (λ c. search needs)
+    (λ c. search needs)
     returns-2)

@@ -9,9 +9,6 @@ use Rattle.decoding.proofs.unanswered.Tie as tie
 blank-limit-requires : tie.Need-blank-limit-requires
 blank-limit-requires c κs = let b = known-bounds _ (c .pre) in record { least = omega (arith, b); most = omega (arith, b) }
 
-blanks-requires : tie.Need-blanks-requires
-blanks-requires c κs = search needs
-
 returns : tie.Need-returns
 returns c = λ columns e. told-near _ columns (c .before .before .blank-limit .ensures) (c .before .blanks .ensures) e (c .if1 .taken)
 
@@ -19,4 +16,4 @@ returns-2 : tie.Need-returns-2
 returns-2 c = λ columns e. told-blank _ columns (c .before .before .blank-limit .ensures) (c .before .blanks .ensures) e (c .if1 .left)
 
 pub unanswered-spec : {M : Type 1} → statement M
-unanswered-spec = tie.close (tie.spec blank-limit-requires blanks-requires returns returns-2)
+unanswered-spec = tie.close (tie.spec blank-limit-requires (λ c κs. search needs) returns returns-2)

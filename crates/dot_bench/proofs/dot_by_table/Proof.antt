@@ -17,21 +17,6 @@ loop-holds : tie.Need-loop-holds Inv-loop μ-loop
 unfolding dot
 loop-holds c = (search needs, refl)
 
-array-read-product-by-table : tie.Need-array-read-product-by-table Inv-loop μ-loop
-array-read-product-by-table c = search needs
-
-array-read-product-by-table-2 : tie.Need-array-read-product-by-table-2 Inv-loop μ-loop
-array-read-product-by-table-2 c = search needs
-
-product-by-table-requires : tie.Need-product-by-table-requires Inv-loop μ-loop
-product-by-table-requires c κs = search needs
-
-add-i : tie.Need-add-i Inv-loop μ-loop
-add-i c = search needs
-
-loop-less : tie.Need-loop-less Inv-loop μ-loop
-loop-less c = search needs
-
 loop-again : tie.Need-loop-again Inv-loop μ-loop
 loop-again c = (search needs, dot-next _ _ _ (c .before .before .loop .inv .1) (c .product-by-table .ensures))
 
@@ -47,10 +32,10 @@ dot-by-table-spec =
     Inv-loop
     μ-loop
     loop-holds
-    array-read-product-by-table
-    array-read-product-by-table-2
-    product-by-table-requires
-    add-i
-    loop-less
+    (λ c. search needs)
+    (λ c. search needs)
+    (λ c κs. search needs)
+    (λ c. search needs)
+    (λ c. search needs)
     loop-again
     returns)

@@ -20,18 +20,6 @@ loop-holds c = (omega arith, bound-start 64 far _)
 returns : tie.Need-returns Inv-loop μ-loop
 returns c = bound-far 64 far _ _ (c .before .before .loop .inv .1) (c .if1 .taken) (omega arith)
 
-least-from-requires : tie.Need-least-from-requires Inv-loop μ-loop
-least-from-requires c κs = search needs
-
-past-requires : tie.Need-past-requires Inv-loop μ-loop
-past-requires c κs = search needs
-
-add-round : tie.Need-add-round Inv-loop μ-loop
-add-round c = search needs
-
-loop-less : tie.Need-loop-less Inv-loop μ-loop
-loop-less c = search needs
-
 loop-again : tie.Need-loop-again Inv-loop μ-loop
 loop-again c = (
   omega arith,
@@ -52,9 +40,9 @@ bound-of-spec =
     μ-loop
     loop-holds
     returns
-    least-from-requires
-    past-requires
-    add-round
-    loop-less
+    (λ c κs. search needs)
+    (λ c κs. search needs)
+    (λ c. search needs)
+    (λ c. search needs)
     loop-again
     returns-2)

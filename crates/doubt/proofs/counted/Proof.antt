@@ -7,12 +7,6 @@ use Rattle.doubt.proofs.counted.Tie as tie
 returns : tie.Need-returns
 returns c = counted-none (c .before .args .least) (c .before .args .gap) (c .if1 .taken)
 
-add-if2 : tie.Need-add-if2
-add-if2 c = search needs
-
-cast-if2 : tie.Need-cast-if2
-cast-if2 c = search needs
-
 returns-2 : tie.Need-returns-2
 returns-2 c = let a = c .before .before .args in counted-full (a .least) (a .gap) (c .before .if1 .left) (c .if2 .taken)
 
@@ -20,4 +14,4 @@ returns-3 : tie.Need-returns-3
 returns-3 c = let a = c .before .before .args in counted-plain (a .least) (a .gap) (c .if2 .left)
 
 pub counted-spec : {M : Type 1} → statement M
-counted-spec = tie.close (tie.spec returns add-if2 cast-if2 returns-2 returns-3)
+counted-spec = tie.close (tie.spec returns (λ c. search needs) (λ c. search needs) returns-2 returns-3)

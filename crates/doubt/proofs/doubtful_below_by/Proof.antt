@@ -10,15 +10,6 @@ use Rattle.doubt.specs.Picked.{picked-same}
 use Rattle.doubt.proofs.doubtful_below_by.Statement.{statement}
 use Rattle.doubt.proofs.doubtful_below_by.Tie as tie
 
-keys-of-requires : tie.Need-keys-of-requires
-keys-of-requires c κs = search needs
-
-count-below-requires : tie.Need-count-below-requires
-count-below-requires c κs = search needs
-
-clamp-requires : tie.Need-clamp-requires
-clamp-requires c κs = search needs
-
 picked-by-requires : tie.Need-picked-by-requires
 picked-by-requires c κs = keyed-by-apart (c .before .before .keys-of .ensures)
 
@@ -32,4 +23,4 @@ returns c =
 pub doubtful-below-by-spec : {M : Type 1} → statement M
 doubtful-below-by-spec =
     tie.close
-    (tie.spec keys-of-requires count-below-requires clamp-requires picked-by-requires returns)
+    (tie.spec (λ c κs. search needs) (λ c κs. search needs) (λ c κs. search needs) picked-by-requires returns)

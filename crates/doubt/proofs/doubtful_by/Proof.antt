@@ -11,9 +11,6 @@ use Rattle.doubt.proofs.doubtful_by.Tie as tie
 returns : tie.Need-returns
 returns c = λ columns S. record { places = skipped-places _ columns _ (c .if1 .taken) mostDoubt; count = skipped-count _ columns _ (c .if1 .taken) }
 
-keys-of-requires : tie.Need-keys-of-requires
-keys-of-requires c κs = search needs
-
 picked-by-requires : tie.Need-picked-by-requires
 picked-by-requires c κs = keyed-by-apart (c .keys-of .ensures)
 
@@ -21,4 +18,4 @@ returns-2 : tie.Need-returns-2
 returns-2 c = λ columns S. picked-same (chosen-doubtful (keyed-summary S (c .before .keys-of .ensures)) _) (c .picked-by .ensures)
 
 pub doubtful-by-spec : {M : Type 1} → statement M
-doubtful-by-spec = tie.close (tie.spec returns keys-of-requires picked-by-requires returns-2)
+doubtful-by-spec = tie.close (tie.spec returns (λ c κs. search needs) picked-by-requires returns-2)

@@ -18,36 +18,6 @@ abbrev μ-loop : tie.MeasureT-loop
 loop-holds : tie.Need-loop-holds Inv-loop μ-loop
 loop-holds c = (omega arith, passed-start 0 _ 0 _)
 
-mul-key-of : tie.Need-mul-key-of Inv-loop μ-loop
-mul-key-of c = search needs
-
-array-read-key-of : tie.Need-array-read-key-of Inv-loop μ-loop
-array-read-key-of c = search needs
-
-mul-key-of-2 : tie.Need-mul-key-of-2 Inv-loop μ-loop
-mul-key-of-2 c = search needs
-
-array-read-key-of-2 : tie.Need-array-read-key-of-2 Inv-loop μ-loop
-array-read-key-of-2 c = search needs
-
-array-read-key-of-3 : tie.Need-array-read-key-of-3 Inv-loop μ-loop
-array-read-key-of-3 c = search needs
-
-key-of-requires : tie.Need-key-of-requires Inv-loop μ-loop
-key-of-requires c κs = search needs
-
-mul-out : tie.Need-mul-out Inv-loop μ-loop
-mul-out c = search needs
-
-array-write-out : tie.Need-array-write-out Inv-loop μ-loop
-array-write-out c = search needs
-
-add-place : tie.Need-add-place Inv-loop μ-loop
-add-place c = search needs
-
-loop-less : tie.Need-loop-less Inv-loop μ-loop
-loop-less c = search needs
-
 loop-again : tie.Need-loop-again Inv-loop μ-loop
 loop-again c = (
   omega arith,
@@ -64,15 +34,15 @@ keys-of-spec =
     Inv-loop
     μ-loop
     loop-holds
-    mul-key-of
-    array-read-key-of
-    mul-key-of-2
-    array-read-key-of-2
-    array-read-key-of-3
-    key-of-requires
-    mul-out
-    array-write-out
-    add-place
-    loop-less
+    (λ c. search needs)
+    (λ c. search needs)
+    (λ c. search needs)
+    (λ c. search needs)
+    (λ c. search needs)
+    (λ c κs. search needs)
+    (λ c. search needs)
+    (λ c. search needs)
+    (λ c. search needs)
+    (λ c. search needs)
     loop-again
     returns)

@@ -18,24 +18,6 @@ abbrev μ-loop : tie.MeasureT-loop
 loop-holds : tie.Need-loop-holds Inv-loop μ-loop
 loop-holds c = (omega arith, sym (least-nil far _))
 
-mul-from-bound : tie.Need-mul-from-bound Inv-loop μ-loop
-mul-from-bound c = search needs
-
-array-read-from-bound : tie.Need-array-read-from-bound Inv-loop μ-loop
-array-read-from-bound c = search needs
-
-from-bound-requires : tie.Need-from-bound-requires Inv-loop μ-loop
-from-bound-requires c κs = search needs
-
-lesser-requires : tie.Need-lesser-requires Inv-loop μ-loop
-lesser-requires c κs = search needs
-
-add-place : tie.Need-add-place Inv-loop μ-loop
-add-place c = search needs
-
-loop-less : tie.Need-loop-less Inv-loop μ-loop
-loop-less c = search needs
-
 loop-again : tie.Need-loop-again Inv-loop μ-loop
 loop-again c = (
   omega arith,
@@ -54,11 +36,11 @@ least-from-spec =
     Inv-loop
     μ-loop
     loop-holds
-    mul-from-bound
-    array-read-from-bound
-    from-bound-requires
-    lesser-requires
-    add-place
-    loop-less
+    (λ c. search needs)
+    (λ c. search needs)
+    (λ c κs. search needs)
+    (λ c κs. search needs)
+    (λ c. search needs)
+    (λ c. search needs)
     loop-again
     returns)

@@ -10,11 +10,8 @@ use Rattle.doubt.proofs.past.Tie as tie
 returns : tie.Need-returns
 returns c = sym (past-far far (c .before .args .key) (omega arith))
 
-add-result : tie.Need-add-result
-add-result c = search needs
-
 returns-2 : tie.Need-returns-2
 returns-2 c = sym (past-key far (c .before .args .key) (omega arith))
 
 pub past-spec : {M : Type 1} → statement M
-past-spec = tie.close (tie.spec returns add-result returns-2)
+past-spec = tie.close (tie.spec returns (λ c. search needs) returns-2)

@@ -21,38 +21,11 @@ Inv-loop doubt keys bound out₀ found₀ place₀ out found place =
 abbrev μ-loop : tie.MeasureT-loop
 μ-loop doubt keys bound out₀ found₀ place₀ out found place = 64 - place
 
-bound-of-requires : tie.Need-bound-of-requires Inv-loop μ-loop
-bound-of-requires c κs = search needs
-
 loop-holds : tie.Need-loop-holds Inv-loop μ-loop
 loop-holds c = (omega arith, omega arith, sym (count-nil _), places-start mostDoubt _)
 
-mul-taken : tie.Need-mul-taken Inv-loop μ-loop
-mul-taken c = search needs
-
-array-read-taken : tie.Need-array-read-taken Inv-loop μ-loop
-array-read-taken c = search needs
-
-cast-with-place : tie.Need-cast-with-place Inv-loop μ-loop
-cast-with-place c = search needs
-
 with-place-requires : tie.Need-with-place-requires Inv-loop μ-loop
 with-place-requires c κs = ap length (c .before .before .loop .inv .3) ∙ padded-length mostDoubt _
-
-bit-requires : tie.Need-bit-requires Inv-loop μ-loop
-bit-requires c κs = search needs
-
-cast-found : tie.Need-cast-found Inv-loop μ-loop
-cast-found c = search needs
-
-add-found : tie.Need-add-found Inv-loop μ-loop
-add-found c = search needs
-
-add-place : tie.Need-add-place Inv-loop μ-loop
-add-place c = search needs
-
-loop-less : tie.Need-loop-less Inv-loop μ-loop
-loop-less c = search needs
 
 loop-again : tie.Need-loop-again Inv-loop μ-loop
 loop-again c =
@@ -75,16 +48,16 @@ picked-by-spec =
     (tie.spec
     Inv-loop
     μ-loop
-    bound-of-requires
+    (λ c κs. search needs)
     loop-holds
-    mul-taken
-    array-read-taken
-    cast-with-place
+    (λ c. search needs)
+    (λ c. search needs)
+    (λ c. search needs)
     with-place-requires
-    bit-requires
-    cast-found
-    add-found
-    add-place
-    loop-less
+    (λ c κs. search needs)
+    (λ c. search needs)
+    (λ c. search needs)
+    (λ c. search needs)
+    (λ c. search needs)
     loop-again
     returns)

@@ -6,9 +6,6 @@ use lib.Seq.{set-out}
 use Rattle.doubt.proofs.with_place.Statement.{statement}
 use Rattle.doubt.proofs.with_place.Tie as tie
 
-element-write-list : tie.Need-element-write-list
-element-write-list c = search needs
-
 returns : tie.Need-returns
 returns c = simp (c .before .if1 .taken)
 
@@ -21,4 +18,4 @@ returns-3 : tie.Need-returns-3
 returns-3 c = simp (c .if1 .left)
 
 pub with-place-spec : {M : Type 1} → statement M
-with-place-spec = tie.close (tie.spec element-write-list returns returns-2 returns-3)
+with-place-spec = tie.close (tie.spec (λ c. search needs) returns returns-2 returns-3)

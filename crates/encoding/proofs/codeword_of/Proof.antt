@@ -10,12 +10,6 @@ use borrow.Author.Needs.{needs}
 use Rattle.encoding.proofs.codeword_of.Statement.{statement}
 use Rattle.encoding.proofs.codeword_of.Tie as tie
 
-function-of-requires : tie.Need-function-of-requires
-function-of-requires c κs = search needs
-
-codeword-requires : tie.Need-codeword-requires
-codeword-requires c κs = search needs
-
 returns : tie.Need-returns
 returns c =
     c .codeword .ensures
@@ -24,4 +18,4 @@ returns c =
     ∙ ap (λ k. encodeOf k (c .before .before .before .args .message .now)) longest-is
 
 pub codeword-of-spec : {M : Type 1} → statement M
-codeword-of-spec = tie.close (tie.spec function-of-requires codeword-requires returns)
+codeword-of-spec = tie.close (tie.spec (λ c κs. search needs) (λ c κs. search needs) returns)

@@ -8,12 +8,6 @@ use Rattle.encoding.proofs.coefficient.Tie as tie
 returns : tie.Need-returns
 returns c = missing-coefficient m16 _ _ (c .if1 .taken)
 
-rank-requires : tie.Need-rank-requires
-rank-requires c κs = search needs
-
-shared-slice-read-result : tie.Need-shared-slice-read-result
-shared-slice-read-result c = search needs
-
 returns-2 : tie.Need-returns-2
 returns-2 c = symbol-coefficient m16 _ _ (c .before .before .before .if1 .left) (c .before .before .rank .ensures)
 
@@ -22,4 +16,4 @@ returns-3 c = beyond-coefficient m16 _ _ (c .before .before .if1 .left) (c .befo
 
 pub coefficient-spec : {M : Type 1} → statement M
 coefficient-spec =
-    tie.close (tie.spec returns rank-requires shared-slice-read-result returns-2 returns-3)
+    tie.close (tie.spec returns (λ c κs. search needs) (λ c. search needs) returns-2 returns-3)

@@ -13,9 +13,6 @@ use borrow.Author.Needs.{needs}
 use Rattle.encoding.proofs.encode.Statement.{statement}
 use Rattle.encoding.proofs.encode.Tie as tie
 
-known-rate-requires : tie.Need-known-rate-requires
-known-rate-requires c κs = search needs
-
 -- past the first check the rate is known
 known : (c : tie.Else1) → knownRate (c .before .before .before .before .args .rate) ≡ true
 known c = sym (c .before .known-rate .ensures) ∙ not-false _ (c .if1 .left)
@@ -29,37 +26,13 @@ returns-2 c = encode-message m16 knownRate _ _ _ _ (known (c .before)) (c .if2 .
 returns-3 : tie.Need-returns-3
 returns-3 c = encode-frame m16 knownRate _ _ _ _ (known (c .before .before)) (c .before .if2 .left) (omega arith)
 
-sub-if4 : tie.Need-sub-if4
-sub-if4 c = search needs
-
 returns-4 : tie.Need-returns-4
 returns-4 c = encode-frame m16 knownRate _ _ _ _ (known (c .before .before .before)) (c .before .before .if2 .left) (omega arith)
-
-symbols-only-requires : tie.Need-symbols-only-requires
-symbols-only-requires c κs = search needs
 
 returns-5 : tie.Need-returns-5
 returns-5 c =
     encode-symbol m16 knownRate _ _ _ _ (known (c .before .before .before .before .before)) (c .before .before .before .before .if2 .left) (omega arith)
     (sym (c .before .symbols-only .ensures) ∙ not-true _ (c .if5 .taken))
-
-add-end : tie.Need-add-end
-add-end c = search needs
-
-sub-encode-into : tie.Need-sub-encode-into
-sub-encode-into c = search needs
-
-part-encode-into-start : tie.Need-part-encode-into-start
-part-encode-into-start c = search needs
-
-part-encode-into-end : tie.Need-part-encode-into-end
-part-encode-into-end c = search needs
-
-encode-into-requires : tie.Need-encode-into-requires
-encode-into-requires c κs = search needs
-
-same-length : tie.Need-same-length
-same-length c = search needs
 
 returns-6 : tie.Need-returns-6
 returns-6 c =
@@ -74,18 +47,18 @@ pub encode-spec : {M : Type 1} → statement M
 encode-spec =
     tie.close
     (tie.spec
-    known-rate-requires
+    (λ c κs. search needs)
     returns
     returns-2
     returns-3
-    sub-if4
+    (λ c. search needs)
     returns-4
-    symbols-only-requires
+    (λ c κs. search needs)
     returns-5
-    add-end
-    sub-encode-into
-    part-encode-into-start
-    part-encode-into-end
-    encode-into-requires
-    same-length
+    (λ c. search needs)
+    (λ c. search needs)
+    (λ c. search needs)
+    (λ c. search needs)
+    (λ c κs. search needs)
+    (λ c. search needs)
     returns-6)

@@ -5,18 +5,6 @@ use borrow.Author.Needs.{needs}
 use Rattle.encoding.proofs.encode_into.Statement.{statement}
 use Rattle.encoding.proofs.encode_into.Tie as tie
 
-codeword-of-requires : tie.Need-codeword-of-requires
-codeword-of-requires c κs = search needs
-
-slice-aggregate-copy : tie.Need-slice-aggregate-copy
-slice-aggregate-copy c = search needs
-
-copy-requires : tie.Need-copy-requires
-copy-requires c κs = search needs
-
-same-length : tie.Need-same-length
-same-length c = search needs
-
 returns : tie.Need-returns
 returns c =
     c .before .before .copy .ensures
@@ -25,4 +13,4 @@ returns c =
 pub encode-into-spec : {M : Type 1} → statement M
 encode-into-spec =
     tie.close
-    (tie.spec codeword-of-requires slice-aggregate-copy copy-requires same-length returns)
+    (tie.spec (λ c κs. search needs) (λ c. search needs) (λ c κs. search needs) (λ c. search needs) returns)

@@ -20,29 +20,8 @@ Inv-loop message end out₀ order₀ out order =
 abbrev μ-loop : tie.MeasureT-loop
 μ-loop message end out₀ order₀ out order = end - order
 
-end-of-requires : tie.Need-end-of-requires Inv-loop μ-loop
-end-of-requires c κs = search needs
-
-lowest-requires : tie.Need-lowest-requires Inv-loop μ-loop
-lowest-requires c κs = search needs
-
 loop-holds : tie.Need-loop-holds Inv-loop μ-loop
 loop-holds c = (search needs, search needs, c .before .end-of .ensures, c .lowest .ensures)
-
-sub-out : tie.Need-sub-out Inv-loop μ-loop
-sub-out c = search needs
-
-shared-slice-read-out : tie.Need-shared-slice-read-out Inv-loop μ-loop
-shared-slice-read-out c = search needs
-
-array-write-out : tie.Need-array-write-out Inv-loop μ-loop
-array-write-out c = search needs
-
-add-order : tie.Need-add-order Inv-loop μ-loop
-add-order c = search needs
-
-loop-less : tie.Need-loop-less Inv-loop μ-loop
-loop-less c = search needs
 
 loop-again : tie.Need-loop-again Inv-loop μ-loop
 unfolding genus
@@ -62,13 +41,13 @@ function-of-spec =
     (tie.spec
     Inv-loop
     μ-loop
-    end-of-requires
-    lowest-requires
+    (λ c κs. search needs)
+    (λ c κs. search needs)
     loop-holds
-    sub-out
-    shared-slice-read-out
-    array-write-out
-    add-order
-    loop-less
+    (λ c. search needs)
+    (λ c. search needs)
+    (λ c. search needs)
+    (λ c. search needs)
+    (λ c. search needs)
     loop-again
     returns)

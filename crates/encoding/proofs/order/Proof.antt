@@ -8,22 +8,13 @@ use borrow.Author.Needs.{needs}
 use Rattle.encoding.proofs.order.Statement.{statement}
 use Rattle.encoding.proofs.order.Tie as tie
 
-add-result : tie.Need-add-result
-add-result c = search needs
-
 returns : tie.Need-returns
 unfolding genus
 returns c = sym (orderOf-large 4 (lit≤ tt) _ (c .if1 .taken))
-
-mul-result : tie.Need-mul-result
-mul-result c = search needs
-
-array-read-result : tie.Need-array-read-result
-array-read-result c = search needs
 
 returns-2 : tie.Need-returns-2
 unfolding listed orderOf presents isPresent genus
 returns-2 c = listed-at 6 _ (orderOf 4) 0 (c .if1 .left)
 
 pub order-spec : {M : Type 1} → statement M
-order-spec = tie.close (tie.spec add-result returns mul-result array-read-result returns-2)
+order-spec = tie.close (tie.spec (λ c. search needs) returns (λ c. search needs) (λ c. search needs) returns-2)

@@ -11,22 +11,13 @@ returns : tie.Need-returns
 unfolding genus
 returns c = omega (arith, rank-present 4 0 _ (c .before .pre) (omega arith) (omega arith))
 
-sub-result : tie.Need-sub-result
-sub-result c = search needs
-
 returns-2 : tie.Need-returns-2
 unfolding genus
 returns-2 c = omega (arith, rank-present 4 1 _ (c .before .before .pre) (omega arith) (omega arith))
 
-sub-result-2 : tie.Need-sub-result-2
-sub-result-2 c = search needs
-
 returns-3 : tie.Need-returns-3
 unfolding genus
 returns-3 c = omega (arith, rank-present 4 2 _ (c .before .before .before .pre) (omega arith) (omega arith))
-
-sub-result-3 : tie.Need-sub-result-3
-sub-result-3 c = search needs
 
 returns-4 : tie.Need-returns-4
 unfolding genus
@@ -34,4 +25,4 @@ returns-4 c = omega (arith, rank-large 4 (lit≤ tt) _ (c .if3 .left))
 
 pub rank-spec : {M : Type 1} → statement M
 rank-spec =
-    tie.close (tie.spec returns sub-result returns-2 sub-result-2 returns-3 sub-result-3 returns-4)
+    tie.close (tie.spec returns (λ c. search needs) returns-2 (λ c. search needs) returns-3 (λ c. search needs) returns-4)

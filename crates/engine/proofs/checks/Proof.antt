@@ -3,14 +3,11 @@ use mathlib.Core.Bool.{true, _&&_}
 use mathlib.Core.Path.{_≡_, sym, _∙_}
 use native.Mathlib.Omega.{arith}
 use borrow.Author.Tests.{not-true, not-false, eq-eqb, ne-eqb}
-use Rattle.candidate.specs.Ranged.{Ranged, known-range}
+use Rattle.candidate.specs.Ranged.{known-range}
 use Rattle.book.specs.EngineLaws.{checks-rate, checks-size, checks-symbol, checks-list, checks-blank, checks-fit}
 use borrow.Author.Needs.{needs}
 use Rattle.engine.proofs.checks.Statement.{statement}
 use Rattle.engine.proofs.checks.Tie as tie
-
-known-rate-requires : tie.Need-known-rate-requires
-known-rate-requires c κs = search needs
 
 returns : tie.Need-returns
 returns c = sym (checks-rate _ _ _ _ _ (sym (c .before .known-rate .ensures) ∙ not-true _ (c .if1 .taken)))
@@ -24,14 +21,8 @@ returns-3 c = sym (checks-size _ _ _ _ _ (sym (c .before .before .before .known-
 returns-4 : tie.Need-returns-4
 returns-4 c = sym (checks-size _ _ _ _ _ (sym (c .before .before .before .before .known-rate .ensures) ∙ not-false _ (c .before .before .before .if1 .left)) (rw (eq-eqb _ _ (c .before .before .if2 .left), eq-eqb _ _ (c .before .if3 .left), ne-eqb _ _ (c .if4 .taken))))
 
-symbols-only-requires : tie.Need-symbols-only-requires
-symbols-only-requires c κs = search needs
-
 returns-5 : tie.Need-returns-5
 returns-5 c = sym (checks-symbol _ _ _ _ _ (sym (c .before .before .before .before .before .before .known-rate .ensures) ∙ not-false _ (c .before .before .before .before .before .if1 .left)) (rw (eq-eqb _ _ (c .before .before .before .before .if2 .left), eq-eqb _ _ (c .before .before .before .if3 .left), eq-eqb _ _ (c .before .before .if4 .left))) (sym (c .before .symbols-only .ensures) ∙ not-true _ (c .if5 .taken)))
-
-fit-places-requires : tie.Need-fit-places-requires
-fit-places-requires c κs = search needs
 
 returns-6 : tie.Need-returns-6
 returns-6 c = sym (checks-list _ _ _ _ _ (sym (c .before .before .before .before .before .before .before .before .known-rate .ensures) ∙ not-false _ (c .before .before .before .before .before .before .before .if1 .left)) (rw (eq-eqb _ _ (c .before .before .before .before .before .before .if2 .left), eq-eqb _ _ (c .before .before .before .before .before .if3 .left), eq-eqb _ _ (c .before .before .before .before .if4 .left))) (sym (c .before .before .before .symbols-only .ensures) ∙ not-false _ (c .before .before .if5 .left)) (sym (c .before .fit-places .ensures) ∙ not-true _ (c .if6 .taken)))
@@ -49,14 +40,14 @@ pub checks-spec : {M : Type 1} → statement M
 checks-spec =
     tie.close
     (tie.spec
-    known-rate-requires
+    (λ c κs. search needs)
     returns
     returns-2
     returns-3
     returns-4
-    symbols-only-requires
+    (λ c κs. search needs)
     returns-5
-    fit-places-requires
+    (λ c κs. search needs)
     returns-6
     blank-limit-requires
     returns-7

@@ -2,23 +2,13 @@
 use mathlib.Core.Path.{refl, ap, _∙_, subst}
 use native.Mathlib.Omega.{arith}
 use Rattle.candidate.specs.Ranged.{limit-small}
-use Rattle.near.specs.Here.{mOf}
 use Rattle.engine.proofs.Deciding.{none-solved, far-solved, near-solved}
 use borrow.Author.Needs.{needs}
 use Rattle.engine.proofs.decide.Statement.{statement}
 use Rattle.engine.proofs.decide.Tie as tie
 
-largest-key-requires : tie.Need-largest-key-requires
-largest-key-requires c κs = search needs
-
-top-order-requires : tie.Need-top-order-requires
-top-order-requires c κs = search needs
-
 solve-requires : tie.Need-solve-requires
 solve-requires c κs = omega (arith, c .before .largest-key .ensures, limit-small (c .before .before .pre .0) (c .before .before .args .blanks))
-
-nobody-requires : tie.Need-nobody-requires
-nobody-requires c κs = search needs
 
 returns : tie.Need-returns
 returns c = none-solved (c .before .before .before .before .before .before .pre .0) _ _ (c .before .before .before .before .before .before .pre .1) (c .before .before .before .before .before .before .pre .2) (c .before .before .before .before .top-order .ensures) (c .before .before .before .before .before .largest-key .ensures) (c .before .before .before .solve .ensures) (omega (arith, c .before .if1 .taken)) (c .nobody .ensures)
@@ -26,26 +16,8 @@ returns c = none-solved (c .before .before .before .before .before .before .pre 
 candidate-of-requires : tie.Need-candidate-of-requires
 candidate-of-requires c κs = c .before .before .before .before .before .before .pre .0
 
-reach-requires : tie.Need-reach-requires
-reach-requires c κs = search needs
-
-distance-requires : tie.Need-distance-requires
-distance-requires c κs = search needs
-
-nobody-requires-2 : tie.Need-nobody-requires-2
-nobody-requires-2 c κs = search needs
-
 returns-2 : tie.Need-returns-2
 returns-2 c = far-solved (c .before .before .before .before .before .before .before .before .before .before .before .before .pre .0) _ _ (c .before .before .before .before .before .before .before .before .before .before .before .before .pre .1) (c .before .before .before .before .before .before .before .before .before .before .before .before .pre .2) (c .before .before .before .before .before .before .before .before .before .before .top-order .ensures) (c .before .before .before .before .before .before .before .before .before .before .before .largest-key .ensures) (c .before .before .before .before .before .before .before .before .before .solve .ensures) (omega (arith, c .before .before .before .before .before .before .before .if1 .left)) (c .before .before .before .before .before .candidate-of .ensures) (c .before .before .before .reach .ensures) (c .before .before .distance .ensures) (omega (arith, c .before .if2 .taken)) (c .nobody2 .ensures)
-
-without-z-requires : tie.Need-without-z-requires
-without-z-requires c κs = search needs
-
-with-z-requires : tie.Need-with-z-requires
-with-z-requires c κs = search needs
-
-scaled-requires : tie.Need-scaled-requires
-scaled-requires c κs = search needs
 
 returns-3 : tie.Need-returns-3
 returns-3 c = near-solved (c .before .before .before .before .before .before .before .before .before .before .before .before .before .before .pre .0) _ _ (c .before .before .before .before .before .before .before .before .before .before .before .before .before .before .pre .1) (c .before .before .before .before .before .before .before .before .before .before .before .before .before .before .pre .2) (c .before .before .before .before .before .before .before .before .before .before .before .before .top-order .ensures) (c .before .before .before .before .before .before .before .before .before .before .before .before .before .largest-key .ensures) (c .before .before .before .before .before .before .before .before .before .before .before .solve .ensures) (omega (arith, c .before .before .before .before .before .before .before .before .before .if1 .left)) (c .before .before .before .before .before .before .before .candidate-of .ensures) (c .before .before .before .before .before .reach .ensures) (c .before .before .before .before .distance .ensures) (omega (arith, c .before .before .before .if2 .left)) refl (c .before .before .without-z .ensures) (c .before .with-z .ensures) (c .scaled .ensures _) refl
@@ -54,17 +26,17 @@ pub decide-spec : {M : Type 1} → statement M
 decide-spec =
     tie.close
     (tie.spec
-    largest-key-requires
-    top-order-requires
+    (λ c κs. search needs)
+    (λ c κs. search needs)
     solve-requires
-    nobody-requires
+    (λ c κs. search needs)
     returns
     candidate-of-requires
-    reach-requires
-    distance-requires
-    nobody-requires-2
+    (λ c κs. search needs)
+    (λ c κs. search needs)
+    (λ c κs. search needs)
     returns-2
-    without-z-requires
-    with-z-requires
-    scaled-requires
+    (λ c κs. search needs)
+    (λ c κs. search needs)
+    (λ c κs. search needs)
     returns-3)

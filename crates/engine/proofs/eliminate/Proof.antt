@@ -7,41 +7,17 @@ use borrow.Author.Needs.{needs}
 use Rattle.engine.proofs.eliminate.Statement.{statement}
 use Rattle.engine.proofs.eliminate.Tie as tie
 
-checks-requires : tie.Need-checks-requires
-checks-requires c κs = search needs
-
 returns : tie.Need-returns
 returns c = refused-left _ _ _ _ _ (c .before .checks .ensures) (c .if1 .taken)
 
 word-of-requires : tie.Need-word-of-requires
 word-of-requires c κs = engine-passed _ _ _ _ _ (sym (c .before .checks .ensures) ∙ c .if1 .left) .word-long
 
-unblanked-requires : tie.Need-unblanked-requires
-unblanked-requires c κs = search needs
-
 decide-requires : tie.Need-decide-requires
 decide-requires c κs = may-decide _ _ _ _ _ (sym (c .before .before .before .checks .ensures) ∙ c .before .before .if1 .left) (c .unblanked .ensures)
 
 returns-2 : tie.Need-returns-2
 returns-2 c = none-left _ _ _ _ _ (sym (c .before .before .before .before .before .before .checks .ensures) ∙ c .before .before .before .before .before .if1 .left) (c .before .before .before .unblanked .ensures) (c .before .before .before .before .word-of .ensures) (c .before .before .decide .ensures) (not-true _ (c .if2 .taken))
-
-slice-aggregate-copy : tie.Need-slice-aggregate-copy
-slice-aggregate-copy c = search needs
-
-copy-requires : tie.Need-copy-requires
-copy-requires c κs = search needs
-
-slice-aggregate-copy-2 : tie.Need-slice-aggregate-copy-2
-slice-aggregate-copy-2 c = search needs
-
-copy-requires-2 : tie.Need-copy-requires-2
-copy-requires-2 c κs = search needs
-
-same-length : tie.Need-same-length
-same-length c = search needs
-
-same-length-2 : tie.Need-same-length-2
-same-length-2 c = search needs
 
 returns-3 : tie.Need-returns-3
 returns-3 c = some-left _ _ _ _ _ (sym (c .before .before .before .before .before .before .before .before .before .before .before .before .before .before .before .before .before .before .checks .ensures) ∙ c .before .before .before .before .before .before .before .before .before .before .before .before .before .before .before .before .before .if1 .left) (c .before .before .before .before .before .before .before .before .before .before .before .before .before .before .before .unblanked .ensures) (c .before .before .before .before .before .before .before .before .before .before .before .before .before .before .before .before .word-of .ensures) (c .before .before .before .before .before .before .before .before .before .before .before .before .before .before .decide .ensures) (not-false _ (c .before .before .before .before .before .before .before .before .before .before .before .before .if2 .left)) (c .before .before .before .before .before .before .before .copy .ensures) (c .before .before .copy2 .ensures)
@@ -50,16 +26,16 @@ pub eliminate-spec : {M : Type 1} → statement M
 eliminate-spec =
     tie.close
     (tie.spec
-    checks-requires
+    (λ c κs. search needs)
     returns
     word-of-requires
-    unblanked-requires
+    (λ c κs. search needs)
     decide-requires
     returns-2
-    slice-aggregate-copy
-    copy-requires
-    slice-aggregate-copy-2
-    copy-requires-2
-    same-length
-    same-length-2
+    (λ c. search needs)
+    (λ c κs. search needs)
+    (λ c. search needs)
+    (λ c κs. search needs)
+    (λ c. search needs)
+    (λ c. search needs)
     returns-3)

@@ -6,9 +6,6 @@ use borrow.Author.Needs.{needs}
 use Rattle.engine.proofs.flag.Statement.{statement}
 use Rattle.engine.proofs.flag.Tie as tie
 
-is-among-requires : tie.Need-is-among-requires
-is-among-requires c κs = search needs
-
 returns : tie.Need-returns
 unfolding unblankedBy
 returns c = rw (lt-ltb _ _ (c .before .before .before .pre), sym (c .before .is-among .ensures) ∙ c .if1 .taken)
@@ -18,4 +15,4 @@ unfolding unblankedBy
 returns-2 c = rw (lt-ltb _ _ (c .before .before .before .pre), sym (c .before .is-among .ensures) ∙ c .if1 .left)
 
 pub flag-spec : {M : Type 1} → statement M
-flag-spec = tie.close (tie.spec is-among-requires returns returns-2)
+flag-spec = tie.close (tie.spec (λ c κs. search needs) returns returns-2)

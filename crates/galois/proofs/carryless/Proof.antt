@@ -11,20 +11,11 @@ use Rattle.galois.proofs.carryless.Tie as tie
 mul-result : tie.Need-mul-result
 mul-result c = record { fits = lt-of-le-of-lt (mul-bit-le _ _ (omega arith)) (omega arith) }
 
-mul-result-2 : tie.Need-mul-result-2
-mul-result-2 c = search needs
-
 mul-result-3 : tie.Need-mul-result-3
 mul-result-3 c = record { fits = lt-of-le-of-lt (mul-bit-le _ _ (omega arith)) (omega arith) }
 
-mul-result-4 : tie.Need-mul-result-4
-mul-result-4 c = search needs
-
 mul-result-5 : tie.Need-mul-result-5
 mul-result-5 c = record { fits = lt-of-le-of-lt (mul-bit-le _ _ (omega arith)) (omega arith) }
-
-mul-result-6 : tie.Need-mul-result-6
-mul-result-6 c = search needs
 
 mul-result-7 : tie.Need-mul-result-7
 mul-result-7 c = record { fits = lt-of-le-of-lt (mul-bit-le _ _ (omega arith)) (omega arith) }
@@ -38,10 +29,10 @@ carryless-spec =
     tie.close
     (tie.spec
     mul-result
-    mul-result-2
+    (λ c. search needs)
     mul-result-3
-    mul-result-4
+    (λ c. search needs)
     mul-result-5
-    mul-result-6
+    (λ c. search needs)
     mul-result-7
     returns)

@@ -8,9 +8,6 @@ use Rattle.galois.specs.Field16.{inverse-mod}
 use Rattle.galois.proofs.inverse.Statement.{statement}
 use Rattle.galois.proofs.inverse.Tie as tie
 
-cast-result : tie.Need-cast-result
-cast-result c = search needs
-
 array-read-result : tie.Need-array-read-result
 array-read-result c = search needs
 
@@ -19,4 +16,4 @@ unfolding listed Binary.inverse Binary.power Binary.times Binary.shiftAdd Binary
 returns c = listed-at 16 _ inverse 0 (array-read-result c) ∙ inverse-mod (c .args .a)
 
 pub inverse-spec : {M : Type 1} → statement M
-inverse-spec = tie.close (tie.spec cast-result array-read-result returns)
+inverse-spec = tie.close (tie.spec (λ c. search needs) array-read-result returns)

@@ -18,18 +18,6 @@ entry-at : {k : ℕ} (a b : ℕ) → k < 256 → k / 16 ≡ a % 16 → k % 16 �
 unfolding entry
 entry-at {k} a b h p q = listed-at 256 k entry 0 h ∙ ap₂ times p q ∙ times-mod a b
 
-cast-result : tie.Need-cast-result
-cast-result c = search needs
-
-mul-result : tie.Need-mul-result
-mul-result c = search needs
-
-cast-result-2 : tie.Need-cast-result-2
-cast-result-2 c = search needs
-
-add-result : tie.Need-add-result
-add-result c = search needs
-
 array-read-result : tie.Need-array-read-result
 array-read-result c = search needs
 
@@ -39,4 +27,4 @@ returns c = entry-at (c .args .a) (c .args .b) (array-read-result c) (omega arit
 
 pub product-by-table-spec : {M : Type 1} → statement M
 product-by-table-spec =
-    tie.close (tie.spec cast-result mul-result cast-result-2 add-result array-read-result returns)
+    tie.close (tie.spec (λ c. search needs) (λ c. search needs) (λ c. search needs) (λ c. search needs) array-read-result returns)

@@ -5,12 +5,9 @@ use Rattle.galois.specs.Carryless.{reduced}
 use Rattle.galois.proofs.reduced.Statement.{statement}
 use Rattle.galois.proofs.reduced.Tie as tie
 
-mul-result : tie.Need-mul-result
-mul-result c = search needs
-
 returns : tie.Need-returns
 unfolding reduced
 returns c = refl
 
 pub reduced-spec : {M : Type 1} → statement M
-reduced-spec = tie.close (tie.spec mul-result returns)
+reduced-spec = tie.close (tie.spec (λ c. search needs) returns)

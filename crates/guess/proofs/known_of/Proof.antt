@@ -4,14 +4,8 @@ use borrow.Author.Needs.{needs}
 use Rattle.guess.proofs.known_of.Statement.{statement}
 use Rattle.guess.proofs.known_of.Tie as tie
 
-planes-requires : tie.Need-planes-requires
-planes-requires c κs = search needs
-
-shown-requires : tie.Need-shown-requires
-shown-requires c κs = search needs
-
 returns : tie.Need-returns
 returns c = known-shown (c .before .before .shown .ensures)
 
 pub known-of-spec : {M : Type 1} → statement M
-known-of-spec = tie.close (tie.spec planes-requires shown-requires returns)
+known-of-spec = tie.close (tie.spec (λ c κs. search needs) (λ c κs. search needs) returns)

@@ -21,32 +21,14 @@ met x r first y e h q =
     let s : (first + r) % 64 ≡ x % 16 * 4 + r = omega arith in
     q ∙ ap yOf s
 
-mul-first : tie.Need-mul-first Inv-loop μ-loop
-mul-first c = search needs
-
 loop-holds : tie.Need-loop-holds Inv-loop μ-loop
 loop-holds c = (search needs, search needs, passed-start _ _)
-
-add-y-at : tie.Need-add-y-at Inv-loop μ-loop
-add-y-at c = search needs
-
-y-at-requires : tie.Need-y-at-requires Inv-loop μ-loop
-y-at-requires c κs = search needs
-
-add-result : tie.Need-add-result Inv-loop μ-loop
-add-result c = search needs
 
 returns : tie.Need-returns Inv-loop μ-loop
 returns c =
     let i = c .before .before .before .loop .inv in
     subst (PlaceAt _ _) (ap (λ n. n + c .before .before .before .loop .r) (sym (i .0)))
     (placed-here _ _ _ (i .2) (search needs) (sym (met _ _ _ _ (i .0) (search needs) (c .before .y-at .ensures)) ∙ c .if1 .taken))
-
-add-r : tie.Need-add-r Inv-loop μ-loop
-add-r c = search needs
-
-loop-less : tie.Need-loop-less Inv-loop μ-loop
-loop-less c = search needs
 
 loop-again : tie.Need-loop-again Inv-loop μ-loop
 loop-again c =
@@ -62,13 +44,13 @@ place-at-spec =
     (tie.spec
     Inv-loop
     μ-loop
-    mul-first
+    (λ c. search needs)
     loop-holds
-    add-y-at
-    y-at-requires
-    add-result
+    (λ c. search needs)
+    (λ c κs. search needs)
+    (λ c. search needs)
     returns
-    add-r
-    loop-less
+    (λ c. search needs)
+    (λ c. search needs)
     loop-again
     returns-2)

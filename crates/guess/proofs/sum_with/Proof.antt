@@ -21,27 +21,12 @@ abbrev μ-loop : tie.MeasureT-loop
 loop-holds : tie.Need-loop-holds Inv-loop μ-loop
 loop-holds c = (search needs, sym (xorSum-nil _))
 
-array-read-out : tie.Need-array-read-out Inv-loop μ-loop
-array-read-out c = search needs
-
-shr-out : tie.Need-shr-out Inv-loop μ-loop
-shr-out c = search needs
-
-cast-out : tie.Need-cast-out Inv-loop μ-loop
-cast-out c = search needs
-
 mul-out : tie.Need-mul-out Inv-loop μ-loop
 mul-out c =
     let a = c .before .before .args in
     let n = c .before .loop .place / 2 ^ a .bit % 2 in
     let h : getD (a .t1) (c .before .loop .place) 0 % 16 * n < 256 = bit-fits _ _ (mod-lt _ (lit< tt)) in
     search needs
-
-add-place : tie.Need-add-place Inv-loop μ-loop
-add-place c = search needs
-
-loop-less : tie.Need-loop-less Inv-loop μ-loop
-loop-less c = search needs
 
 loop-again : tie.Need-loop-again Inv-loop μ-loop
 loop-again c = (search needs, bits-turn _ _ _ _ (c .before .loop .inv .1))
@@ -58,11 +43,11 @@ sum-with-spec =
     Inv-loop
     μ-loop
     loop-holds
-    array-read-out
-    shr-out
-    cast-out
+    (λ c. search needs)
+    (λ c. search needs)
+    (λ c. search needs)
     mul-out
-    add-place
-    loop-less
+    (λ c. search needs)
+    (λ c. search needs)
     loop-again
     returns)

@@ -20,38 +20,8 @@ Inv-loop codeword word counts doubtful doubt n₀ i₀ n i =
 abbrev μ-loop : tie.MeasureT-loop
 μ-loop codeword word counts doubtful doubt n₀ i₀ n i = doubt - i
 
-sub-i : tie.Need-sub-i Inv-loop μ-loop
-sub-i c = search needs
-
 loop-holds : tie.Need-loop-holds Inv-loop μ-loop
 loop-holds c = (search needs, search needs, omega arith)
-
-array-read-place : tie.Need-array-read-place Inv-loop μ-loop
-array-read-place c = search needs
-
-cast-place : tie.Need-cast-place Inv-loop μ-loop
-cast-place c = search needs
-
-array-read-agrees : tie.Need-array-read-agrees Inv-loop μ-loop
-array-read-agrees c = search needs
-
-array-read-agrees-2 : tie.Need-array-read-agrees-2 Inv-loop μ-loop
-array-read-agrees-2 c = search needs
-
-array-read-agrees-3 : tie.Need-array-read-agrees-3 Inv-loop μ-loop
-array-read-agrees-3 c = search needs
-
-agrees-requires : tie.Need-agrees-requires Inv-loop μ-loop
-agrees-requires c κs = search needs
-
-add-n : tie.Need-add-n Inv-loop μ-loop
-add-n c = search needs
-
-add-i : tie.Need-add-i Inv-loop μ-loop
-add-i c = search needs
-
-loop-less : tie.Need-loop-less Inv-loop μ-loop
-loop-less c = search needs
 
 loop-again : tie.Need-loop-again Inv-loop μ-loop
 loop-again c =
@@ -74,16 +44,16 @@ agreeing-spec =
     (tie.spec
     Inv-loop
     μ-loop
-    sub-i
+    (λ c. search needs)
     loop-holds
-    array-read-place
-    cast-place
-    array-read-agrees
-    array-read-agrees-2
-    array-read-agrees-3
-    agrees-requires
-    add-n
-    add-i
-    loop-less
+    (λ c. search needs)
+    (λ c. search needs)
+    (λ c. search needs)
+    (λ c. search needs)
+    (λ c. search needs)
+    (λ c κs. search needs)
+    (λ c. search needs)
+    (λ c. search needs)
+    (λ c. search needs)
     loop-again
     returns)

@@ -9,18 +9,12 @@ use borrow.Author.Needs.{needs}
 use Rattle.known.proofs.as_answer_here.Statement.{statement}
 use Rattle.known.proofs.as_answer_here.Tie as tie
 
-missed-requires : tie.Need-missed-requires
-missed-requires c κs = search needs
-
 returns : tie.Need-returns
 returns c = c .missed .ensures ∙ sym (below-none _ _ _ (c .before .if1 .taken))
-
-known-total-requires : tie.Need-known-total-requires
-known-total-requires c κs = search needs
 
 returns-2 : tie.Need-returns-2
 unfolding counted answering
 returns-2 c = found-same _ _ (ap (λ t. Near t Absent) (c .known-total .ensures)) refl refl refl ∙ sym (below-some _ _ _ (c .before .before .before .if1 .left))
 
 pub as-answer-here-spec : {M : Type 1} → statement M
-as-answer-here-spec = tie.close (tie.spec missed-requires returns known-total-requires returns-2)
+as-answer-here-spec = tie.close (tie.spec (λ c κs. search needs) returns (λ c κs. search needs) returns-2)

@@ -30,17 +30,8 @@ next c =
       subst (λ x. x * (m - i) ≤ 2 ^ mostDoubt * mostDoubt) (sym e) (choose-times m i (omega arith) (m - i) (omega arith)),
     )
 
-sub-exactly : tie.Need-sub-exactly Inv-loop μ-loop
-sub-exactly c = search needs
-
 mul-exactly : tie.Need-mul-exactly Inv-loop μ-loop
 mul-exactly c = let h = next c .1 in search needs
-
-add-exactly : tie.Need-add-exactly Inv-loop μ-loop
-add-exactly c = search needs
-
-div-exactly : tie.Need-div-exactly Inv-loop μ-loop
-div-exactly c = search needs
 
 add-sum : tie.Need-add-sum Inv-loop μ-loop
 add-sum c =
@@ -49,12 +40,6 @@ add-sum c =
     let h : c .before .loop .sum + c .before .loop .exactly * (m - i) / (i + 1) ≤ 2 ^ mostDoubt + 2 ^ mostDoubt =
     omega (arith, next c .0, c .before .loop .inv .2, choices-fit m i (omega arith), choose-fits m (i + 1) (omega arith)) in
     search needs
-
-add-i : tie.Need-add-i Inv-loop μ-loop
-add-i c = search needs
-
-loop-less : tie.Need-loop-less Inv-loop μ-loop
-loop-less c = search needs
 
 loop-again : tie.Need-loop-again Inv-loop μ-loop
 loop-again c = (search needs, next c .0, ap₂ (λ a b. a + b) (c .before .loop .inv .2) (next c .0) ∙ choices-turn _ _)
@@ -71,12 +56,12 @@ choices-spec =
     Inv-loop
     μ-loop
     loop-holds
-    sub-exactly
+    (λ c. search needs)
     mul-exactly
-    add-exactly
-    div-exactly
+    (λ c. search needs)
+    (λ c. search needs)
     add-sum
-    add-i
-    loop-less
+    (λ c. search needs)
+    (λ c. search needs)
     loop-again
     returns)

@@ -12,12 +12,6 @@ use borrow.Author.Needs.{needs}
 use Rattle.known.proofs.governs.Statement.{statement}
 use Rattle.known.proofs.governs.Tie as tie
 
-filled-requires : tie.Need-filled-requires
-filled-requires c κs = search needs
-
-distance-requires : tie.Need-distance-requires
-distance-requires c κs = search needs
-
 -- a distance is at most 64
 measured : (c : tie.After-distance) → c .distance .result ≤ 64
 measured c = subst (λ n. n ≤ 64) (sym (c .distance .ensures)) (distance-small _ _ _)
@@ -27,17 +21,11 @@ add-apart c =
     let d = measured (c .before) in
     search needs
 
-reach-requires : tie.Need-reach-requires
-reach-requires c κs = search needs
-
 add-apart-2 : tie.Need-add-apart-2
 add-apart-2 c =
     let d = measured (c .before .before) in
     let r : c .reach .result ≤ 28 = subst (λ n. n ≤ 28) (sym (c .reach .ensures)) (reach-small _ _) in
     search needs
-
-least-distance-requires : tie.Need-least-distance-requires
-least-distance-requires c κs = search needs
 
 -- the blank places are within the limit
 sub-result : tie.Need-sub-result
@@ -55,11 +43,11 @@ pub governs-spec : {M : Type 1} → statement M
 governs-spec =
     tie.close
     (tie.spec
-    filled-requires
-    distance-requires
+    (λ c κs. search needs)
+    (λ c κs. search needs)
     add-apart
-    reach-requires
+    (λ c κs. search needs)
     add-apart-2
-    least-distance-requires
+    (λ c κs. search needs)
     sub-result
     returns)

@@ -6,18 +6,6 @@ use borrow.Author.Needs.{needs}
 use Rattle.known.proofs.known_total.Statement.{statement}
 use Rattle.known.proofs.known_total.Tie as tie
 
-enum-known-answer : tie.Need-enum-known-answer
-enum-known-answer c = search needs
-
-enum-told : tie.Need-enum-told
-enum-told c = search needs
-
-slice-aggregate-total : tie.Need-slice-aggregate-total
-slice-aggregate-total c = search needs
-
-total-requires : tie.Need-total-requires
-total-requires c κs = search needs
-
 returns : tie.Need-returns
 unfolding totalFor
 returns c = c .total .ensures ∙ total-by _ _ (c .before .before .before .enum-told .given .1)
@@ -27,4 +15,4 @@ unfolding totalFor
 returns-2 c = total-by _ _ (c .before .answer .given .1)
 
 pub known-total-spec : {M : Type 1} → statement M
-known-total-spec = tie.close (tie.spec enum-known-answer enum-told slice-aggregate-total total-requires returns returns-2)
+known-total-spec = tie.close (tie.spec (λ c. search needs) (λ c. search needs) (λ c. search needs) (λ c κs. search needs) returns returns-2)

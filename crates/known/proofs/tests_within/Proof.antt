@@ -18,23 +18,11 @@ lengths c =
     let l : length (c .args .undecided .doubtful) ≡ mostDoubt = search needs in
     (search needs, search needs, rest-length _ _ _ l (c .pre .1 .0) (c .pre .1 .1))
 
-closest-requires : tie.Need-closest-requires
-closest-requires c κs = search needs
-
-distance-requires : tie.Need-distance-requires
-distance-requires c κs = search needs
-
-reach-requires : tie.Need-reach-requires
-reach-requires c κs = search needs
-
 returns : tie.Need-returns
 returns c =
     let s = c .before .before .before .before .before in
     let l = lengths s in
     counted-far _ _ (s .args .counts) _ _ _ _ _ (l .0) (l .1) (l .2) _ (c .before .before .before .closest .ensures) _ _ (c .before .reach .ensures) (c .before .before .distance .ensures) (c .if1 .taken)
-
-agreeing-requires : tie.Need-agreeing-requires
-agreeing-requires c κs = search needs
 
 -- no more places agree than are left
 few : (c : tie.After-agreeing) → c .agreeing .result ≤ c .before .before .before .before .before .before .args .undecided .left
@@ -60,9 +48,6 @@ choices-requires c κs = let h = few (c .before) in search needs
 sub-result : tie.Need-sub-result
 sub-result c = let h = few (c .before .before) in search needs
 
-shl-result-2 : tie.Need-shl-result-2
-shl-result-2 c = search needs
-
 returns-3 : tie.Need-returns-3
 returns-3 c =
     let s = c .before .before .before .before .before .before .before .before in
@@ -74,14 +59,14 @@ pub tests-within-spec : {M : Type 1} → statement M
 tests-within-spec =
     tie.close
     (tie.spec
-    closest-requires
-    distance-requires
-    reach-requires
+    (λ c κs. search needs)
+    (λ c κs. search needs)
+    (λ c κs. search needs)
     returns
-    agreeing-requires
+    (λ c κs. search needs)
     shl-result
     returns-2
     choices-requires
     sub-result
-    shl-result-2
+    (λ c. search needs)
     returns-3)

@@ -12,23 +12,11 @@ Inv-loop from into₀ count i₀ into i = Copied from into₀ count i into
 abbrev μ-loop : tie.MeasureT-loop
 μ-loop from into₀ count i₀ into i = count - i
 
-smaller-requires : tie.Need-smaller-requires Inv-loop μ-loop
-smaller-requires c κs = search needs
-
 loop-holds : tie.Need-loop-holds Inv-loop μ-loop
 loop-holds c = copied-start _ _ _ (c .smaller .ensures)
 
-shared-slice-read-into : tie.Need-shared-slice-read-into Inv-loop μ-loop
-shared-slice-read-into c = search needs
-
 slice-write-into : tie.Need-slice-write-into Inv-loop μ-loop
 slice-write-into c = omega (arith, copied-length (c .before .before .loop .inv), c .before .before .loop .inv .counted)
-
-add-i : tie.Need-add-i Inv-loop μ-loop
-add-i c = search needs
-
-loop-less : tie.Need-loop-less Inv-loop μ-loop
-loop-less c = search needs
 
 loop-again : tie.Need-loop-again Inv-loop μ-loop
 loop-again c = copied-turn (c .before .before .loop .inv) (search needs)
@@ -45,12 +33,12 @@ copy-spec =
     (tie.spec
     Inv-loop
     μ-loop
-    smaller-requires
+    (λ c κs. search needs)
     loop-holds
-    shared-slice-read-into
+    (λ c. search needs)
     slice-write-into
-    add-i
-    loop-less
+    (λ c. search needs)
+    (λ c. search needs)
     loop-again
     same-length
     returns)

@@ -33,17 +33,8 @@ found c =
     let a = c .before .before .before .before .before .before .before .before .args in
     c .record-of .ensures ∙ ap (recordWith (a .place) places) (rest-whole (5 + doubtIn (a .capture .now)) (a .capture .now))
 
-slice-aggregate-result : tie.Need-slice-aggregate-result
-slice-aggregate-result c = search needs
-
 returns : tie.Need-returns
 returns c = sym (look-up-above _ _ (c .before .if1 .taken))
-
-open-capture-requires : tie.Need-open-capture-requires
-open-capture-requires c κs = search needs
-
-slice-aggregate-result-2 : tie.Need-slice-aggregate-result-2
-slice-aggregate-result-2 c = search needs
 
 returns-2 : tie.Need-returns-2
 returns-2 c =
@@ -65,9 +56,6 @@ sub-record-of c = let l = there c in omega arith
 part-record-of-start : tie.Need-part-record-of-start
 part-record-of-start c = let l = there c in omega arith
 
-part-record-of-end : tie.Need-part-record-of-end
-part-record-of-end c = search needs
-
 record-of-requires : tie.Need-record-of-requires
 record-of-requires c κs =
     let bytes : List ℕ = c .before .before .before .before .before .before .before .args .capture .now in
@@ -86,12 +74,6 @@ add-at-2 c = let l = there (c .before .before) in omega (arith, found c)
 add-result : tie.Need-add-result
 add-result c = let l = there (c .before .before) in omega (arith, found c)
 
-sub-result : tie.Need-sub-result
-sub-result c = search needs
-
-part-result-start : tie.Need-part-result-start
-part-result-start c = search needs
-
 part-result-end : tie.Need-part-result-end
 part-result-end c = let l = there (c .before .before) in omega (arith, found c)
 
@@ -105,23 +87,23 @@ pub look-up-spec : {M : Type 1} → statement M
 look-up-spec =
     tie.close
     (tie.spec
-    slice-aggregate-result
+    (λ c. search needs)
     returns
-    open-capture-requires
-    slice-aggregate-result-2
+    (λ c κs. search needs)
+    (λ c. search needs)
     returns-2
     shared-slice-read-start
     cast-start
     add-start
     sub-record-of
     part-record-of-start
-    part-record-of-end
+    (λ c. search needs)
     record-of-requires
     mul-at
     add-at
     add-at-2
     add-result
-    sub-result
-    part-result-start
+    (λ c. search needs)
+    (λ c. search needs)
     part-result-end
     returns-3)

@@ -24,26 +24,8 @@ abbrev μ-loop : tie.MeasureT-loop
 loop-holds : tie.Need-loop-holds Inv-loop μ-loop
 loop-holds c = (omega arith, omega arith, sym (sumOf-nil _))
 
-array-read-over : tie.Need-array-read-over Inv-loop μ-loop
-array-read-over c = search needs
-
-mul-over : tie.Need-mul-over Inv-loop μ-loop
-mul-over c = search needs
-
-array-read-over-2 : tie.Need-array-read-over-2 Inv-loop μ-loop
-array-read-over-2 c = search needs
-
-over-requires : tie.Need-over-requires Inv-loop μ-loop
-over-requires c κs = search needs
-
 add-sum : tie.Need-add-sum Inv-loop μ-loop
 add-sum c = omega (arith, c .over .ensures .1, c .before .before .loop .inv .1)
-
-add-place : tie.Need-add-place Inv-loop μ-loop
-add-place c = search needs
-
-loop-less : tie.Need-loop-less Inv-loop μ-loop
-loop-less c = search needs
 
 loop-again : tie.Need-loop-again Inv-loop μ-loop
 loop-again c = (omega arith, omega (arith, c .over .ensures .1), sumOf-turn _ _ _ _ (c .before .before .loop .inv .2) (c .over .ensures .0))
@@ -61,12 +43,12 @@ excess-spec =
     Inv-loop
     μ-loop
     loop-holds
-    array-read-over
-    mul-over
-    array-read-over-2
-    over-requires
+    (λ c. search needs)
+    (λ c. search needs)
+    (λ c. search needs)
+    (λ c κs. search needs)
     add-sum
-    add-place
-    loop-less
+    (λ c. search needs)
+    (λ c. search needs)
     loop-again
     returns)

@@ -18,27 +18,6 @@ abbrev μ-loop : tie.MeasureT-loop
 loop-holds : tie.Need-loop-holds Inv-loop μ-loop
 loop-holds c = (omega arith, passed-start 0 _ 0 _)
 
-mul-gap-at : tie.Need-mul-gap-at Inv-loop μ-loop
-mul-gap-at c = search needs
-
-array-read-gap-at : tie.Need-array-read-gap-at Inv-loop μ-loop
-array-read-gap-at c = search needs
-
-array-read-gap-at-2 : tie.Need-array-read-gap-at-2 Inv-loop μ-loop
-array-read-gap-at-2 c = search needs
-
-gap-at-requires : tie.Need-gap-at-requires Inv-loop μ-loop
-gap-at-requires c κs = search needs
-
-mul-out : tie.Need-mul-out Inv-loop μ-loop
-mul-out c = search needs
-
-array-write-out : tie.Need-array-write-out Inv-loop μ-loop
-array-write-out c = search needs
-
-add-place : tie.Need-add-place Inv-loop μ-loop
-add-place c = search needs
-
 loop-less : tie.Need-loop-less Inv-loop μ-loop
 loop-less c = omega arith
 
@@ -60,13 +39,13 @@ gaps-spec =
     Inv-loop
     μ-loop
     loop-holds
-    mul-gap-at
-    array-read-gap-at
-    array-read-gap-at-2
-    gap-at-requires
-    mul-out
-    array-write-out
-    add-place
+    (λ c. search needs)
+    (λ c. search needs)
+    (λ c. search needs)
+    (λ c κs. search needs)
+    (λ c. search needs)
+    (λ c. search needs)
+    (λ c. search needs)
     loop-less
     loop-again
     returns)

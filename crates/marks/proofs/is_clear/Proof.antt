@@ -14,12 +14,9 @@ returns : tie.Need-returns
 unfolding clearOf
 returns c = let a = c .before .args in sym (ap (λ b. b && ltb (belowBy places (a .due) (a .gaps)) (a .few)) (le-ltb (a .due) above (c .if1 .taken)))
 
-count-below-requires : tie.Need-count-below-requires
-count-below-requires c κs = search needs
-
 returns-2 : tie.Need-returns-2
 unfolding clearOf
 returns-2 c = let a = c .before .before .args in ap (λ n. ltb n (a .few)) (c .count-below .ensures .0) ∙ sym (ap (λ b. b && ltb (belowBy places (a .due) (a .gaps)) (a .few)) (lt-ltb (a .due) above (omega arith)))
 
 pub is-clear-spec : {M : Type 1} → statement M
-is-clear-spec = tie.close (tie.spec returns count-below-requires returns-2)
+is-clear-spec = tie.close (tie.spec returns (λ c κs. search needs) returns-2)

@@ -7,20 +7,11 @@ use Rattle.marks.proofs.Marking.{product-small}
 use Rattle.marks.proofs.low_sum.Statement.{statement}
 use Rattle.marks.proofs.low_sum.Tie as tie
 
-threshold-requires : tie.Need-threshold-requires
-threshold-requires c κs = search needs
-
-count-below-requires : tie.Need-count-below-requires
-count-below-requires c κs = search needs
-
 sub-rest : tie.Need-sub-rest
 sub-rest c = omega (arith, c .count-below .ensures .0, c .before .threshold .ensures .at-most)
 
 sum-below-requires : tie.Need-sum-below-requires
 sum-below-requires c κs = omega (arith, c .before .threshold .ensures .within)
-
-cast-result : tie.Need-cast-result
-cast-result c = search needs
 
 mul-result : tie.Need-mul-result
 mul-result c = omega (arith, product-small {r = c .before .before .before .args .few - c .before .count-below .result} (omega (arith, c .before .before .before .pre .0)) (c .before .before .threshold .ensures .within))
@@ -41,11 +32,11 @@ pub low-sum-spec : {M : Type 1} → statement M
 low-sum-spec =
     tie.close
     (tie.spec
-    threshold-requires
-    count-below-requires
+    (λ c κs. search needs)
+    (λ c κs. search needs)
     sub-rest
     sum-below-requires
-    cast-result
+    (λ c. search needs)
     mul-result
     add-result
     returns)

@@ -10,9 +10,6 @@ use Rattle.marks.proofs.Marking.{enough-above, few-left, marked-clean, 
 use Rattle.marks.proofs.mark.Statement.{statement}
 use Rattle.marks.proofs.mark.Tie as tie
 
-excess-requires : tie.Need-excess-requires
-excess-requires c κs = search needs
-
 -- by the summary the excess is that over the best costs
 due-is : (c : tie.After-excess) → c .excess .result ≡ excessIn 64 (flagAt (c .before .before .before .before .args .flags)) (columnOf 16 (c .before .before .before .before .args .costs .now)) (c .before .before .before .before .args .word .now)
 due-is c = c .excess .ensures ∙ excess-best _ _ _ _ (c .before .before .before .before .pre .1 .least)
@@ -24,25 +21,10 @@ near-is c = c .gaps .ensures _ (c .before .before .before .before .before .befor
 returns : tie.Need-returns
 returns c = marked-clean (c .before .before .before .before .before .pre .0) (due-is (c .before)) (c .if1 .taken)
 
-changed-requires : tie.Need-changed-requires
-changed-requires c κs = search needs
-
-cast-count : tie.Need-cast-count
-cast-count c = search needs
-
 returns-2 : tie.Need-returns-2
 returns-2 c =
     marked-none (c .before .before .before .before .before .before .before .pre .0) (due-is (c .before .before .before)) (c .before .changed .ensures)
     (c .before .before .if1 .left) (c .if2 .taken)
-
-gaps-requires : tie.Need-gaps-requires
-gaps-requires c κs = search needs
-
-sub-few : tie.Need-sub-few
-sub-few c = search needs
-
-is-clear-requires : tie.Need-is-clear-requires
-is-clear-requires c κs = search needs
 
 returns-3 : tie.Need-returns-3
 returns-3 c =
@@ -68,14 +50,14 @@ pub mark-spec : {M : Type 1} → statement M
 mark-spec =
     tie.close
     (tie.spec
-    excess-requires
+    (λ c κs. search needs)
     returns
-    changed-requires
-    cast-count
+    (λ c κs. search needs)
+    (λ c. search needs)
     returns-2
-    gaps-requires
-    sub-few
-    is-clear-requires
+    (λ c κs. search needs)
+    (λ c. search needs)
+    (λ c κs. search needs)
     returns-3
     low-sum-requires
     returns-4

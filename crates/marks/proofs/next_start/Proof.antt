@@ -12,13 +12,10 @@ returns c =
     let a = c .before .args in
     sym (ap (λ b. cond b (a .start + a .half) (a .start)) (lt-leb (a .below) (a .few) (c .if1 .taken)))
 
-add-result : tie.Need-add-result
-add-result c = search needs
-
 returns-2 : tie.Need-returns-2
 returns-2 c =
     let a = c .before .args in
     sym (ap (λ b. cond b (a .start + a .half) (a .start)) (le-leb (a .below) (a .few) (c .if1 .left)))
 
 pub next-start-spec : {M : Type 1} → statement M
-next-start-spec = tie.close (tie.spec returns add-result returns-2)
+next-start-spec = tie.close (tie.spec returns (λ c. search needs) returns-2)

@@ -12,13 +12,10 @@ returns c =
     let a = c .before .args in
     sym (ap (λ b. cond b (a .width - a .half) (a .half)) (lt-leb (a .below) (a .few) (c .if1 .taken)))
 
-sub-result : tie.Need-sub-result
-sub-result c = search needs
-
 returns-2 : tie.Need-returns-2
 returns-2 c =
     let a = c .before .args in
     sym (ap (λ b. cond b (a .width - a .half) (a .half)) (le-leb (a .below) (a .few) (c .if1 .left)))
 
 pub next-width-spec : {M : Type 1} → statement M
-next-width-spec = tie.close (tie.spec returns sub-result returns-2)
+next-width-spec = tie.close (tie.spec returns (λ c. search needs) returns-2)

@@ -13,12 +13,6 @@ returns c =
     let a = c .before .before .before .args in
     (over-none (a .flag) (costIn (columnOf 16 (a .costs .now)) (a .word .now) (a .place)) (a .least) (ne-eqb (a .flag) 1 (c .if1 .taken)), omega arith)
 
-byte-at-requires : tie.Need-byte-at-requires
-byte-at-requires c κs = search needs
-
-cost-of-requires : tie.Need-cost-of-requires
-cost-of-requires c κs = search needs
-
 returns-2 : tie.Need-returns-2
 returns-2 c =
     let a = c .before .before .before .before .before .before .args in (
@@ -26,9 +20,6 @@ returns-2 c =
           (c .before .cost-of .ensures) (omega arith),
       omega arith,
     )
-
-cast-result : tie.Need-cast-result
-cast-result c = search needs
 
 returns-3 : tie.Need-returns-3
 returns-3 c =
@@ -40,4 +31,4 @@ returns-3 c =
 
 pub over-spec : {M : Type 1} → statement M
 over-spec =
-    tie.close (tie.spec returns byte-at-requires cost-of-requires returns-2 cast-result returns-3)
+    tie.close (tie.spec returns (λ c κs. search needs) (λ c κs. search needs) returns-2 (λ c. search needs) returns-3)

@@ -22,23 +22,8 @@ abbrev μ-loop : tie.MeasureT-loop
 loop-holds : tie.Need-loop-holds Inv-loop μ-loop
 loop-holds c = (omega arith, omega arith, sym (sumOf-nil _))
 
-mul-small : tie.Need-mul-small Inv-loop μ-loop
-mul-small c = search needs
-
-array-read-small : tie.Need-array-read-small Inv-loop μ-loop
-array-read-small c = search needs
-
-small-requires : tie.Need-small-requires Inv-loop μ-loop
-small-requires c κs = search needs
-
 add-sum : tie.Need-add-sum Inv-loop μ-loop
 add-sum c = omega (arith, c .small .ensures .1, c .before .before .loop .inv .1)
-
-add-place : tie.Need-add-place Inv-loop μ-loop
-add-place c = search needs
-
-loop-less : tie.Need-loop-less Inv-loop μ-loop
-loop-less c = search needs
 
 loop-again : tie.Need-loop-again Inv-loop μ-loop
 loop-again c = (omega arith, omega (arith, c .small .ensures .1), sumOf-turn _ _ _ _ (c .before .before .loop .inv .2) (c .small .ensures .0))
@@ -56,11 +41,11 @@ sum-below-spec =
     Inv-loop
     μ-loop
     loop-holds
-    mul-small
-    array-read-small
-    small-requires
+    (λ c. search needs)
+    (λ c. search needs)
+    (λ c κs. search needs)
     add-sum
-    add-place
-    loop-less
+    (λ c. search needs)
+    (λ c. search needs)
     loop-again
     returns)

@@ -18,14 +18,8 @@ loop-holds c = part-start _ _ (c .pre)
 add-count-below : tie.Need-add-count-below Inv-loop μ-loop
 add-count-below c = omega (arith, c .before .loop .inv .within)
 
-count-below-requires : tie.Need-count-below-requires Inv-loop μ-loop
-count-below-requires c κs = search needs
-
 next-start-requires : tie.Need-next-start-requires Inv-loop μ-loop
 next-start-requires c κs = omega (arith, c .before .before .loop .inv .within)
-
-next-width-requires : tie.Need-next-width-requires Inv-loop μ-loop
-next-width-requires c κs = search needs
 
 loop-less : tie.Need-loop-less Inv-loop μ-loop
 loop-less c = part-turn _ _ (c .before .before .before .before .loop .inv) (c .before .before .before .loop-test .taken) (omega arith) (c .before .before .count-below .ensures .0) (c .before .next-start .ensures) (c .next-width .ensures) .1
@@ -44,9 +38,9 @@ threshold-spec =
     μ-loop
     loop-holds
     add-count-below
-    count-below-requires
+    (λ c κs. search needs)
     next-start-requires
-    next-width-requires
+    (λ c κs. search needs)
     loop-less
     loop-again
     returns)

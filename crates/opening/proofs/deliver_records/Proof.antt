@@ -23,38 +23,8 @@ abbrev μ-loop : tie.MeasureT-loop
 loop-holds : tie.Need-loop-holds Inv-loop μ-loop
 loop-holds c = (omega arith, c .before .pre .0, agreed-path refl)
 
-mul-at : tie.Need-mul-at Inv-loop μ-loop
-mul-at c = search needs
-
-shared-slice-read-place : tie.Need-shared-slice-read-place Inv-loop μ-loop
-shared-slice-read-place c = search needs
-
 cast-place : tie.Need-cast-place Inv-loop μ-loop
 cast-place c = omega (arith, c .shared-slice-known2 .given (33 * c .before .before .loop .i))
-
-add-column-from : tie.Need-add-column-from Inv-loop μ-loop
-add-column-from c = search needs
-
-add-column-from-2 : tie.Need-add-column-from-2 Inv-loop μ-loop
-add-column-from-2 c = search needs
-
-sub-column-from : tie.Need-sub-column-from Inv-loop μ-loop
-sub-column-from c = search needs
-
-part-column-from-start : tie.Need-part-column-from-start Inv-loop μ-loop
-part-column-from-start c = search needs
-
-part-column-from-end : tie.Need-part-column-from-end Inv-loop μ-loop
-part-column-from-end c = search needs
-
-column-from-requires : tie.Need-column-from-requires Inv-loop μ-loop
-column-from-requires c κs = search needs
-
-deliver-requires : tie.Need-deliver-requires Inv-loop μ-loop
-deliver-requires c κs = search needs
-
-refused-requires : tie.Need-refused-requires Inv-loop μ-loop
-refused-requires c κs = search needs
 
 returns : tie.Need-returns Inv-loop μ-loop
 returns c =
@@ -64,12 +34,6 @@ returns c =
     (stop (s .opened) (l .current) (s .records .now) (c .before .before .before .column-from .result) (l .i) (c .before .before .deliver .result)
     (c .before .before .before .before .before .before .loop-test .taken) (l .inv .1) (l .inv .2) (c .before .before .before .column-from .ensures)
     (c .before .before .deliver .ensures) (c .before .if1 .taken))
-
-add-i : tie.Need-add-i Inv-loop μ-loop
-add-i c = search needs
-
-loop-less : tie.Need-loop-less Inv-loop μ-loop
-loop-less c = search needs
 
 loop-again : tie.Need-loop-again Inv-loop μ-loop
 loop-again c =
@@ -95,19 +59,19 @@ deliver-records-spec =
     Inv-loop
     μ-loop
     loop-holds
-    mul-at
-    shared-slice-read-place
+    (λ c. search needs)
+    (λ c. search needs)
     cast-place
-    add-column-from
-    add-column-from-2
-    sub-column-from
-    part-column-from-start
-    part-column-from-end
-    column-from-requires
-    deliver-requires
-    refused-requires
+    (λ c. search needs)
+    (λ c. search needs)
+    (λ c. search needs)
+    (λ c. search needs)
+    (λ c. search needs)
+    (λ c κs. search needs)
+    (λ c κs. search needs)
+    (λ c κs. search needs)
     returns
-    add-i
-    loop-less
+    (λ c. search needs)
+    (λ c. search needs)
     loop-again
     returns-2)

@@ -18,26 +18,11 @@ use Rattle.opening.proofs.Checked.{too-short, too-long, other-version, 
 use Rattle.opening.proofs.open_capture.Statement.{statement}
 use Rattle.opening.proofs.open_capture.Tie as tie
 
-refused-requires : tie.Need-refused-requires
-refused-requires c κs = search needs
-
 returns : tie.Need-returns
 returns c = rw (c .refused .ensures) (too-short _ (c .before .if1 .taken))
 
-refused-requires-2 : tie.Need-refused-requires-2
-refused-requires-2 c κs = search needs
-
 returns-2 : tie.Need-returns-2
 returns-2 c = rw (c .refused2 .ensures) (too-long _ (c .before .if2 .taken))
-
-shared-slice-read-version : tie.Need-shared-slice-read-version
-shared-slice-read-version c = search needs
-
-is-version-requires : tie.Need-is-version-requires
-is-version-requires c κs = search needs
-
-refused-requires-3 : tie.Need-refused-requires-3
-refused-requires-3 c κs = search needs
 
 returns-3 : tie.Need-returns-3
 returns-3 c =
@@ -46,17 +31,11 @@ returns-3 c =
     rw (c .refused3 .ensures)
     (other-version _ (s2 .before .if1 .left) (s2 .if2 .left) (sym (v .is-version .ensures) ∙ not-true _ (c .before .if3 .taken)))
 
-shared-slice-read-length : tie.Need-shared-slice-read-length
-shared-slice-read-length c = search needs
-
 cast-length : tie.Need-cast-length
 cast-length c = omega (arith, c .shared-slice-known3 .given 1)
 
 mul-length : tie.Need-mul-length
 mul-length c = omega (arith, c .shared-slice-known3 .given 1)
-
-shared-slice-read-length-2 : tie.Need-shared-slice-read-length-2
-shared-slice-read-length-2 c = search needs
 
 cast-length-2 : tie.Need-cast-length-2
 cast-length-2 c = omega (arith, c .shared-slice-known4 .given 2)
@@ -64,17 +43,11 @@ cast-length-2 c = omega (arith, c .shared-slice-known4 .given 2)
 add-length : tie.Need-add-length
 add-length c = omega (arith, c .shared-slice-known4 .given 1, c .shared-slice-known4 .given 2)
 
-shared-slice-read-doubt : tie.Need-shared-slice-read-doubt
-shared-slice-read-doubt c = search needs
-
 cast-doubt : tie.Need-cast-doubt
 cast-doubt c = omega (arith, c .shared-slice-known5 .given 4)
 
 add-if4 : tie.Need-add-if4
 add-if4 c = omega (arith, c .shared-slice-known5 .given 1, c .shared-slice-known5 .given 2)
-
-refused-requires-4 : tie.Need-refused-requires-4
-refused-requires-4 c κs = search needs
 
 returns-4 : tie.Need-returns-4
 returns-4 c =
@@ -87,9 +60,6 @@ returns-4 c =
 add-if5 : tie.Need-add-if5
 add-if5 c = omega (arith, c .before .shared-slice-known5 .given 4)
 
-refused-requires-5 : tie.Need-refused-requires-5
-refused-requires-5 c κs = search needs
-
 returns-5 : tie.Need-returns-5
 returns-5 c =
     let s3 = c .before .before .before .before .before .before in
@@ -98,32 +68,8 @@ returns-5 c =
     rw (c .refused5 .ensures)
     (other-doubt _ (s2 .before .if1 .left) (s2 .if2 .left) (sym (v .is-version .ensures) ∙ not-false _ (s3 .if3 .left)) (c .before .if5 .taken))
 
-add-start : tie.Need-add-start
-add-start c = search needs
-
-version-of-requires : tie.Need-version-of-requires
-version-of-requires c κs = search needs
-
-shared-slice-read-open : tie.Need-shared-slice-read-open
-shared-slice-read-open c = search needs
-
 cast-open : tie.Need-cast-open
 cast-open c = omega (arith, c .shared-slice-known6 .given 3)
-
-sub-open : tie.Need-sub-open
-sub-open c = search needs
-
-part-open-start : tie.Need-part-open-start
-part-open-start c = search needs
-
-part-open-end : tie.Need-part-open-end
-part-open-end c = search needs
-
-open-requires : tie.Need-open-requires
-open-requires c κs = search needs
-
-refused-requires-6 : tie.Need-refused-requires-6
-refused-requires-6 c κs = search needs
 
 returns-6 : tie.Need-returns-6
 returns-6 c =
@@ -143,9 +89,6 @@ returns-6 c =
     (opening-refused bytes (s1 .if1 .left) (s2 .if2 .left) (sym (v .is-version .ensures) ∙ not-false _ (s3 .if3 .left)) (s4 .if4 .left) (s5 .if5 .left)
     list refl (λ n. c .before .if6 .taken (e ∙ n))))
 
-refused-requires-7 : tie.Need-refused-requires-7
-refused-requires-7 c κs = search needs
-
 returns-7 : tie.Need-returns-7
 returns-7 c =
     let o = c .before .before .before in
@@ -162,15 +105,6 @@ returns-7 c =
     rw (c .refused7 .ensures)
     (opening-misfit bytes (s1 .if1 .left) (s2 .if2 .left) (sym (v .is-version .ensures) ∙ not-false _ (s3 .if3 .left)) (s4 .if4 .left) (s5 .if5 .left)
     list refl (sym e ∙ c .before .before .if6 .left) (λ q. c .before .if7 .taken (q ∙ sym (w .version-of .ensures))))
-
-sub-deliver-records : tie.Need-sub-deliver-records
-sub-deliver-records c = search needs
-
-part-deliver-records-start : tie.Need-part-deliver-records-start
-part-deliver-records-start c = search needs
-
-part-deliver-records-end : tie.Need-part-deliver-records-end
-part-deliver-records-end c = search needs
 
 deliver-records-requires : tie.Need-deliver-records-requires
 deliver-records-requires c κs =
@@ -213,42 +147,42 @@ pub open-capture-spec : {M : Type 1} → statement M
 open-capture-spec =
     tie.close
     (tie.spec
-    refused-requires
+    (λ c κs. search needs)
     returns
-    refused-requires-2
+    (λ c κs. search needs)
     returns-2
-    shared-slice-read-version
-    is-version-requires
-    refused-requires-3
+    (λ c. search needs)
+    (λ c κs. search needs)
+    (λ c κs. search needs)
     returns-3
-    shared-slice-read-length
+    (λ c. search needs)
     cast-length
     mul-length
-    shared-slice-read-length-2
+    (λ c. search needs)
     cast-length-2
     add-length
-    shared-slice-read-doubt
+    (λ c. search needs)
     cast-doubt
     add-if4
-    refused-requires-4
+    (λ c κs. search needs)
     returns-4
     add-if5
-    refused-requires-5
+    (λ c κs. search needs)
     returns-5
-    add-start
-    version-of-requires
-    shared-slice-read-open
+    (λ c. search needs)
+    (λ c κs. search needs)
+    (λ c. search needs)
     cast-open
-    sub-open
-    part-open-start
-    part-open-end
-    open-requires
-    refused-requires-6
+    (λ c. search needs)
+    (λ c. search needs)
+    (λ c. search needs)
+    (λ c κs. search needs)
+    (λ c κs. search needs)
     returns-6
-    refused-requires-7
+    (λ c κs. search needs)
     returns-7
-    sub-deliver-records
-    part-deliver-records-start
-    part-deliver-records-end
+    (λ c. search needs)
+    (λ c. search needs)
+    (λ c. search needs)
     deliver-records-requires
     returns-8)

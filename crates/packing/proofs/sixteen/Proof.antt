@@ -16,27 +16,12 @@ abbrev μ-loop : tie.MeasureT-loop
 loop-holds : tie.Need-loop-holds Inv-loop μ-loop
 loop-holds c = (search needs, search needs, packed-start _ _)
 
-sub-i : tie.Need-sub-i Inv-loop μ-loop
-sub-i c = search needs
-
 mul-out : tie.Need-mul-out Inv-loop μ-loop
 mul-out c = omega (arith, packed-half _ _ _ _ (c .before .loop .inv .2) (c .loop-test .taken) (c .before .loop .inv .0))
-
-add-bits-apart : tie.Need-add-bits-apart Inv-loop μ-loop
-add-bits-apart c = search needs
-
-array-read-bits-apart : tie.Need-array-read-bits-apart Inv-loop μ-loop
-array-read-bits-apart c = search needs
-
-bits-apart-requires : tie.Need-bits-apart-requires Inv-loop μ-loop
-bits-apart-requires c κs = search needs
 
 add-out : tie.Need-add-out Inv-loop μ-loop
 add-out c =
     omega (arith, packed-room _ _ _ _ (c .before .before .loop .inv .2) (c .before .loop-test .taken) (c .before .before .loop .inv .0) (c .bits-apart .ensures))
-
-loop-less : tie.Need-loop-less Inv-loop μ-loop
-loop-less c = search needs
 
 loop-again : tie.Need-loop-again Inv-loop μ-loop
 loop-again c = (
@@ -55,12 +40,12 @@ sixteen-spec =
     Inv-loop
     μ-loop
     loop-holds
-    sub-i
+    (λ c. search needs)
     mul-out
-    add-bits-apart
-    array-read-bits-apart
-    bits-apart-requires
+    (λ c. search needs)
+    (λ c. search needs)
+    (λ c κs. search needs)
     add-out
-    loop-less
+    (λ c. search needs)
     loop-again
     returns)

@@ -9,9 +9,6 @@ use Rattle.reading.proofs.flag.Tie as tie
 returns : tie.Need-returns
 returns c = flag-away _ _ _ _ (not-true _ (c .if1 .taken))
 
-is-among-requires : tie.Need-is-among-requires
-is-among-requires c κs = search needs
-
 returns-2 : tie.Need-returns-2
 returns-2 c = flag-doubtful _ _ _ _ (not-false _ (c .before .before .if1 .left)) (sym (c .before .is-among .ensures) ∙ c .if2 .taken)
 
@@ -24,4 +21,4 @@ returns-4 c =
     flag-settled _ _ _ _ (not-false _ (c .before .before .before .if1 .left)) (sym (c .before .before .is-among .ensures) ∙ c .before .if2 .left) (c .if3 .left)
 
 pub flag-spec : {M : Type 1} → statement M
-flag-spec = tie.close (tie.spec returns is-among-requires returns-2 returns-3 returns-4)
+flag-spec = tie.close (tie.spec returns (λ c κs. search needs) returns-2 returns-3 returns-4)

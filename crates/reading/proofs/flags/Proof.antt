@@ -17,24 +17,6 @@ abbrev μ-loop : tie.MeasureT-loop
 loop-holds : tie.Need-loop-holds Inv-loop μ-loop
 loop-holds c = filled-start _ _
 
-array-read-flag : tie.Need-array-read-flag Inv-loop μ-loop
-array-read-flag c = search needs
-
-array-read-flag-2 : tie.Need-array-read-flag-2 Inv-loop μ-loop
-array-read-flag-2 c = search needs
-
-flag-requires : tie.Need-flag-requires Inv-loop μ-loop
-flag-requires c κs = search needs
-
-array-write-out : tie.Need-array-write-out Inv-loop μ-loop
-array-write-out c = search needs
-
-add-place : tie.Need-add-place Inv-loop μ-loop
-add-place c = search needs
-
-loop-less : tie.Need-loop-less Inv-loop μ-loop
-loop-less c = search needs
-
 loop-again : tie.Need-loop-again Inv-loop μ-loop
 unfolding readFlag
 loop-again c = filled-turn 0 (c .before .before .loop .inv) _ (search needs) (c .flag .ensures)
@@ -49,11 +31,11 @@ flags-spec =
     Inv-loop
     μ-loop
     loop-holds
-    array-read-flag
-    array-read-flag-2
-    flag-requires
-    array-write-out
-    add-place
-    loop-less
+    (λ c. search needs)
+    (λ c. search needs)
+    (λ c κs. search needs)
+    (λ c. search needs)
+    (λ c. search needs)
+    (λ c. search needs)
     loop-again
     returns)

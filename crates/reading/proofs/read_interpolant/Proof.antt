@@ -20,12 +20,6 @@ use Rattle.reading.proofs.read_interpolant.Tie as tie
 returns : tie.Need-returns
 returns c = reading-wrong-size _ _ (c .if1 .taken)
 
-cast-rate : tie.Need-cast-rate
-cast-rate c = search needs
-
-known-rate-requires : tie.Need-known-rate-requires
-known-rate-requires c κs = search needs
-
 -- past the second check the rate is known
 known : (c : tie.Else2) → knownRate (c .before .before .before .before .before .args .session .rate) ≡ true
 known c = sym (c .before .known-rate .ensures) ∙ not-false _ (c .if2 .left)
@@ -38,18 +32,6 @@ returns-2 c =
 returns-3 : tie.Need-returns-3
 returns-3 c = reading-by-hand _ _ _ (λ good. omega (arith, good .doubt-fits, c .if3 .taken))
 
-slice-aggregate-best-word : tie.Need-slice-aggregate-best-word
-slice-aggregate-best-word c = search needs
-
-best-word-requires : tie.Need-best-word-requires
-best-word-requires c κs = search needs
-
-slice-aggregate-open-places : tie.Need-slice-aggregate-open-places
-slice-aggregate-open-places c = search needs
-
-open-places-requires : tie.Need-open-places-requires
-open-places-requires c κs = search needs
-
 array-share-prefix-doubtful : tie.Need-array-share-prefix-doubtful
 array-share-prefix-doubtful c =
     let l : length (c .before .before .before .before .before .before .before .before .before .before .before .before .before .args .session .doubtful) ≡ mostDoubt = search needs in
@@ -60,23 +42,8 @@ slice-aggregate-flags c =
     let s : Session = c .before .before .before .before .before .before .before .before .before .before .before .before .before .before .args .session in
     sym (length-take-le (s .doubt) (s .doubtful) (array-share-prefix-doubtful (c .before)))
 
-flags-requires : tie.Need-flags-requires
-flags-requires c κs = search needs
-
-add-reading : tie.Need-add-reading
-add-reading c = search needs
-
 reading-requires : tie.Need-reading-requires
 reading-requires c κs = omega (arith, known-bounds _ (known (c .before .before .before .before .before .before .before .before .before .before)))
-
-slice-aggregate-copy : tie.Need-slice-aggregate-copy
-slice-aggregate-copy c = search needs
-
-copy-requires : tie.Need-copy-requires
-copy-requires c κs = search needs
-
-same-length : tie.Need-same-length
-same-length c = search needs
 
 returns-4 : tie.Need-returns-4
 returns-4 c =
@@ -92,20 +59,20 @@ read-interpolant-spec =
     tie.close
     (tie.spec
     returns
-    cast-rate
-    known-rate-requires
+    (λ c. search needs)
+    (λ c κs. search needs)
     returns-2
     returns-3
-    slice-aggregate-best-word
-    best-word-requires
-    slice-aggregate-open-places
-    open-places-requires
+    (λ c. search needs)
+    (λ c κs. search needs)
+    (λ c. search needs)
+    (λ c κs. search needs)
     array-share-prefix-doubtful
     slice-aggregate-flags
-    flags-requires
-    add-reading
+    (λ c κs. search needs)
+    (λ c. search needs)
     reading-requires
-    slice-aggregate-copy
-    copy-requires
-    same-length
+    (λ c. search needs)
+    (λ c κs. search needs)
+    (λ c. search needs)
     returns-4)

@@ -19,15 +19,6 @@ Inv-loop word shown out₀ t₀ out t = (shown ≡ coefficientsOf word) × Fille
 abbrev μ-loop : tie.MeasureT-loop
 μ-loop word shown out₀ t₀ out t = 58 - t
 
-word-of-requires : tie.Need-word-of-requires Inv-loop μ-loop
-word-of-requires c κs = search needs
-
-planes-requires : tie.Need-planes-requires Inv-loop μ-loop
-planes-requires c κs = search needs
-
-coefficients-requires : tie.Need-coefficients-requires Inv-loop μ-loop
-coefficients-requires c κs = search needs
-
 loop-holds : tie.Need-loop-holds Inv-loop μ-loop
 loop-holds c =
     let same = c .before .before .word-of .ensures in (
@@ -36,20 +27,8 @@ loop-holds c =
       filled-start _ _,
     )
 
-order-requires : tie.Need-order-requires Inv-loop μ-loop
-order-requires c κs = search needs
-
 array-read-out : tie.Need-array-read-out Inv-loop μ-loop
 array-read-out c = order-fits _ (c .order .ensures) .1
-
-array-write-out : tie.Need-array-write-out Inv-loop μ-loop
-array-write-out c = search needs
-
-add-t : tie.Need-add-t Inv-loop μ-loop
-add-t c = search needs
-
-loop-less : tie.Need-loop-less Inv-loop μ-loop
-loop-less c = search needs
 
 loop-again : tie.Need-loop-again Inv-loop μ-loop
 loop-again c =
@@ -66,14 +45,14 @@ extracted-spec =
     (tie.spec
     Inv-loop
     μ-loop
-    word-of-requires
-    planes-requires
-    coefficients-requires
+    (λ c κs. search needs)
+    (λ c κs. search needs)
+    (λ c κs. search needs)
     loop-holds
-    order-requires
+    (λ c κs. search needs)
     array-read-out
-    array-write-out
-    add-t
-    loop-less
+    (λ c. search needs)
+    (λ c. search needs)
+    (λ c. search needs)
     loop-again
     returns)

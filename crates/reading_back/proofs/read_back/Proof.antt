@@ -19,9 +19,6 @@ use Rattle.reading_back.proofs.read_back.Statement.{statement}
 use Rattle.reading_back.proofs.read_back.Tie as tie
 use Rattle.family.specs.Member.{m16}
 
-known-rate-requires : tie.Need-known-rate-requires
-known-rate-requires c κs = search needs
-
 -- past the first check the rate is known, so that a message of it fits
 known : (c : tie.Else1) → knownRate (c .before .before .before .before .args .rate) ≡ true
 known c = sym (c .before .known-rate .ensures) ∙ not-false _ (c .if1 .left)
@@ -55,9 +52,6 @@ returns-2 c = read-word m16 knownRate _ _ _ (known (c .before)) (c .if2 .taken)
 returns-3 : tie.Need-returns-3
 returns-3 c = read-buffer m16 knownRate _ _ _ (known (c .before .before)) (c .before .if2 .left) (c .if3 .taken)
 
-symbols-only-requires : tie.Need-symbols-only-requires
-symbols-only-requires c κs = search needs
-
 returns-4 : tie.Need-returns-4
 returns-4 c = read-symbol m16 knownRate _ _ _ (known (c .before .before .before .before)) (c .before .before .before .if2 .left) (c .before .before .if3 .left) (sym (c .before .symbols-only .ensures) ∙ not-true _ (c .if4 .taken))
 
@@ -69,9 +63,6 @@ array-share-prefix-found c = omega (arith, found-length c, few (c .before))
 
 slice-aggregate-codeword-of : tie.Need-slice-aggregate-codeword-of
 slice-aggregate-codeword-of c = sym (prefix-length (c .before))
-
-codeword-of-requires : tie.Need-codeword-of-requires
-codeword-of-requires c κs = search needs
 
 slice-aggregate-same : tie.Need-slice-aggregate-same
 slice-aggregate-same c = sym (ap length (again (c .before)) ∙ encode-length m16 _ _)
@@ -91,9 +82,6 @@ array-share-prefix-found-2 c = omega (arith, found-length (c .before .before .be
 slice-aggregate-copy : tie.Need-slice-aggregate-copy
 slice-aggregate-copy c = sym (prefix-length (c .before .before .before .before .before .before))
 
-copy-requires : tie.Need-copy-requires
-copy-requires c κs = search needs
-
 same-length : tie.Need-same-length
 same-length c = c .before .before .copy .kept .1 .0
 
@@ -109,21 +97,21 @@ pub read-back-spec : {M : Type 1} → statement M
 read-back-spec =
     tie.close
     (tie.spec
-    known-rate-requires
+    (λ c κs. search needs)
     returns
     returns-2
     returns-3
-    symbols-only-requires
+    (λ c κs. search needs)
     returns-4
     extracted-requires
     array-share-prefix-found
     slice-aggregate-codeword-of
-    codeword-of-requires
+    (λ c κs. search needs)
     slice-aggregate-same
     same-requires
     returns-5
     array-share-prefix-found-2
     slice-aggregate-copy
-    copy-requires
+    (λ c κs. search needs)
     same-length
     returns-6)

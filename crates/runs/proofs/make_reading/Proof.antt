@@ -4,14 +4,8 @@ use Rattle.runs.specs.Step.{reading-step}
 use Rattle.runs.proofs.make_reading.Statement.{statement}
 use Rattle.runs.proofs.make_reading.Tie as tie
 
-read-interpolant-requires : tie.Need-read-interpolant-requires
-read-interpolant-requires c κs = search needs
-
-same-length : tie.Need-same-length
-same-length c = search needs
-
 returns : tie.Need-returns
 returns c = reading-step (c .before .before .read-interpolant .ensures)
 
 pub make-reading-spec : {M : Type 1} → statement M
-make-reading-spec = tie.close (tie.spec read-interpolant-requires same-length returns)
+make-reading-spec = tie.close (tie.spec (λ c κs. search needs) (λ c. search needs) returns)

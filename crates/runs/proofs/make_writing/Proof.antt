@@ -4,14 +4,8 @@ use Rattle.runs.specs.Step.{writing-step}
 use Rattle.runs.proofs.make_writing.Statement.{statement}
 use Rattle.runs.proofs.make_writing.Tie as tie
 
-write-capture-requires : tie.Need-write-capture-requires
-write-capture-requires c κs = search needs
-
-same-length : tie.Need-same-length
-same-length c = search needs
-
 returns : tie.Need-returns
 returns c = writing-step (c .before .before .write-capture .ensures)
 
 pub make-writing-spec : {M : Type 1} → statement M
-make-writing-spec = tie.close (tie.spec write-capture-requires same-length returns)
+make-writing-spec = tie.close (tie.spec (λ c κs. search needs) (λ c. search needs) returns)

@@ -4,11 +4,8 @@ use Rattle.session.specs.Laws.{opens}
 use Rattle.runs.proofs.open.Statement.{statement}
 use Rattle.runs.proofs.open.Tie as tie
 
-open-requires : tie.Need-open-requires
-open-requires c κs = search needs
-
 returns : tie.Need-returns
 returns c = rw (c .«open» .ensures) (opens _ _)
 
 pub open-spec : {M : Type 1} → statement M
-open-spec = tie.close (tie.spec open-requires returns)
+open-spec = tie.close (tie.spec (λ c κs. search needs) returns)

@@ -7,26 +7,11 @@ use Rattle.session.specs.Laws.{withColumn, delivery-above, delivery-take
 use Rattle.session.proofs.deliver.Statement.{statement}
 use Rattle.session.proofs.deliver.Tie as tie
 
-declined-requires : tie.Need-declined-requires
-declined-requires c κs = search needs
-
 returns : tie.Need-returns
 returns c = rw (c .declined .ensures) (delivery-above _ _ _ (c .before .if1 .taken))
 
-array-read-if2 : tie.Need-array-read-if2
-array-read-if2 c = search needs
-
-declined-requires-2 : tie.Need-declined-requires-2
-declined-requires-2 c κs = search needs
-
 returns-2 : tie.Need-returns-2
 returns-2 c = rw (c .declined2 .ensures) (delivery-taken _ _ _ (omega arith) (c .before .if2 .taken))
-
-with-column-requires : tie.Need-with-column-requires
-with-column-requires c κs = search needs
-
-array-write-flags : tie.Need-array-write-flags
-array-write-flags c = search needs
 
 returns-3 : tie.Need-returns-3
 unfolding withColumn
@@ -39,11 +24,11 @@ pub deliver-spec : {M : Type 1} → statement M
 deliver-spec =
     tie.close
     (tie.spec
-    declined-requires
+    (λ c κs. search needs)
     returns
-    array-read-if2
-    declined-requires-2
+    (λ c. search needs)
+    (λ c κs. search needs)
     returns-2
-    with-column-requires
-    array-write-flags
+    (λ c κs. search needs)
+    (λ c. search needs)
     returns-3)

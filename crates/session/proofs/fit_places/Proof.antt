@@ -19,9 +19,6 @@ abbrev μ-loop : tie.MeasureT-loop
 loop-holds : tie.Need-loop-holds Inv-loop μ-loop
 loop-holds c = (omega arith, fits-start modem64 _)
 
-shared-slice-read-place : tie.Need-shared-slice-read-place Inv-loop μ-loop
-shared-slice-read-place c = search needs
-
 cast-place : tie.Need-cast-place Inv-loop μ-loop
 cast-place c = omega (arith, c .shared-slice-known .given (c .before .before .loop .i))
 
@@ -31,15 +28,6 @@ returns c = fits-above modem64 _ _ _ (c .before .before .loop-test .taken) (c .b
 returns-2 : tie.Need-returns-2 Inv-loop μ-loop
 returns-2 c =
     fits-fallen modem64 _ _ _ (c .before .before .before .loop-test .taken) (c .before .before .before .before .loop .inv .1) (c .if2 .taken)
-
-add-least : tie.Need-add-least Inv-loop μ-loop
-add-least c = search needs
-
-add-i : tie.Need-add-i Inv-loop μ-loop
-add-i c = search needs
-
-loop-less : tie.Need-loop-less Inv-loop μ-loop
-loop-less c = search needs
 
 loop-again : tie.Need-loop-again Inv-loop μ-loop
 loop-again c = (
@@ -58,12 +46,12 @@ fit-places-spec =
     Inv-loop
     μ-loop
     loop-holds
-    shared-slice-read-place
+    (λ c. search needs)
     cast-place
     returns
     returns-2
-    add-least
-    add-i
-    loop-less
+    (λ c. search needs)
+    (λ c. search needs)
+    (λ c. search needs)
     loop-again
     returns-3)

@@ -6,9 +6,6 @@ use Rattle.session.specs.View.{newSession}
 use Rattle.session.proofs.new_session.Statement.{statement}
 use Rattle.session.proofs.new_session.Tie as tie
 
-padded-list-requires : tie.Need-padded-list-requires
-padded-list-requires c κs = search needs
-
 returns : tie.Need-returns
 unfolding newSession
 returns c =
@@ -21,4 +18,4 @@ returns c =
     }
 
 pub new-session-spec : {M : Type 1} → statement M
-new-session-spec = tie.close (tie.spec padded-list-requires returns)
+new-session-spec = tie.close (tie.spec (λ c κs. search needs) returns)

@@ -11,19 +11,10 @@ use Rattle.session.specs.Laws.{opened-rate, opened-list, opened-new}
 use Rattle.session.proofs.open.Statement.{statement}
 use Rattle.session.proofs.open.Tie as tie
 
-known-rate-requires : tie.Need-known-rate-requires
-known-rate-requires c κs = search needs
-
-refused-requires : tie.Need-refused-requires
-refused-requires c κs = search needs
-
 returns : tie.Need-returns
 returns c =
     c .refused .ensures
     ∙ sym (opened-rate _ _ (sym (c .before .before .known-rate .ensures) ∙ not-true _ (c .before .if1 .taken)))
-
-refused-requires-2 : tie.Need-refused-requires-2
-refused-requires-2 c κs = search needs
 
 returns-2 : tie.Need-returns-2
 returns-2 c =
@@ -32,12 +23,6 @@ returns-2 c =
     (opened-list _ _
     (sym (c .before .before .before .known-rate .ensures) ∙ not-false _ (c .before .before .if1 .left))
     (long-unfit modem64 _ (c .before .if2 .taken)))
-
-fit-places-requires : tie.Need-fit-places-requires
-fit-places-requires c κs = search needs
-
-refused-requires-3 : tie.Need-refused-requires-3
-refused-requires-3 c κs = search needs
 
 returns-3 : tie.Need-returns-3
 returns-3 c =
@@ -55,9 +40,6 @@ cast-new-session c =
           (sym (c .before .before .before .before .known-rate .ensures) ∙ not-false _ (c .before .before .before .if1 .left)),
     )
 
-new-session-requires : tie.Need-new-session-requires
-new-session-requires c κs = search needs
-
 returns-4 : tie.Need-returns-4
 returns-4 c =
     ap (λ (s : Session). record { refusal = 0; session = s }) (c .new-session .ensures)
@@ -70,14 +52,14 @@ pub open-spec : {M : Type 1} → statement M
 open-spec =
     tie.close
     (tie.spec
-    known-rate-requires
-    refused-requires
+    (λ c κs. search needs)
+    (λ c κs. search needs)
     returns
-    refused-requires-2
+    (λ c κs. search needs)
     returns-2
-    fit-places-requires
-    refused-requires-3
+    (λ c κs. search needs)
+    (λ c κs. search needs)
     returns-3
     cast-new-session
-    new-session-requires
+    (λ c κs. search needs)
     returns-4)

@@ -6,14 +6,8 @@ use Rattle.soft.specs.Doubt.{mostDoubt}
 use Rattle.session.proofs.padded_list.Statement.{statement}
 use Rattle.session.proofs.padded_list.Tie as tie
 
-slice-aggregate-copy : tie.Need-slice-aggregate-copy
-slice-aggregate-copy c = search needs
-
-copy-requires : tie.Need-copy-requires
-copy-requires c κs = search needs
-
 returns : tie.Need-returns
 returns c = c .before .copy .ensures ∙ padded-over mostDoubt _
 
 pub padded-list-spec : {M : Type 1} → statement M
-padded-list-spec = tie.close (tie.spec slice-aggregate-copy copy-requires returns)
+padded-list-spec = tie.close (tie.spec (λ c. search needs) (λ c κs. search needs) returns)

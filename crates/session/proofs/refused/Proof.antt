@@ -4,15 +4,9 @@ use Rattle.session.specs.Calls.{refusedWith}
 use Rattle.session.proofs.refused.Statement.{statement}
 use Rattle.session.proofs.refused.Tie as tie
 
-slice-aggregate-new-session : tie.Need-slice-aggregate-new-session
-slice-aggregate-new-session c = search needs
-
-new-session-requires : tie.Need-new-session-requires
-new-session-requires c κs = search needs
-
 returns : tie.Need-returns
 unfolding refusedWith
 returns c = λ i. record { refusal = c .before .before .args .number; session = c .new-session .ensures i }
 
 pub refused-spec : {M : Type 1} → statement M
-refused-spec = tie.close (tie.spec slice-aggregate-new-session new-session-requires returns)
+refused-spec = tie.close (tie.spec (λ c. search needs) (λ c κs. search needs) returns)

@@ -8,26 +8,11 @@ use Rattle.session.specs.Laws.{withoutColumn, withdrawal-above, withdraw
 use Rattle.session.proofs.withdraw.Statement.{statement}
 use Rattle.session.proofs.withdraw.Tie as tie
 
-denied-requires : tie.Need-denied-requires
-denied-requires c κs = search needs
-
 returns : tie.Need-returns
 returns c = rw (c .denied .ensures) (withdrawal-above _ _ (c .before .if1 .taken))
 
-array-read-if2 : tie.Need-array-read-if2
-array-read-if2 c = search needs
-
-denied-requires-2 : tie.Need-denied-requires-2
-denied-requires-2 c κs = search needs
-
 returns-2 : tie.Need-returns-2
 returns-2 c = rw (c .denied2 .ensures) (withdrawal-free _ _ (omega arith) (not-true _ (c .before .if2 .taken)))
-
-with-column-requires : tie.Need-with-column-requires
-with-column-requires c κs = search needs
-
-array-write-flags : tie.Need-array-write-flags
-array-write-flags c = search needs
 
 returns-3 : tie.Need-returns-3
 unfolding withoutColumn
@@ -46,11 +31,11 @@ pub withdraw-spec : {M : Type 1} → statement M
 withdraw-spec =
     tie.close
     (tie.spec
-    denied-requires
+    (λ c κs. search needs)
     returns
-    array-read-if2
-    denied-requires-2
+    (λ c. search needs)
+    (λ c κs. search needs)
     returns-2
-    with-column-requires
-    array-write-flags
+    (λ c κs. search needs)
+    (λ c. search needs)
     returns-3)

@@ -9,15 +9,6 @@ use borrow.Author.Needs.{needs}
 use Rattle.show.proofs.show_capture.Statement.{statement}
 use Rattle.show.proofs.show_capture.Tie as tie
 
-open-capture-requires : tie.Need-open-capture-requires
-open-capture-requires c κs = search needs
-
-put-refused-requires : tie.Need-put-refused-requires
-put-refused-requires c κs = search needs
-
-same-length : tie.Need-same-length
-same-length c = search needs
-
 returns : tie.Need-returns
 unfolding shownOf
 returns c =
@@ -26,12 +17,6 @@ returns c =
     appended-as
     (ap refusedLine (opened .ensures .number) ∙ sym (opened-refused o (λ e. c .before .before .before .before .if1 .taken (opened .ensures .number ∙ e))))
     (c .before .before .put-refused .ensures)
-
-show-session-requires : tie.Need-show-session-requires
-show-session-requires c κs = search needs
-
-same-length-2 : tie.Need-same-length-2
-same-length-2 c = search needs
 
 returns-2 : tie.Need-returns-2
 unfolding shownOf
@@ -46,10 +31,10 @@ pub show-capture-spec : {M : Type 1} → statement M
 show-capture-spec =
     tie.close
     (tie.spec
-    open-capture-requires
-    put-refused-requires
-    same-length
+    (λ c κs. search needs)
+    (λ c κs. search needs)
+    (λ c. search needs)
     returns
-    show-session-requires
-    same-length-2
+    (λ c κs. search needs)
+    (λ c. search needs)
     returns-2)

@@ -10,21 +10,6 @@ use borrow.Author.Needs.{needs}
 use Rattle.show.proofs.show_closed.Statement.{statement}
 use Rattle.show.proofs.show_closed.Tie as tie
 
-slice-aggregate-close : tie.Need-slice-aggregate-close
-slice-aggregate-close c = search needs
-
-close-requires : tie.Need-close-requires
-close-requires c κs = search needs
-
-put-refused-requires : tie.Need-put-refused-requires
-put-refused-requires c κs = search needs
-
-same-length : tie.Need-same-length
-same-length c = search needs
-
-same-length-2 : tie.Need-same-length-2
-same-length-2 c = search needs
-
 returns : tie.Need-returns
 returns c =
     let start = c .before .before .before .before .before .before .before .before .before .before .before .before .before in
@@ -42,12 +27,6 @@ put-answer-requires c κs =
       omega (arith, close .ensures .message-size, ap length (start .pre .1), length-replicate {A = ℕ} (start .args .opened .rate) 0, start .pre .2),
     )
 
-same-length-3 : tie.Need-same-length-3
-same-length-3 c = search needs
-
-same-length-4 : tie.Need-same-length-4
-same-length-4 c = search needs
-
 returns-2 : tie.Need-returns-2
 returns-2 c =
     let start = c .before .before .before .before .before .before .before .before .before .before .before .before .before .before in
@@ -61,13 +40,13 @@ pub show-closed-spec : {M : Type 1} → statement M
 show-closed-spec =
     tie.close
     (tie.spec
-    slice-aggregate-close
-    close-requires
-    put-refused-requires
-    same-length
-    same-length-2
+    (λ c. search needs)
+    (λ c κs. search needs)
+    (λ c κs. search needs)
+    (λ c. search needs)
+    (λ c. search needs)
     returns
     put-answer-requires
-    same-length-3
-    same-length-4
+    (λ c. search needs)
+    (λ c. search needs)
     returns-2)

@@ -7,9 +7,6 @@ use borrow.Author.Needs.{needs}
 use Rattle.show.proofs.show_session.Statement.{statement}
 use Rattle.show.proofs.show_session.Tie as tie
 
-cast-symbols : tie.Need-cast-symbols
-cast-symbols c = search needs
-
 array-borrow-prefix-space : tie.Need-array-borrow-prefix-space
 array-borrow-prefix-space c = known-short (c .before .before .args .opened .rate) (c .before .before .pre .0 .rate-known)
 
@@ -24,19 +21,13 @@ show-closed-requires c κs =
     let short = known-short (start .args .opened .rate) (start .pre .0 .rate-known) in
     (start .pre .0, zeros-take (start .args .opened .rate) 64 short, short, start .pre .1)
 
-same-length : tie.Need-same-length
-same-length c = search needs
-
-returns : tie.Need-returns
-returns c = search needs
-
 pub show-session-spec : {M : Type 1} → statement M
 show-session-spec =
     tie.close
     (tie.spec
-    cast-symbols
+    (λ c. search needs)
     array-borrow-prefix-space
     slice-aggregate-show-closed
     show-closed-requires
-    same-length
-    returns)
+    (λ c. search needs)
+    (λ c. search needs))

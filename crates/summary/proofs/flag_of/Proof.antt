@@ -14,17 +14,8 @@ returns c =
     let a = c .before .before .args in
     gap-open (columnOf 16 (a .costs .now)) (a .place) (omega (arith, column-length 16 (a .costs .now) (a .place))) _ (c .before .before .pre) (c .if1 .taken)
 
-is-open-requires : tie.Need-is-open-requires
-is-open-requires c κs = search needs
-
-bit-requires : tie.Need-bit-requires
-bit-requires c κs = search needs
-
-cast-result : tie.Need-cast-result
-cast-result c = search needs
-
 returns-2 : tie.Need-returns-2
 returns-2 c = c .bit .ensures .0 ∙ ap bit (c .before .is-open .ensures)
 
 pub flag-of-spec : {M : Type 1} → statement M
-flag-of-spec = tie.close (tie.spec returns is-open-requires bit-requires cast-result returns-2)
+flag-of-spec = tie.close (tie.spec returns (λ c κs. search needs) (λ c κs. search needs) (λ c. search needs) returns-2)

@@ -11,28 +11,10 @@ use Rattle.summary.proofs.place_of.Tie as tie
 column-room : (c : tie.After-column-of) → length (c .column-of .result) ≡ symbols
 column-room c = search needs
 
-column-of-requires : tie.Need-column-of-requires
-column-of-requires c κs = search needs
-
-two-least-requires : tie.Need-two-least-requires
-two-least-requires c κs = search needs
-
-cost-in-requires : tie.Need-cost-in-requires
-cost-in-requires c κs = search needs
-
-cost-in-requires-2 : tie.Need-cost-in-requires-2
-cost-in-requires-2 c κs = search needs
-
-sub-gap : tie.Need-sub-gap
-sub-gap c = search needs
-
 flag-of-requires : tie.Need-flag-of-requires
 flag-of-requires c κs =
     gap-part (columnOf 16 _) _ (column-room (c .before .before .before)) (c .before .before .before .column-of .ensures) (c .before .before .two-least .ensures)
     (c .before .cost-in .ensures) (c .cost-in2 .ensures)
-
-symbol-in-requires : tie.Need-symbol-in-requires
-symbol-in-requires c κs = search needs
 
 returns : tie.Need-returns
 returns c =
@@ -50,11 +32,11 @@ pub place-of-spec : {M : Type 1} → statement M
 place-of-spec =
     tie.close
     (tie.spec
-    column-of-requires
-    two-least-requires
-    cost-in-requires
-    cost-in-requires-2
-    sub-gap
+    (λ c κs. search needs)
+    (λ c κs. search needs)
+    (λ c κs. search needs)
+    (λ c κs. search needs)
+    (λ c. search needs)
     flag-of-requires
-    symbol-in-requires
+    (λ c κs. search needs)
     returns)

@@ -28,33 +28,6 @@ abbrev μ-loop : tie.MeasureT-loop
 loop-holds : tie.Need-loop-holds Inv-loop μ-loop
 loop-holds c = (omega arith, listed-start _ _, listed-start _ _, listed-start _ _, listed-start _ _)
 
-place-of-requires : tie.Need-place-of-requires Inv-loop μ-loop
-place-of-requires c κs = search needs
-
-array-write-best : tie.Need-array-write-best Inv-loop μ-loop
-array-write-best c = search needs
-
-mul-least : tie.Need-mul-least Inv-loop μ-loop
-mul-least c = search needs
-
-array-write-least : tie.Need-array-write-least Inv-loop μ-loop
-array-write-least c = search needs
-
-mul-gaps : tie.Need-mul-gaps Inv-loop μ-loop
-mul-gaps c = search needs
-
-array-write-gaps : tie.Need-array-write-gaps Inv-loop μ-loop
-array-write-gaps c = search needs
-
-array-write-counts : tie.Need-array-write-counts Inv-loop μ-loop
-array-write-counts c = search needs
-
-add-place : tie.Need-add-place Inv-loop μ-loop
-add-place c = search needs
-
-loop-less : tie.Need-loop-less Inv-loop μ-loop
-loop-less c = search needs
-
 loop-again : tie.Need-loop-again Inv-loop μ-loop
 loop-again c =
     let i = c .before .before .loop .inv in
@@ -86,14 +59,14 @@ summary-of-spec =
     Inv-loop
     μ-loop
     loop-holds
-    place-of-requires
-    array-write-best
-    mul-least
-    array-write-least
-    mul-gaps
-    array-write-gaps
-    array-write-counts
-    add-place
-    loop-less
+    (λ c κs. search needs)
+    (λ c. search needs)
+    (λ c. search needs)
+    (λ c. search needs)
+    (λ c. search needs)
+    (λ c. search needs)
+    (λ c. search needs)
+    (λ c. search needs)
+    (λ c. search needs)
     loop-again
     returns)

@@ -18,24 +18,6 @@ abbrev μ-loop : tie.MeasureT-loop
 loop-holds : tie.Need-loop-holds Inv-loop μ-loop
 loop-holds c = filled-start _ _
 
-array-read-hard-cost : tie.Need-array-read-hard-cost Inv-loop μ-loop
-array-read-hard-cost c = search needs
-
-hard-cost-requires : tie.Need-hard-cost-requires Inv-loop μ-loop
-hard-cost-requires c κs = search needs
-
-mul-out : tie.Need-mul-out Inv-loop μ-loop
-mul-out c = search needs
-
-array-write-out : tie.Need-array-write-out Inv-loop μ-loop
-array-write-out c = search needs
-
-add-i : tie.Need-add-i Inv-loop μ-loop
-add-i c = search needs
-
-loop-less : tie.Need-loop-less Inv-loop μ-loop
-loop-less c = search needs
-
 loop-again : tie.Need-loop-again Inv-loop μ-loop
 loop-again c = filled-turn 0 (c .before .before .loop .inv) _ (search needs) (c .hard-cost .ensures)
 
@@ -49,11 +31,11 @@ hard-costs-spec =
     Inv-loop
     μ-loop
     loop-holds
-    array-read-hard-cost
-    hard-cost-requires
-    mul-out
-    array-write-out
-    add-i
-    loop-less
+    (λ c. search needs)
+    (λ c κs. search needs)
+    (λ c. search needs)
+    (λ c. search needs)
+    (λ c. search needs)
+    (λ c. search needs)
     loop-again
     returns)

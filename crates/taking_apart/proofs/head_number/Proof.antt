@@ -9,20 +9,11 @@ use Rattle.taking_apart.proofs.head_number.Tie as tie
 returns : tie.Need-returns
 returns c = sym (head-total _ (c .if1 .taken))
 
-shared-slice-read-if2 : tie.Need-shared-slice-read-if2
-shared-slice-read-if2 c = search needs
-
 returns-2 : tie.Need-returns-2
 returns-2 c = sym (head-version _ (c .before .before .if1 .left) (c .if2 .taken))
 
-shared-slice-read-if3 : tie.Need-shared-slice-read-if3
-shared-slice-read-if3 c = search needs
-
 returns-3 : tie.Need-returns-3
 returns-3 c = sym (head-length _ (c .before .before .before .before .if1 .left) (c .before .before .if2 .left) (inl (c .if3 .taken)))
-
-shared-slice-read-if4 : tie.Need-shared-slice-read-if4
-shared-slice-read-if4 c = search needs
 
 returns-4 : tie.Need-returns-4
 returns-4 c = sym (head-length _ (c .before .before .before .before .before .before .if1 .left) (c .before .before .before .before .if2 .left) (inr (c .if4 .taken)))
@@ -43,10 +34,10 @@ head-number-spec =
     tie.close
     (tie.spec
     returns
-    shared-slice-read-if2
+    (λ c. search needs)
     returns-2
-    shared-slice-read-if3
+    (λ c. search needs)
     returns-3
-    shared-slice-read-if4
+    (λ c. search needs)
     returns-4
     returns-5)

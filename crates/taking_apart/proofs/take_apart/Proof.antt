@@ -11,12 +11,6 @@ use borrow.Author.Needs.{needs}
 use Rattle.taking_apart.proofs.take_apart.Statement.{statement}
 use Rattle.taking_apart.proofs.take_apart.Tie as tie
 
-head-number-requires : tie.Need-head-number-requires
-head-number-requires c κs = search needs
-
-refused-requires : tie.Need-refused-requires
-refused-requires c κs = search needs
-
 returns : tie.Need-returns
 returns c = refused-is _ (c .refused .ensures) (sym (apart-head _ _ (sym (c .before .before .head-number .ensures)) (c .before .if1 .taken)))
 
@@ -26,20 +20,11 @@ shared-slice-read-rate c = omega (arith, headed _ (sym (c .before .before .head-
 cast-rate : tie.Need-cast-rate
 cast-rate c = omega (arith, c .shared-slice-known2 .given 3)
 
-known-rate-requires : tie.Need-known-rate-requires
-known-rate-requires c κs = search needs
-
-refused-requires-2 : tie.Need-refused-requires-2
-refused-requires-2 c κs = search needs
-
 returns-2 : tie.Need-returns-2
 returns-2 c = refused-is _ (c .refused2 .ensures) (sym (apart-rate _ _ (headed _ (sym (c .before .before .before .before .before .head-number .ensures) ∙ c .before .before .before .before .if1 .left)) (sym (c .before .before .known-rate .ensures) ∙ not-true _ (c .before .if2 .taken))))
 
 mul-if3 : tie.Need-mul-if3
 mul-if3 c = omega (arith, known-bounds _ (sym (c .before .known-rate .ensures) ∙ not-false _ (c .if2 .left)))
-
-refused-requires-3 : tie.Need-refused-requires-3
-refused-requires-3 c κs = search needs
 
 returns-3 : tie.Need-returns-3
 returns-3 c = refused-is _ (c .refused3 .ensures) (sym (apart-size _ _ (headed _ (sym (c .before .before .before .before .before .before .head-number .ensures) ∙ c .before .before .before .before .before .if1 .left)) (sym (c .before .before .before .known-rate .ensures) ∙ not-false _ (c .before .before .if2 .left)) (c .before .if3 .taken)))
@@ -50,23 +35,11 @@ sub-symbols-only c = omega (arith, headed _ (sym (c .before .before .before .bef
 part-symbols-only-start : tie.Need-part-symbols-only-start
 part-symbols-only-start c = omega (arith, headed _ (sym (c .before .before .before .before .before .head-number .ensures) ∙ c .before .before .before .before .if1 .left) .long)
 
-part-symbols-only-end : tie.Need-part-symbols-only-end
-part-symbols-only-end c = search needs
-
-symbols-only-requires : tie.Need-symbols-only-requires
-symbols-only-requires c κs = search needs
-
-refused-requires-4 : tie.Need-refused-requires-4
-refused-requires-4 c κs = search needs
-
 returns-4 : tie.Need-returns-4
 returns-4 c = refused-is _ (c .refused4 .ensures) (sym (apart-symbol _ _ (headed _ (sym (c .before .before .before .before .before .before .before .before .before .head-number .ensures) ∙ c .before .before .before .before .before .before .before .before .if1 .left)) (sym (c .before .before .before .before .before .before .known-rate .ensures) ∙ not-false _ (c .before .before .before .before .before .if2 .left)) (c .before .before .before .before .if3 .left) (ap (allBelow symbols) (behind (c .before .before .before .before .before .before .before .before .before .before .before .before .args .frame .now)) ∙ sym (c .before .before .symbols-only .ensures) ∙ not-true _ (c .before .if4 .taken))))
 
 take-words-requires : tie.Need-take-words-requires
 take-words-requires c κs = ((sym (c .before .before .before .before .before .before .known-rate .ensures) ∙ not-false _ (c .before .before .before .before .before .if2 .left)), headed _ (sym (c .before .before .before .before .before .before .before .before .before .head-number .ensures) ∙ c .before .before .before .before .before .before .before .before .if1 .left) .long, c .before .before .before .before .if3 .left)
-
-same-length : tie.Need-same-length
-same-length c = search needs
 
 returns-5 : tie.Need-returns-5
 returns-5 c = apart-done _ _ (headed _ (sym (c .before .before .before .before .before .before .before .before .before .before .before .before .head-number .ensures) ∙ c .before .before .before .before .before .before .before .before .before .before .before .if1 .left)) (sym (c .before .before .before .before .before .before .before .before .before .known-rate .ensures) ∙ not-false _ (c .before .before .before .before .before .before .before .before .if2 .left)) (c .before .before .before .before .before .before .before .if3 .left) (ap (allBelow symbols) (behind (c .before .before .before .before .before .before .before .before .before .before .before .before .before .before .before .args .frame .now)) ∙ sym (c .before .before .before .before .before .symbols-only .ensures) ∙ not-false _ (c .before .before .before .before .if4 .left)) (c .before .before .take-words .ensures)
@@ -75,23 +48,23 @@ pub take-apart-spec : {M : Type 1} → statement M
 take-apart-spec =
     tie.close
     (tie.spec
-    head-number-requires
-    refused-requires
+    (λ c κs. search needs)
+    (λ c κs. search needs)
     returns
     shared-slice-read-rate
     cast-rate
-    known-rate-requires
-    refused-requires-2
+    (λ c κs. search needs)
+    (λ c κs. search needs)
     returns-2
     mul-if3
-    refused-requires-3
+    (λ c κs. search needs)
     returns-3
     sub-symbols-only
     part-symbols-only-start
-    part-symbols-only-end
-    symbols-only-requires
-    refused-requires-4
+    (λ c. search needs)
+    (λ c κs. search needs)
+    (λ c κs. search needs)
     returns-4
     take-words-requires
-    same-length
+    (λ c. search needs)
     returns-5)

@@ -10,9 +10,6 @@ returns c =
     word-read (c .before .before .before .before .before .before .word-in .ensures) (c .before .before .before .read-back .ensures)
     (c .before .before .before .before .before .before .before .before .before .pre .0) (omega arith)
 
-take-near-requires : tie.Need-take-near-requires
-take-near-requires c κs = search needs
-
 returns-2 : tie.Need-returns-2
 returns-2 c =
     word-unread (c .before .before .before .before .before .before .before .before .before .before .word-in .ensures)
@@ -27,6 +24,6 @@ take-word-spec =
     (λ c κs. search needs)
     (λ c. search needs)
     returns
-    take-near-requires
+    (λ c κs. search needs)
     (λ c. search needs)
     returns-2)

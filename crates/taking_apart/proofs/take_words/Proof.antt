@@ -25,32 +25,17 @@ mul-at c = omega (arith, row-end (c .before .before .before .before .args .rate)
 add-end : tie.Need-add-end Inv-loop μ-loop
 add-end c = omega (arith, row-end (c .before .before .before .before .args .rate) (c .before .loop .v) words (c .loop-test .taken), known-bounds _ (c .before .before .before .before .pre .0))
 
-sub-take-word : tie.Need-sub-take-word Inv-loop μ-loop
-sub-take-word c = search needs
-
-part-take-word-start : tie.Need-part-take-word-start Inv-loop μ-loop
-part-take-word-start c = search needs
-
 part-take-word-end : tie.Need-part-take-word-end Inv-loop μ-loop
 part-take-word-end c = omega (arith, row-end (c .before .before .before .before .args .rate) (c .before .loop .v) words (c .loop-test .taken), c .before .before .before .before .pre .2, out-long (c .before .before .before .before .pre .2) (c .before .loop .inv))
 
 take-word-requires : tie.Need-take-word-requires Inv-loop μ-loop
 take-word-requires c κs = (c .before .before .before .before .before .pre .0, c .before .before .before .before .before .pre .1, c .before .loop-test .taken, lent-long (c .before .before .before .before .before .pre .2) (c .before .before .loop .inv) (c .before .loop-test .taken))
 
-named-requires : tie.Need-named-requires Inv-loop μ-loop
-named-requires c κs = search needs
-
 add-status : tie.Need-add-status Inv-loop μ-loop
 add-status c = omega (arith, small (c .before .before .before .before .before .before .before .before .before .pre .2) (c .before .before .before .before .before .before .loop .inv), named-most (c .before .before .before .take-word .result) (c .named .ensures))
 
 mul-weight : tie.Need-mul-weight Inv-loop μ-loop
 mul-weight c = omega (arith, small (c .before .before .before .before .before .before .before .before .before .pre .2) (c .before .before .before .before .before .before .loop .inv))
-
-add-v : tie.Need-add-v Inv-loop μ-loop
-add-v c = search needs
-
-loop-less : tie.Need-loop-less Inv-loop μ-loop
-loop-less c = search needs
 
 loop-again : tie.Need-loop-again Inv-loop μ-loop
 loop-again c = word-turn (c .before .before .before .before .before .before .before .before .before .pre .2) (c .before .before .before .before .before .before .loop .inv) (c .before .before .before .before .before .loop-test .taken) (c .before .before .before .take-word .ensures) (c .named .ensures)
@@ -73,15 +58,15 @@ take-words-spec =
     loop-holds
     mul-at
     add-end
-    sub-take-word
-    part-take-word-start
+    (λ c. search needs)
+    (λ c. search needs)
     part-take-word-end
     take-word-requires
-    named-requires
+    (λ c κs. search needs)
     add-status
     mul-weight
-    add-v
-    loop-less
+    (λ c. search needs)
+    (λ c. search needs)
     loop-again
     cast-result
     same-length

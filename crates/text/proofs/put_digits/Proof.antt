@@ -21,34 +21,16 @@ loop-holds c =
     putting-start (c .before .before .args .out .now) (c .before .before .args .at) (map hexOf (c .before .before .args .symbols .now))
     (omega (arith, length-map (c .before .before .args .symbols .now) hexOf))
 
-shared-slice-read-hex-digit : tie.Need-shared-slice-read-hex-digit Inv-loop μ-loop
-shared-slice-read-hex-digit c = search needs
-
-hex-digit-requires : tie.Need-hex-digit-requires Inv-loop μ-loop
-hex-digit-requires c κs = search needs
-
-add-out : tie.Need-add-out Inv-loop μ-loop
-add-out c = search needs
-
 slice-write-out : tie.Need-slice-write-out Inv-loop μ-loop
 slice-write-out c =
     putting-room (c .before .before .before .loop .inv)
     (omega (arith, length-map (c .before .before .before .before .before .before .args .symbols .now) hexOf))
-
-add-i : tie.Need-add-i Inv-loop μ-loop
-add-i c = search needs
-
-loop-less : tie.Need-loop-less Inv-loop μ-loop
-loop-less c = search needs
 
 loop-again : tie.Need-loop-again Inv-loop μ-loop
 loop-again c =
     let symbols : List ℕ = c .before .before .before .before .before .before .args .symbols .now in
     putting-turn (c .before .before .before .loop .inv) (omega (arith, length-map symbols hexOf))
     (c .hex-digit .ensures ∙ sym (mapped-at hexOf symbols (c .before .before .before .loop .i) (c .before .before .loop-test .taken)))
-
-add-result : tie.Need-add-result Inv-loop μ-loop
-add-result c = search needs
 
 same-length : tie.Need-same-length Inv-loop μ-loop
 same-length c = putting-length (c .before .loop .inv)
@@ -63,13 +45,13 @@ put-digits-spec =
     Inv-loop
     μ-loop
     loop-holds
-    shared-slice-read-hex-digit
-    hex-digit-requires
-    add-out
+    (λ c. search needs)
+    (λ c κs. search needs)
+    (λ c. search needs)
     slice-write-out
-    add-i
-    loop-less
+    (λ c. search needs)
+    (λ c. search needs)
     loop-again
-    add-result
+    (λ c. search needs)
     same-length
     returns)

@@ -14,42 +14,6 @@ number-as : {before after : List ℕ} {at r n m : ℕ} (end : ℕ) → n ≡ m �
     → Appended before at (numberLine m end) r after
 number-as end e p = appended-as (ap (λ x. numberLine x end) e) p
 
-total-in-requires : tie.Need-total-in-requires
-total-in-requires c κs = search needs
-
-put-cost-requires : tie.Need-put-cost-requires
-put-cost-requires c κs = search needs
-
-tests-in-requires : tie.Need-tests-in-requires
-tests-in-requires c κs = search needs
-
-put-number-requires : tie.Need-put-number-requires
-put-number-requires c κs = search needs
-
-array-read-byte : tie.Need-array-read-byte
-array-read-byte c = search needs
-
-byte-requires : tie.Need-byte-requires
-byte-requires c κs = search needs
-
-put-number-requires-2 : tie.Need-put-number-requires-2
-put-number-requires-2 c κs = search needs
-
-array-read-byte-2 : tie.Need-array-read-byte-2
-array-read-byte-2 c = search needs
-
-byte-requires-2 : tie.Need-byte-requires-2
-byte-requires-2 c κs = search needs
-
-put-number-requires-3 : tie.Need-put-number-requires-3
-put-number-requires-3 c κs = search needs
-
-put-margin-requires : tie.Need-put-margin-requires
-put-margin-requires c κs = search needs
-
-same-length : tie.Need-same-length
-same-length c = search needs
-
 returns : tie.Need-returns
 unfolding headingOf
 returns c =
@@ -83,16 +47,16 @@ pub put-heading-spec : {M : Type 1} → statement M
 put-heading-spec =
     tie.close
     (tie.spec
-    total-in-requires
-    put-cost-requires
-    tests-in-requires
-    put-number-requires
-    array-read-byte
-    byte-requires
-    put-number-requires-2
-    array-read-byte-2
-    byte-requires-2
-    put-number-requires-3
-    put-margin-requires
-    same-length
+    (λ c κs. search needs)
+    (λ c κs. search needs)
+    (λ c κs. search needs)
+    (λ c κs. search needs)
+    (λ c. search needs)
+    (λ c κs. search needs)
+    (λ c κs. search needs)
+    (λ c. search needs)
+    (λ c κs. search needs)
+    (λ c κs. search needs)
+    (λ c κs. search needs)
+    (λ c. search needs)
     returns)

@@ -22,31 +22,10 @@ present report h e =
     ap (λ x. numberLine x newline) e
     ∙ sym (ap (λ b. cond b (numberLine (marginIn report) newline) (dash ∷ newline ∷ [])) (eq-eqb (runnerIn report) 1 h))
 
-array-read-if1 : tie.Need-array-read-if1
-array-read-if1 c = search needs
-
-slice-aggregate-put-bytes : tie.Need-slice-aggregate-put-bytes
-slice-aggregate-put-bytes c = search needs
-
-put-bytes-requires : tie.Need-put-bytes-requires
-put-bytes-requires c κs = search needs
-
-same-length : tie.Need-same-length
-same-length c = search needs
-
 returns : tie.Need-returns
 returns c =
     let p = c .before .before .put-bytes .ensures in
     (appended-as (absent _ (c .before .before .before .before .before .if1 .taken)) p, omega (arith, p .end))
-
-margin-in-requires : tie.Need-margin-in-requires
-margin-in-requires c κs = search needs
-
-put-number-requires : tie.Need-put-number-requires
-put-number-requires c κs = search needs
-
-same-length-2 : tie.Need-same-length-2
-same-length-2 c = search needs
 
 returns-2 : tie.Need-returns-2
 returns-2 c =
@@ -59,12 +38,12 @@ pub put-margin-spec : {M : Type 1} → statement M
 put-margin-spec =
     tie.close
     (tie.spec
-    array-read-if1
-    slice-aggregate-put-bytes
-    put-bytes-requires
-    same-length
+    (λ c. search needs)
+    (λ c. search needs)
+    (λ c κs. search needs)
+    (λ c. search needs)
     returns
-    margin-in-requires
-    put-number-requires
-    same-length-2
+    (λ c κs. search needs)
+    (λ c κs. search needs)
+    (λ c. search needs)
     returns-2)

@@ -7,18 +7,9 @@ use borrow.Author.Needs.{needs}
 use Rattle.text.proofs.put_message.Statement.{statement}
 use Rattle.text.proofs.put_message.Tie as tie
 
-put-digits-requires : tie.Need-put-digits-requires
-put-digits-requires c κs = search needs
-
-slice-aggregate-put-bytes : tie.Need-slice-aggregate-put-bytes
-slice-aggregate-put-bytes c = search needs
-
 put-bytes-requires : tie.Need-put-bytes-requires
 put-bytes-requires c κs =
     omega (arith, c .before .before .before .before .put-digits .ensures .end, c .before .before .before .before .put-digits .ensures .room, length-map (c .before .before .before .before .before .before .before .before .args .message .now) hexOf)
-
-same-length : tie.Need-same-length
-same-length c = search needs
 
 returns : tie.Need-returns
 unfolding messageLine
@@ -27,4 +18,4 @@ returns c = appended-both (c .before .before .before .before .before .before .be
 pub put-message-spec : {M : Type 1} → statement M
 put-message-spec =
     tie.close
-    (tie.spec put-digits-requires slice-aggregate-put-bytes put-bytes-requires same-length returns)
+    (tie.spec (λ c κs. search needs) (λ c. search needs) put-bytes-requires (λ c. search needs) returns)

@@ -11,9 +11,6 @@ use Rattle.threshold_decoding.proofs.Below.{below-askable, below-answer
 use Rattle.threshold_decoding.proofs.decode_table_below.Statement.{statement}
 use Rattle.threshold_decoding.proofs.decode_table_below.Tie as tie
 
-checks-requires : tie.Need-checks-requires
-checks-requires c κs = search needs
-
 returns : tie.Need-returns
 returns c = refused _ _ _ _ _ (c .before .checks .ensures) (λ a. omega arith) (below-refused modem64 _ _ _ _ _ _)
 
@@ -29,21 +26,6 @@ returns-3 c =
     let k = passed _ _ _ _ _ (c .before .before .before .checks .ensures) (omega arith) in
     sym (below-doubt modem64 _ _ _ _ _ _ (k .rated) (k .whole) (k .long) (k .whole-report) (inr (omega arith)))
 
-table-from-requires : tie.Need-table-from-requires
-table-from-requires c κs = search needs
-
-slice-aggregate-summary-of : tie.Need-slice-aggregate-summary-of
-slice-aggregate-summary-of c = search needs
-
-summary-of-requires : tie.Need-summary-of-requires
-summary-of-requires c κs = search needs
-
-doubtful-below-by-requires : tie.Need-doubtful-below-by-requires
-doubtful-below-by-requires c κs = search needs
-
-slice-aggregate-decode : tie.Need-slice-aggregate-decode
-slice-aggregate-decode c = search needs
-
 decode-requires : tie.Need-decode-requires
 decode-requires c κs =
     let past = c .before .before .before .before .before .before .before .before in
@@ -58,12 +40,6 @@ decode-requires c κs =
       c .before .before .before .before .before .summary-of .ensures,
     )
 
-same-length : tie.Need-same-length
-same-length c = search needs
-
-same-length-2 : tie.Need-same-length-2
-same-length-2 c = search needs
-
 returns-4 : tie.Need-returns-4
 returns-4 c =
     let past = c .before .before .before .before .before .before .before .before .before .before .before .before .before in
@@ -77,16 +53,16 @@ pub decode-table-below-spec : {M : Type 1} → statement M
 decode-table-below-spec =
     tie.close
     (tie.spec
-    checks-requires
+    (λ c κs. search needs)
     returns
     returns-2
     returns-3
-    table-from-requires
-    slice-aggregate-summary-of
-    summary-of-requires
-    doubtful-below-by-requires
-    slice-aggregate-decode
+    (λ c κs. search needs)
+    (λ c. search needs)
+    (λ c κs. search needs)
+    (λ c κs. search needs)
+    (λ c. search needs)
     decode-requires
-    same-length
-    same-length-2
+    (λ c. search needs)
+    (λ c. search needs)
     returns-4)

@@ -9,9 +9,6 @@ use borrow.Author.Needs.{needs}
 use Rattle.tree.proofs.decided.Statement.{statement}
 use Rattle.tree.proofs.decided.Tie as tie
 
-missed-requires : tie.Need-missed-requires
-missed-requires c κs = search needs
-
 returns : tie.Need-returns
 returns c =
     let h = c .before .before .before .pre in (
@@ -19,16 +16,10 @@ returns c =
       subst (Sound _ _) (sym (c .missed .ensures)) (sound-missed (h .2)),
     )
 
-candidate-of-requires : tie.Need-candidate-of-requires
-candidate-of-requires c κs = search needs
-
 tests-within-requires : tie.Need-tests-within-requires
 tests-within-requires c κs =
     let h = c .before .before .before .before .before .pre in
     (h .0, h .1, omega (arith, h .3 .few))
-
-below-requires : tie.Need-below-requires
-below-requires c κs = search needs
 
 returns-2 : tie.Need-returns-2
 returns-2 c =
@@ -42,9 +33,9 @@ pub decided-spec : {M : Type 1} → statement M
 decided-spec =
     tie.close
     (tie.spec
-    missed-requires
+    (λ c κs. search needs)
     returns
-    candidate-of-requires
+    (λ c κs. search needs)
     tests-within-requires
-    below-requires
+    (λ c κs. search needs)
     returns-2)

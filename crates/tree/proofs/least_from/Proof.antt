@@ -18,15 +18,6 @@ abbrev μ-loop : tie.MeasureT-loop
 loop-holds : tie.Need-loop-holds Inv-loop μ-loop
 loop-holds c = (search needs, search needs, record { within = search needs; alike = omega arith; lowest = λ p h e. absurd (omega arith) })
 
-lower-requires : tie.Need-lower-requires Inv-loop μ-loop
-lower-requires c κs = search needs
-
-add-q : tie.Need-add-q Inv-loop μ-loop
-add-q c = search needs
-
-loop-less : tie.Need-loop-less Inv-loop μ-loop
-loop-less c = search needs
-
 loop-again : tie.Need-loop-again Inv-loop μ-loop
 loop-again c = (search needs, search needs, lowest-turn _ _ _ _ _ (c .before .before .loop .inv .1) (c .lower .ensures .0) (c .lower .ensures .1) (c .lower .ensures .2) (c .lower .ensures .3) (c .before .before .loop .inv .2))
 
@@ -38,4 +29,4 @@ returns c =
 pub least-from-spec : {M : Type 1} → statement M
 least-from-spec =
     tie.close
-    (tie.spec Inv-loop μ-loop loop-holds lower-requires add-q loop-less loop-again returns)
+    (tie.spec Inv-loop μ-loop loop-holds (λ c κs. search needs) (λ c. search needs) (λ c. search needs) loop-again returns)

@@ -16,25 +16,13 @@ use Rattle.writing.proofs.write_capture.Tie as tie
 returns : tie.Need-returns
 returns c = writing-long _ _ (c .if1 .taken)
 
-add-if2 : tie.Need-add-if2
-add-if2 c = search needs
-
 returns-2 : tie.Need-returns-2
 returns-2 c = writing-size _ _ (c .if2 .taken)
-
-all-taken-requires : tie.Need-all-taken-requires
-all-taken-requires c κs = search needs
 
 returns-3 : tie.Need-returns-3
 returns-3 c =
     writing-missing (c .before .before .before .before .before .before .args .session) _ (c .before .before .before .if2 .left)
     (sym (c .before .all-taken .ensures) ∙ not-true _ (c .if3 .taken))
-
-add-start : tie.Need-add-start
-add-start c = search needs
-
-slice-relend-prefix-write-head : tie.Need-slice-relend-prefix-write-head
-slice-relend-prefix-write-head c = search needs
 
 slice-aggregate-write-head : tie.Need-slice-aggregate-write-head
 slice-aggregate-write-head c =
@@ -45,18 +33,6 @@ write-head-requires : tie.Need-write-head-requires
 write-head-requires c κs =
     let a = c .before .before .before .before .before .before .before .before .before .args in
     (omega arith, length-take-le (5 + a .session .doubt) (a .out .now) (omega arith))
-
-slice-aggregate-write-records : tie.Need-slice-aggregate-write-records
-slice-aggregate-write-records c = search needs
-
-sub-write-records : tie.Need-sub-write-records
-sub-write-records c = search needs
-
-part-write-records-start : tie.Need-part-write-records-start
-part-write-records-start c = search needs
-
-part-write-records-end : tie.Need-part-write-records-end
-part-write-records-end c = search needs
 
 write-records-requires : tie.Need-write-records-requires
 write-records-requires c κs =
@@ -70,9 +46,6 @@ write-records-requires c κs =
       rest-length start 2112 (head ++ drop start out)
           (length-append head (drop start out) ∙ omega (arith, length-drop start out)),
     )
-
-same-length : tie.Need-same-length
-same-length c = search needs
 
 returns-4 : tie.Need-returns-4
 returns-4 c =
@@ -98,18 +71,18 @@ write-capture-spec =
     tie.close
     (tie.spec
     returns
-    add-if2
+    (λ c. search needs)
     returns-2
-    all-taken-requires
+    (λ c κs. search needs)
     returns-3
-    add-start
-    slice-relend-prefix-write-head
+    (λ c. search needs)
+    (λ c. search needs)
     slice-aggregate-write-head
     write-head-requires
-    slice-aggregate-write-records
-    sub-write-records
-    part-write-records-start
-    part-write-records-end
+    (λ c. search needs)
+    (λ c. search needs)
+    (λ c. search needs)
+    (λ c. search needs)
     write-records-requires
-    same-length
+    (λ c. search needs)
     returns-4)

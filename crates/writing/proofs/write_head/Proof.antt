@@ -16,32 +16,14 @@ use Rattle.writing.proofs.Parts.{five-stores, head-end}
 use Rattle.writing.proofs.write_head.Statement.{statement}
 use Rattle.writing.proofs.write_head.Tie as tie
 
-add-length : tie.Need-add-length
-add-length c = search needs
-
-version-of-requires : tie.Need-version-of-requires
-version-of-requires c κs = search needs
-
-slice-write-out : tie.Need-slice-write-out
-slice-write-out c = search needs
-
-cast-out : tie.Need-cast-out
-cast-out c = search needs
-
 slice-write-out-2 : tie.Need-slice-write-out-2
 slice-write-out-2 c = simp length-set (omega arith)
-
-cast-out-2 : tie.Need-cast-out-2
-cast-out-2 c = search needs
 
 slice-write-out-3 : tie.Need-slice-write-out-3
 slice-write-out-3 c = simp length-set (omega arith)
 
 slice-write-out-4 : tie.Need-slice-write-out-4
 slice-write-out-4 c = simp length-set (omega arith)
-
-cast-out-3 : tie.Need-cast-out-3
-cast-out-3 c = search needs
 
 slice-write-out-5 : tie.Need-slice-write-out-5
 slice-write-out-5 c = simp length-set (omega arith)
@@ -62,12 +44,6 @@ sub-copy c = simp length-set (omega arith)
 
 part-copy-start : tie.Need-part-copy-start
 part-copy-start c = simp length-set (omega arith)
-
-part-copy-end : tie.Need-part-copy-end
-part-copy-end c = search needs
-
-copy-requires : tie.Need-copy-requires
-copy-requires c κs = search needs
 
 same-length : tie.Need-same-length
 same-length c =
@@ -101,21 +77,21 @@ pub write-head-spec : {M : Type 1} → statement M
 write-head-spec =
     tie.close
     (tie.spec
-    add-length
-    version-of-requires
-    slice-write-out
-    cast-out
+    (λ c. search needs)
+    (λ c κs. search needs)
+    (λ c. search needs)
+    (λ c. search needs)
     slice-write-out-2
-    cast-out-2
+    (λ c. search needs)
     slice-write-out-3
     slice-write-out-4
-    cast-out-3
+    (λ c. search needs)
     slice-write-out-5
     array-share-prefix-list
     slice-aggregate-copy
     sub-copy
     part-copy-start
-    part-copy-end
-    copy-requires
+    (λ c. search needs)
+    (λ c κs. search needs)
     same-length
     returns)

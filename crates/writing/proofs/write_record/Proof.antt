@@ -13,17 +13,11 @@ use Rattle.writing.proofs.Parts.{record-end}
 use Rattle.writing.proofs.write_record.Statement.{statement}
 use Rattle.writing.proofs.write_record.Tie as tie
 
-slice-write-out : tie.Need-slice-write-out
-slice-write-out c = search needs
-
 sub-write-costs : tie.Need-sub-write-costs
 sub-write-costs c = simp length-set (omega arith)
 
 part-write-costs-start : tie.Need-part-write-costs-start
 part-write-costs-start c = simp length-set (omega arith)
-
-part-write-costs-end : tie.Need-part-write-costs-end
-part-write-costs-end c = search needs
 
 write-costs-requires : tie.Need-write-costs-requires
 write-costs-requires c κs =
@@ -51,10 +45,10 @@ pub write-record-spec : {M : Type 1} → statement M
 write-record-spec =
     tie.close
     (tie.spec
-    slice-write-out
+    (λ c. search needs)
     sub-write-costs
     part-write-costs-start
-    part-write-costs-end
+    (λ c. search needs)
     write-costs-requires
     same-length
     returns)

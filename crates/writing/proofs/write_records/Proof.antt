@@ -23,51 +23,6 @@ loop-holds c =
     let a = c .before .before .args in
     (omega arith, refl, records-start (a .costs .now) (c .before .before .pre .0) (a .out .now))
 
-mul-from : tie.Need-mul-from Inv-loop μ-loop
-mul-from c = search needs
-
-mul-to : tie.Need-mul-to Inv-loop μ-loop
-mul-to c = search needs
-
-cast-write-record : tie.Need-cast-write-record Inv-loop μ-loop
-cast-write-record c = search needs
-
-add-write-record : tie.Need-add-write-record Inv-loop μ-loop
-add-write-record c = search needs
-
-mul-write-record : tie.Need-mul-write-record Inv-loop μ-loop
-mul-write-record c = search needs
-
-sub-write-record : tie.Need-sub-write-record Inv-loop μ-loop
-sub-write-record c = search needs
-
-part-write-record-start : tie.Need-part-write-record-start Inv-loop μ-loop
-part-write-record-start c = search needs
-
-part-write-record-end : tie.Need-part-write-record-end Inv-loop μ-loop
-part-write-record-end c = search needs
-
-add-write-record-2 : tie.Need-add-write-record-2 Inv-loop μ-loop
-add-write-record-2 c = search needs
-
-sub-write-record-2 : tie.Need-sub-write-record-2 Inv-loop μ-loop
-sub-write-record-2 c = search needs
-
-part-write-record-start-2 : tie.Need-part-write-record-start-2 Inv-loop μ-loop
-part-write-record-start-2 c = search needs
-
-part-write-record-end-2 : tie.Need-part-write-record-end-2 Inv-loop μ-loop
-part-write-record-end-2 c = search needs
-
-write-record-requires : tie.Need-write-record-requires Inv-loop μ-loop
-write-record-requires c κs = search needs
-
-add-place : tie.Need-add-place Inv-loop μ-loop
-add-place c = search needs
-
-loop-less : tie.Need-loop-less Inv-loop μ-loop
-loop-less c = search needs
-
 loop-again : tie.Need-loop-again Inv-loop μ-loop
 loop-again c =
     let s = c .before .before .before .before .before .before .before .before .before in
@@ -95,21 +50,21 @@ write-records-spec =
     Inv-loop
     μ-loop
     loop-holds
-    mul-from
-    mul-to
-    cast-write-record
-    add-write-record
-    mul-write-record
-    sub-write-record
-    part-write-record-start
-    part-write-record-end
-    add-write-record-2
-    sub-write-record-2
-    part-write-record-start-2
-    part-write-record-end-2
-    write-record-requires
-    add-place
-    loop-less
+    (λ c. search needs)
+    (λ c. search needs)
+    (λ c. search needs)
+    (λ c. search needs)
+    (λ c. search needs)
+    (λ c. search needs)
+    (λ c. search needs)
+    (λ c. search needs)
+    (λ c. search needs)
+    (λ c. search needs)
+    (λ c. search needs)
+    (λ c. search needs)
+    (λ c κs. search needs)
+    (λ c. search needs)
+    (λ c. search needs)
     loop-again
     same-length
     returns)

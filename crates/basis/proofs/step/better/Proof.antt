@@ -6,26 +6,11 @@ use Rattle.basis.proofs.Choosing.{better-zero, better-first, better-kee
 use Rattle.basis.proofs.step.better.Statement.{statement}
 use Rattle.basis.proofs.step.better.Tie as tie
 
-array-read-if1 : tie.Need-array-read-if1
-array-read-if1 c = search needs
-
 returns : tie.Need-returns
 returns c = sym (better-zero _ _ _ _ (c .if1 .taken))
 
 returns-2 : tie.Need-returns-2
 returns-2 c = sym (better-first _ _ _ _ (c .before .if1 .left) (c .if2 .taken))
-
-mul-if3 : tie.Need-mul-if3
-mul-if3 c = search needs
-
-array-read-if3 : tie.Need-array-read-if3
-array-read-if3 c = search needs
-
-mul-if3-2 : tie.Need-mul-if3-2
-mul-if3-2 c = search needs
-
-array-read-if3-2 : tie.Need-array-read-if3-2
-array-read-if3-2 c = search needs
 
 returns-3 : tie.Need-returns-3
 unfolding leadAt
@@ -39,12 +24,12 @@ pub better-spec : {M : Type 1} → statement M
 better-spec =
     tie.close
     (tie.spec
-    array-read-if1
+    (λ c. search needs)
     returns
     returns-2
-    mul-if3
-    array-read-if3
-    mul-if3-2
-    array-read-if3-2
+    (λ c. search needs)
+    (λ c. search needs)
+    (λ c. search needs)
+    (λ c. search needs)
     returns-3
     returns-4)

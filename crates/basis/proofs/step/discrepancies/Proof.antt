@@ -20,30 +20,6 @@ abbrev μ-loop : tie.MeasureT-loop
 loop-holds : tie.Need-loop-holds Inv-loop μ-loop
 loop-holds c = (search needs, search needs, listed-start _ _)
 
-mul-discrepancy : tie.Need-mul-discrepancy Inv-loop μ-loop
-mul-discrepancy c = search needs
-
-element-copy-out-discrepancy : tie.Need-element-copy-out-discrepancy Inv-loop μ-loop
-element-copy-out-discrepancy c = search needs
-
-mul-discrepancy-2 : tie.Need-mul-discrepancy-2 Inv-loop μ-loop
-mul-discrepancy-2 c = search needs
-
-array-read-discrepancy : tie.Need-array-read-discrepancy Inv-loop μ-loop
-array-read-discrepancy c = search needs
-
-discrepancy-requires : tie.Need-discrepancy-requires Inv-loop μ-loop
-discrepancy-requires c κs = search needs
-
-array-write-out : tie.Need-array-write-out Inv-loop μ-loop
-array-write-out c = search needs
-
-add-r : tie.Need-add-r Inv-loop μ-loop
-add-r c = search needs
-
-loop-less : tie.Need-loop-less Inv-loop μ-loop
-loop-less c = search needs
-
 loop-again : tie.Need-loop-again Inv-loop μ-loop
 unfolding discrepancyAt leadAt
 loop-again c =
@@ -62,13 +38,13 @@ discrepancies-spec =
     Inv-loop
     μ-loop
     loop-holds
-    mul-discrepancy
-    element-copy-out-discrepancy
-    mul-discrepancy-2
-    array-read-discrepancy
-    discrepancy-requires
-    array-write-out
-    add-r
-    loop-less
+    (λ c. search needs)
+    (λ c. search needs)
+    (λ c. search needs)
+    (λ c. search needs)
+    (λ c κs. search needs)
+    (λ c. search needs)
+    (λ c. search needs)
+    (λ c. search needs)
     loop-again
     returns)

@@ -9,12 +9,6 @@ returns : tie.Need-returns
 unfolding discrepancyOf
 returns c = simp (lt-ltb _ _ (c .if1 .taken))
 
-whole-requires : tie.Need-whole-requires
-whole-requires c κs = search needs
-
-at-requires : tie.Need-at-requires
-at-requires c κs = search needs
-
 returns-2 : tie.Need-returns-2
 unfolding discrepancyOf
 returns-2 c =
@@ -22,4 +16,4 @@ returns-2 c =
     simp (le-ltb _ _ (c .before .before .if1 .left), c .at .ensures, w)
 
 pub discrepancy-spec : {M : Type 1} → statement M
-discrepancy-spec = tie.close (tie.spec returns whole-requires at-requires returns-2)
+discrepancy-spec = tie.close (tie.spec returns (λ c κs. search needs) (λ c κs. search needs) returns-2)

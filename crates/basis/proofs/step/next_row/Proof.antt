@@ -4,12 +4,6 @@ use Rattle.basis.proofs.Rowwise.{added-nothing, added-product}
 use Rattle.basis.proofs.step.next_row.Statement.{statement}
 use Rattle.basis.proofs.step.next_row.Tie as tie
 
-product-requires : tie.Need-product-requires
-product-requires c κs = search needs
-
-added-requires : tie.Need-added-requires
-added-requires c κs = search needs
-
 returns : tie.Need-returns
 returns c = added-nothing _ _ (c .if1 .taken)
 
@@ -17,4 +11,4 @@ returns-2 : tie.Need-returns-2
 returns-2 c = added-product _ _ (c .before .product .ensures) (c .added .ensures)
 
 pub next-row-spec : {M : Type 1} → statement M
-next-row-spec = tie.close (tie.spec returns product-requires added-requires returns-2)
+next-row-spec = tie.close (tie.spec returns (λ c κs. search needs) (λ c κs. search needs) returns-2)

@@ -11,22 +11,13 @@ branch-by : (f : Finding) {a : Answer} → f .answer ≡ a → branchBy a (f .co
 unfolding branchIn
 branch-by f e = ap (λ a. branchBy a (f .codeword)) (sym e)
 
-enum-told : tie.Need-enum-told
-enum-told c = search needs
-
-no-codeword-requires : tie.Need-no-codeword-requires
-no-codeword-requires c κs = search needs
-
 returns : tie.Need-returns
 unfolding branchBy
 returns c = c .no-codeword .ensures ∙ branch-by _ (c .before .enum-told .given .1)
-
-enum-told-2 : tie.Need-enum-told-2
-enum-told-2 c = search needs
 
 returns-2 : tie.Need-returns-2
 unfolding branchBy
 returns-2 c = branch-by _ (c .before .enum-told2 .given .1)
 
 pub branch-in-spec : {M : Type 1} → statement M
-branch-in-spec = tie.close (tie.spec enum-told no-codeword-requires returns enum-told-2 returns-2)
+branch-in-spec = tie.close (tie.spec (λ c. search needs) (λ c κs. search needs) returns (λ c. search needs) returns-2)

@@ -16,18 +16,6 @@ branch-found : (rate : ℕ) (word blanks : List ℕ) {costs : List ℕ} {f : Fin
 unfolding branchOf
 branch-found rate word blanks e h = ap branchIn (e ∙ ap (λ costs. nearestOf rate costs undoubted 0) h)
 
-faded-costs-requires : tie.Need-faded-costs-requires
-faded-costs-requires c κs = search needs
-
-slice-aggregate-nearest : tie.Need-slice-aggregate-nearest
-slice-aggregate-nearest c = search needs
-
-nearest-requires : tie.Need-nearest-requires
-nearest-requires c κs = search needs
-
-branch-in-requires : tie.Need-branch-in-requires
-branch-in-requires c κs = search needs
-
 returns : tie.Need-returns
 returns c = c .branch-in .ensures ∙ branch-found _ _ _ (c .before .nearest .ensures) (c .before .before .before .faded-costs .ensures)
 
@@ -35,8 +23,8 @@ pub branch-of-spec : {M : Type 1} → statement M
 branch-of-spec =
     tie.close
     (tie.spec
-    faded-costs-requires
-    slice-aggregate-nearest
-    nearest-requires
-    branch-in-requires
+    (λ c κs. search needs)
+    (λ c. search needs)
+    (λ c κs. search needs)
+    (λ c κs. search needs)
     returns)

@@ -16,24 +16,6 @@ abbrev μ-loop : tie.MeasureT-loop
 loop-holds : tie.Need-loop-holds Inv-loop μ-loop
 loop-holds c = (fading-start _ _, search needs)
 
-own-cost-requires : tie.Need-own-cost-requires Inv-loop μ-loop
-own-cost-requires c κs = search needs
-
-own-place-requires : tie.Need-own-place-requires Inv-loop μ-loop
-own-place-requires c κs = search needs
-
-mul-out : tie.Need-mul-out Inv-loop μ-loop
-mul-out c = search needs
-
-array-write-out : tie.Need-array-write-out Inv-loop μ-loop
-array-write-out c = search needs
-
-add-place : tie.Need-add-place Inv-loop μ-loop
-add-place c = search needs
-
-loop-less : tie.Need-loop-less Inv-loop μ-loop
-loop-less c = search needs
-
 loop-again : tie.Need-loop-again Inv-loop μ-loop
 loop-again c = (
   fading-turn _ _ _ (search needs) (c .own-place .ensures) (c .before .own-cost .ensures) (c .before .before .before .loop .inv .0),
@@ -50,11 +32,11 @@ faded-costs-spec =
     Inv-loop
     μ-loop
     loop-holds
-    own-cost-requires
-    own-place-requires
-    mul-out
-    array-write-out
-    add-place
-    loop-less
+    (λ c κs. search needs)
+    (λ c κs. search needs)
+    (λ c. search needs)
+    (λ c. search needs)
+    (λ c. search needs)
+    (λ c. search needs)
     loop-again
     returns)

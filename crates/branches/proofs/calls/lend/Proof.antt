@@ -5,12 +5,6 @@ use borrow.Author.Needs.{needs}
 use Rattle.branches.proofs.calls.lend.Statement.{statement}
 use Rattle.branches.proofs.calls.lend.Tie as tie
 
-lent-requires : tie.Need-lent-requires
-lent-requires c κs = search needs
-
-lent-requires-2 : tie.Need-lent-requires-2
-lent-requires-2 c κs = search needs
-
 array-borrow-prefix-codeword : tie.Need-array-borrow-prefix-codeword
 array-borrow-prefix-codeword c = search needs
 
@@ -23,21 +17,15 @@ array-borrow-prefix-q c = search needs
 slice-aggregate-answer-2 : tie.Need-slice-aggregate-answer-2
 slice-aggregate-answer-2 c = sym (length-take-le _ _ (array-borrow-prefix-q (c .before)))
 
-answer-requires : tie.Need-answer-requires
-answer-requires c κs = search needs
-
-returns : tie.Need-returns
-returns c = search needs
-
 pub lend-spec : {M : Type 1} → statement M
 lend-spec =
     tie.close
     (tie.spec
-    lent-requires
-    lent-requires-2
+    (λ c κs. search needs)
+    (λ c κs. search needs)
     array-borrow-prefix-codeword
     slice-aggregate-answer
     array-borrow-prefix-q
     slice-aggregate-answer-2
-    answer-requires
-    returns)
+    (λ c κs. search needs)
+    (λ c. search needs))

@@ -6,9 +6,6 @@ use Rattle.candidate.proofs.rate.blank_limit.Tie as tie
 use Rattle.near.specs.Near as Near
 use Rattle.hermitian.specs.Present.{genus}
 
-least-distance-requires : tie.Need-least-distance-requires
-least-distance-requires c κs = search needs
-
 sub-result : tie.Need-sub-result
 unfolding Near.mOf genus Near.blankLimit
 sub-result c = omega arith
@@ -22,4 +19,4 @@ unfolding Near.mOf genus Near.blankLimit
 returns c = omega arith
 
 pub blank-limit-spec : {M : Type 1} → statement M
-blank-limit-spec = tie.close (tie.spec least-distance-requires sub-result sub-result-2 returns)
+blank-limit-spec = tie.close (tie.spec (λ c κs. search needs) sub-result sub-result-2 returns)

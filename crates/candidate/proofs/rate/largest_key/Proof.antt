@@ -24,15 +24,6 @@ module _ {k : ℕ} (rate : Ranged k) (b : ℕ) {t o m : ℕ} (t-is : t ≡ reach
   key-small : 2 * (o + m) + 1 ≤ 127
   key-small = omega (arith, key-is, limit-small rate b)
 
-reach-requires : tie.Need-reach-requires
-reach-requires c κs = search needs
-
-order-requires : tie.Need-order-requires
-order-requires c κs = search needs
-
-top-order-requires : tie.Need-top-order-requires
-top-order-requires c κs = search needs
-
 add-result : tie.Need-add-result
 add-result c =
     omega (arith, key-small (c .before .before .before .pre .0) _ (c .before .before .reach .ensures) (c .before .order .ensures) (c .top-order .ensures))
@@ -49,4 +40,4 @@ returns : tie.Need-returns
 returns c = key-is (c .before .before .before .pre .0) _ (c .before .before .reach .ensures) (c .before .order .ensures) (c .top-order .ensures)
 
 pub largest-key-spec : {M : Type 1} → statement M
-largest-key-spec = tie.close (tie.spec reach-requires order-requires top-order-requires add-result mul-result add-result-2 returns)
+largest-key-spec = tie.close (tie.spec (λ c κs. search needs) (λ c κs. search needs) (λ c κs. search needs) add-result mul-result add-result-2 returns)

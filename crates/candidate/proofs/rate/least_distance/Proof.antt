@@ -7,9 +7,6 @@ use Rattle.candidate.proofs.rate.least_distance.Tie as tie
 use Rattle.near.specs.Near as Near
 use Rattle.hermitian.specs.Present.{genus}
 
-top-order-requires : tie.Need-top-order-requires
-top-order-requires c κs = search needs
-
 sub-result : tie.Need-sub-result
 unfolding Near.mOf genus
 sub-result c = omega arith
@@ -19,4 +16,4 @@ unfolding Near.mOf genus
 returns c = omega arith
 
 pub least-distance-spec : {M : Type 1} → statement M
-least-distance-spec = tie.close (tie.spec top-order-requires sub-result returns)
+least-distance-spec = tie.close (tie.spec (λ c κs. search needs) sub-result returns)

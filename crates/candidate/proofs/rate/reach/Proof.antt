@@ -5,9 +5,6 @@ use Rattle.candidate.proofs.rate.reach.Statement.{statement}
 use Rattle.candidate.proofs.rate.reach.Tie as tie
 use Rattle.near.specs.Near as Near
 
-blank-limit-requires : tie.Need-blank-limit-requires
-blank-limit-requires c κs = search needs
-
 sub-result : tie.Need-sub-result
 sub-result c = omega arith
 
@@ -16,4 +13,4 @@ unfolding Near.reachOf
 returns c = omega arith
 
 pub reach-spec : {M : Type 1} → statement M
-reach-spec = tie.close (tie.spec blank-limit-requires sub-result returns)
+reach-spec = tie.close (tie.spec (λ c κs. search needs) sub-result returns)

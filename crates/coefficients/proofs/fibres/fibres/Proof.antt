@@ -12,29 +12,8 @@ Inv-loop values duals out₀ j₀ out j = (j ≤ 4) × FibresTo values j out
 abbrev μ-loop : tie.MeasureT-loop
 μ-loop values duals out₀ j₀ out j = 4 - j
 
-y-duals-requires : tie.Need-y-duals-requires Inv-loop μ-loop
-y-duals-requires c κs = search needs
-
 loop-holds : tie.Need-loop-holds Inv-loop μ-loop
 loop-holds c = (search needs, fibres-start _)
-
-mul-fibre : tie.Need-mul-fibre Inv-loop μ-loop
-mul-fibre c = search needs
-
-array-copy-out-fibre : tie.Need-array-copy-out-fibre Inv-loop μ-loop
-array-copy-out-fibre c = search needs
-
-fibre-requires : tie.Need-fibre-requires Inv-loop μ-loop
-fibre-requires c κs = search needs
-
-sum-requires : tie.Need-sum-requires Inv-loop μ-loop
-sum-requires c κs = search needs
-
-add-j : tie.Need-add-j Inv-loop μ-loop
-add-j c = search needs
-
-loop-less : tie.Need-loop-less Inv-loop μ-loop
-loop-less c = search needs
 
 loop-again : tie.Need-loop-again Inv-loop μ-loop
 loop-again c = (
@@ -52,13 +31,13 @@ fibres-spec =
     (tie.spec
     Inv-loop
     μ-loop
-    y-duals-requires
+    (λ c κs. search needs)
     loop-holds
-    mul-fibre
-    array-copy-out-fibre
-    fibre-requires
-    sum-requires
-    add-j
-    loop-less
+    (λ c. search needs)
+    (λ c. search needs)
+    (λ c κs. search needs)
+    (λ c κs. search needs)
+    (λ c. search needs)
+    (λ c. search needs)
     loop-again
     returns)

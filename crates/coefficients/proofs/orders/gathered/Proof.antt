@@ -12,29 +12,8 @@ Inv-loop sums duals out₀ x₀ out x = (x ≤ 16) × GatheredTo sums x out
 abbrev μ-loop : tie.MeasureT-loop
 μ-loop sums duals out₀ x₀ out x = 16 - x
 
-x-duals-requires : tie.Need-x-duals-requires Inv-loop μ-loop
-x-duals-requires c κs = search needs
-
 loop-holds : tie.Need-loop-holds Inv-loop μ-loop
 loop-holds c = (search needs, gathered-start _)
-
-mul-entry : tie.Need-mul-entry Inv-loop μ-loop
-mul-entry c = search needs
-
-array-copy-out-entry : tie.Need-array-copy-out-entry Inv-loop μ-loop
-array-copy-out-entry c = search needs
-
-entry-requires : tie.Need-entry-requires Inv-loop μ-loop
-entry-requires c κs = search needs
-
-sum-requires : tie.Need-sum-requires Inv-loop μ-loop
-sum-requires c κs = search needs
-
-add-x : tie.Need-add-x Inv-loop μ-loop
-add-x c = search needs
-
-loop-less : tie.Need-loop-less Inv-loop μ-loop
-loop-less c = search needs
 
 loop-again : tie.Need-loop-again Inv-loop μ-loop
 loop-again c = (
@@ -52,13 +31,13 @@ gathered-spec =
     (tie.spec
     Inv-loop
     μ-loop
-    x-duals-requires
+    (λ c κs. search needs)
     loop-holds
-    mul-entry
-    array-copy-out-entry
-    entry-requires
-    sum-requires
-    add-x
-    loop-less
+    (λ c. search needs)
+    (λ c. search needs)
+    (λ c κs. search needs)
+    (λ c κs. search needs)
+    (λ c. search needs)
+    (λ c. search needs)
     loop-again
     returns)

@@ -5,23 +5,11 @@ use Rattle.soft.specs.BitsLaws.{bit-cost-low, bit-cost-high, bit-cost-most}
 use Rattle.columns.proofs.bits.bit_cost.Statement.{statement}
 use Rattle.columns.proofs.bits.bit_cost.Tie as tie
 
-cast-result : tie.Need-cast-result
-cast-result c = search needs
-
 mul-result : tie.Need-mul-result
 mul-result c = omega (arith, bit-cost-most _ _ (bit-cost-low (c .if1 .taken) (c .before .pre)))
 
 returns : tie.Need-returns
 returns c = bit-cost-low (c .if1 .taken) (c .before .pre)
-
-cast-result-2 : tie.Need-cast-result-2
-cast-result-2 c = search needs
-
-sub-result : tie.Need-sub-result
-sub-result c = search needs
-
-sub-result-2 : tie.Need-sub-result-2
-sub-result-2 c = search needs
 
 mul-result-2 : tie.Need-mul-result-2
 mul-result-2 c = omega (arith, bit-cost-most _ _ (bit-cost-high (c .if1 .left) (c .before .pre)))
@@ -33,11 +21,11 @@ pub bit-cost-spec : {M : Type 1} → statement M
 bit-cost-spec =
     tie.close
     (tie.spec
-    cast-result
+    (λ c. search needs)
     mul-result
     returns
-    cast-result-2
-    sub-result
-    sub-result-2
+    (λ c. search needs)
+    (λ c. search needs)
+    (λ c. search needs)
     mul-result-2
     returns-2)

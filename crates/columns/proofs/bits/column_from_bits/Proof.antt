@@ -4,15 +4,9 @@ use Rattle.soft.specs.Bits.{bitColumn}
 use Rattle.columns.proofs.bits.column_from_bits.Statement.{statement}
 use Rattle.columns.proofs.bits.column_from_bits.Tie as tie
 
-slice-aggregate-fill : tie.Need-slice-aggregate-fill
-slice-aggregate-fill c = search needs
-
-fill-requires : tie.Need-fill-requires
-fill-requires c κs = search needs
-
 returns : tie.Need-returns
 unfolding bitColumn
 returns c = search needs
 
 pub column-from-bits-spec : {M : Type 1} → statement M
-column-from-bits-spec = tie.close (tie.spec slice-aggregate-fill fill-requires returns)
+column-from-bits-spec = tie.close (tie.spec (λ c. search needs) (λ c κs. search needs) returns)

@@ -17,20 +17,8 @@ abbrev μ-loop : tie.MeasureT-loop
 loop-holds : tie.Need-loop-holds Inv-loop μ-loop
 loop-holds c = filled-start _ _
 
-symbol-cost-requires : tie.Need-symbol-cost-requires Inv-loop μ-loop
-symbol-cost-requires c κs = search needs
-
-mul-out : tie.Need-mul-out Inv-loop μ-loop
-mul-out c = search needs
-
 slice-write-out : tie.Need-slice-write-out Inv-loop μ-loop
 slice-write-out c = omega (arith, filled-length 0 (c .before .before .loop .inv))
-
-add-symbol : tie.Need-add-symbol Inv-loop μ-loop
-add-symbol c = search needs
-
-loop-less : tie.Need-loop-less Inv-loop μ-loop
-loop-less c = search needs
 
 loop-again : tie.Need-loop-again Inv-loop μ-loop
 loop-again c = filled-turn 0 (c .before .before .loop .inv) _ (search needs) (c .symbol-cost .ensures)
@@ -48,11 +36,11 @@ fill-spec =
     Inv-loop
     μ-loop
     loop-holds
-    symbol-cost-requires
-    mul-out
+    (λ c κs. search needs)
+    (λ c. search needs)
     slice-write-out
-    add-symbol
-    loop-less
+    (λ c. search needs)
+    (λ c. search needs)
     loop-again
     same-length
     returns)

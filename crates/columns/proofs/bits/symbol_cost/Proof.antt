@@ -18,26 +18,8 @@ four-added values s {d = d} e f g h =
     let last : d ≡ bitCost (getD values 3 0) (s / 1 % 2) = h ∙ ap (λ x. bitCost (getD values 3 0) (x % 2)) (omega arith) in
     omega arith
 
-array-read-bit-cost : tie.Need-array-read-bit-cost
-array-read-bit-cost c = search needs
-
-bit-cost-requires : tie.Need-bit-cost-requires
-bit-cost-requires c κs = search needs
-
-array-read-bit-cost-2 : tie.Need-array-read-bit-cost-2
-array-read-bit-cost-2 c = search needs
-
-bit-cost-requires-2 : tie.Need-bit-cost-requires-2
-bit-cost-requires-2 c κs = search needs
-
 add-result : tie.Need-add-result
 add-result c = omega (arith, bit-cost-most _ _ (c .before .bit-cost .ensures), bit-cost-most _ _ (c .bit-cost2 .ensures))
-
-array-read-bit-cost-3 : tie.Need-array-read-bit-cost-3
-array-read-bit-cost-3 c = search needs
-
-bit-cost-requires-3 : tie.Need-bit-cost-requires-3
-bit-cost-requires-3 c κs = search needs
 
 add-result-2 : tie.Need-add-result-2
 add-result-2 c =
@@ -47,12 +29,6 @@ add-result-2 c =
       bit-cost-most _ _ (c .before .bit-cost2 .ensures),
       bit-cost-most _ _ (c .bit-cost3 .ensures),
     )
-
-array-read-bit-cost-4 : tie.Need-array-read-bit-cost-4
-array-read-bit-cost-4 c = search needs
-
-bit-cost-requires-4 : tie.Need-bit-cost-requires-4
-bit-cost-requires-4 c κs = search needs
 
 add-result-3 : tie.Need-add-result-3
 add-result-3 c =
@@ -73,15 +49,15 @@ pub symbol-cost-spec : {M : Type 1} → statement M
 symbol-cost-spec =
     tie.close
     (tie.spec
-    array-read-bit-cost
-    bit-cost-requires
-    array-read-bit-cost-2
-    bit-cost-requires-2
+    (λ c. search needs)
+    (λ c κs. search needs)
+    (λ c. search needs)
+    (λ c κs. search needs)
     add-result
-    array-read-bit-cost-3
-    bit-cost-requires-3
+    (λ c. search needs)
+    (λ c κs. search needs)
     add-result-2
-    array-read-bit-cost-4
-    bit-cost-requires-4
+    (λ c. search needs)
+    (λ c κs. search needs)
     add-result-3
     returns)

@@ -7,12 +7,6 @@ use Rattle.soft.specs.ColumnLaws.{best-below}
 use Rattle.columns.proofs.column.best.Statement.{statement}
 use Rattle.columns.proofs.column.best.Tie as tie
 
-two-least-requires : tie.Need-two-least-requires
-two-least-requires c κs = search needs
-
-symbol-in-requires : tie.Need-symbol-in-requires
-symbol-in-requires c κs = search needs
-
 returns : tie.Need-returns
 returns c =
     let column = c .before .before .args .column in
@@ -20,4 +14,4 @@ returns c =
     omega (arith, c .symbol-in .ensures, c .before .two-least .ensures .best, best-below column (omega arith))
 
 pub best-spec : {M : Type 1} → statement M
-best-spec = tie.close (tie.spec two-least-requires symbol-in-requires returns)
+best-spec = tie.close (tie.spec (λ c κs. search needs) (λ c κs. search needs) returns)

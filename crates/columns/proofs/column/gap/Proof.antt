@@ -8,18 +8,6 @@ use Rattle.soft.specs.ColumnLaws.{best-below, second-below}
 use Rattle.columns.proofs.column.gap.Statement.{statement}
 use Rattle.columns.proofs.column.gap.Tie as tie
 
-two-least-requires : tie.Need-two-least-requires
-two-least-requires c κs = search needs
-
-cost-in-requires : tie.Need-cost-in-requires
-cost-in-requires c κs = search needs
-
-cost-in-requires-2 : tie.Need-cost-in-requires-2
-cost-in-requires-2 c κs = search needs
-
-sub-result : tie.Need-sub-result
-sub-result c = search needs
-
 returns : tie.Need-returns
 unfolding gapOf
 returns c =
@@ -30,4 +18,4 @@ returns c =
     (arith, c .cost-in2 .ensures, c .before .cost-in .ensures, t .best, t .second, best-below column (omega arith), second-below column (omega arith))
 
 pub gap-spec : {M : Type 1} → statement M
-gap-spec = tie.close (tie.spec two-least-requires cost-in-requires cost-in-requires-2 sub-result returns)
+gap-spec = tie.close (tie.spec (λ c κs. search needs) (λ c κs. search needs) (λ c κs. search needs) (λ c. search needs) returns)

@@ -13,18 +13,9 @@ returns c = sym (cost-none 16 (c .before .before .args .costs .now) (c .before .
 returns-2 : tie.Need-returns-2
 returns-2 c = cost-missing 16 (c .before .before .before .args .costs .now) (c .before .before .before .args .place) (omega arith) (c .before .before .before .args .symbol) (omega arith)
 
-mul-number-at : tie.Need-mul-number-at
-mul-number-at c = search needs
-
-add-number-at : tie.Need-add-number-at
-add-number-at c = search needs
-
-number-at-requires : tie.Need-number-at-requires
-number-at-requires c κs = search needs
-
 returns-3 : tie.Need-returns-3
 returns-3 c = c .number-at .ensures ∙ sym (cost-column 16 (c .before .before .before .before .args .costs .now) (c .before .before .before .before .args .place) (c .before .before .before .before .args .symbol) (omega arith))
 
 pub cost-of-spec : {M : Type 1} → statement M
 cost-of-spec =
-    tie.close (tie.spec returns returns-2 mul-number-at add-number-at number-at-requires returns-3)
+    tie.close (tie.spec returns returns-2 (λ c. search needs) (λ c. search needs) (λ c κs. search needs) returns-3)

@@ -15,54 +15,12 @@ Inv-loop m lead by powers rest₀ out₀ left₀ rest out left = (length rest �
 abbrev μ-loop : tie.MeasureT-loop
 μ-loop m lead by powers rest₀ out₀ left₀ rest out left = left
 
-lead-requires : tie.Need-lead-requires Inv-loop μ-loop
-lead-requires c κs = search needs
-
-array-read-inverse : tie.Need-array-read-inverse Inv-loop μ-loop
-array-read-inverse c = search needs
-
-inverse-requires : tie.Need-inverse-requires Inv-loop μ-loop
-inverse-requires c κs = search needs
-
-y-powers-requires : tie.Need-y-powers-requires Inv-loop μ-loop
-y-powers-requires c κs = search needs
-
-add-left : tie.Need-add-left Inv-loop μ-loop
-add-left c = search needs
-
 loop-holds : tie.Need-loop-holds Inv-loop μ-loop
 loop-holds c = (
   search needs,
   search needs,
   dividing-start _ _ _ _ _ _ (c .before .before .before .pre) (search needs) (c .before .before .lead .ensures) (c .before .inverse .ensures) (c .y-powers .ensures),
 )
-
-sub-left : tie.Need-sub-left Inv-loop μ-loop
-sub-left c = search needs
-
-add-next-at : tie.Need-add-next-at Inv-loop μ-loop
-add-next-at c = search needs
-
-next-at-requires : tie.Need-next-at-requires Inv-loop μ-loop
-next-at-requires c κs = search needs
-
-mul-less : tie.Need-mul-less Inv-loop μ-loop
-mul-less c = search needs
-
-array-copy-out-less : tie.Need-array-copy-out-less Inv-loop μ-loop
-array-copy-out-less c = search needs
-
-x-moves-requires : tie.Need-x-moves-requires Inv-loop μ-loop
-x-moves-requires c κs = search needs
-
-less-requires : tie.Need-less-requires Inv-loop μ-loop
-less-requires c κs = search needs
-
-array-write-out : tie.Need-array-write-out Inv-loop μ-loop
-array-write-out c = search needs
-
-loop-less : tie.Need-loop-less Inv-loop μ-loop
-loop-less c = search needs
 
 loop-again : tie.Need-loop-again Inv-loop μ-loop
 loop-again c =
@@ -83,20 +41,20 @@ divide-spec =
     (tie.spec
     Inv-loop
     μ-loop
-    lead-requires
-    array-read-inverse
-    inverse-requires
-    y-powers-requires
-    add-left
+    (λ c κs. search needs)
+    (λ c. search needs)
+    (λ c κs. search needs)
+    (λ c κs. search needs)
+    (λ c. search needs)
     loop-holds
-    sub-left
-    add-next-at
-    next-at-requires
-    mul-less
-    array-copy-out-less
-    x-moves-requires
-    less-requires
-    array-write-out
-    loop-less
+    (λ c. search needs)
+    (λ c. search needs)
+    (λ c κs. search needs)
+    (λ c. search needs)
+    (λ c. search needs)
+    (λ c κs. search needs)
+    (λ c κs. search needs)
+    (λ c. search needs)
+    (λ c. search needs)
     loop-again
     returns)

@@ -20,27 +20,6 @@ returns c = taken-nothing _ _ _ _ (c .if1 .taken) (search needs)
 loop-holds : tie.Need-loop-holds Inv-loop μ-loop
 loop-holds c = (search needs, search needs, search needs, passed-start _ _ _ _)
 
-element-copy-out-rest : tie.Need-element-copy-out-rest Inv-loop μ-loop
-element-copy-out-rest c = search needs
-
-sub-product : tie.Need-sub-product Inv-loop μ-loop
-sub-product c = search needs
-
-array-read-product : tie.Need-array-read-product Inv-loop μ-loop
-array-read-product c = search needs
-
-product-requires : tie.Need-product-requires Inv-loop μ-loop
-product-requires c κs = search needs
-
-element-write-rest : tie.Need-element-write-rest Inv-loop μ-loop
-element-write-rest c = search needs
-
-add-k : tie.Need-add-k Inv-loop μ-loop
-add-k c = search needs
-
-loop-less : tie.Need-loop-less Inv-loop μ-loop
-loop-less c = search needs
-
 loop-again : tie.Need-loop-again Inv-loop μ-loop
 loop-again c =
     let i = c .before .before .before .loop .inv in
@@ -58,12 +37,12 @@ less-spec =
     μ-loop
     returns
     loop-holds
-    element-copy-out-rest
-    sub-product
-    array-read-product
-    product-requires
-    element-write-rest
-    add-k
-    loop-less
+    (λ c. search needs)
+    (λ c. search needs)
+    (λ c. search needs)
+    (λ c κs. search needs)
+    (λ c. search needs)
+    (λ c. search needs)
+    (λ c. search needs)
     loop-again
     returns-2)

@@ -13,15 +13,9 @@ returns-2 : tie.Need-returns-2
 unfolding nextAt
 returns-2 c = simp (le-ltb _ _ (c .before .if1 .left), lt-ltb 63 _ (c .if2 .taken))
 
-array-read-product : tie.Need-array-read-product
-array-read-product c = search needs
-
-product-requires : tie.Need-product-requires
-product-requires c κs = search needs
-
 returns-3 : tie.Need-returns-3
 unfolding nextAt
 returns-3 c = simp (le-ltb _ _ (c .before .before .if1 .left), le-ltb 63 _ (c .before .if2 .left), c .product .ensures)
 
 pub next-at-spec : {M : Type 1} → statement M
-next-at-spec = tie.close (tie.spec returns returns-2 array-read-product product-requires returns-3)
+next-at-spec = tie.close (tie.spec returns returns-2 (λ c. search needs) (λ c κs. search needs) returns-3)

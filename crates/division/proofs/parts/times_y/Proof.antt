@@ -24,21 +24,6 @@ abbrev μ-loop2 : tie.MeasureT-loop2
 loop-holds : tie.Need-loop-holds Inv-loop μ-loop Inv-loop2 μ-loop2
 loop-holds c = (search needs, passed-start _ _ _ _)
 
-sub-out : tie.Need-sub-out Inv-loop μ-loop Inv-loop2 μ-loop2
-sub-out c = search needs
-
-array-read-out : tie.Need-array-read-out Inv-loop μ-loop Inv-loop2 μ-loop2
-array-read-out c = search needs
-
-array-write-out : tie.Need-array-write-out Inv-loop μ-loop Inv-loop2 μ-loop2
-array-write-out c = search needs
-
-add-o : tie.Need-add-o Inv-loop μ-loop Inv-loop2 μ-loop2
-add-o c = search needs
-
-loop-less : tie.Need-loop-less Inv-loop μ-loop Inv-loop2 μ-loop2
-loop-less c = search needs
-
 loop-again : tie.Need-loop-again Inv-loop μ-loop Inv-loop2 μ-loop2
 loop-again c =
     let i = c .before .loop .inv in
@@ -48,24 +33,6 @@ loop2-holds : tie.Need-loop2-holds Inv-loop μ-loop Inv-loop2 μ-loop2
 loop2-holds c =
     let F = folded-start _ _ (lower-all _ _ (c .loop-test .left) (c .before .loop .inv .1)) in
     (search needs, search needs, search needs, F .as-long, F)
-
-array-read-out-2 : tie.Need-array-read-out-2 Inv-loop μ-loop Inv-loop2 μ-loop2
-array-read-out-2 c = search needs
-
-add-out : tie.Need-add-out Inv-loop μ-loop Inv-loop2 μ-loop2
-add-out c = search needs
-
-array-read-out-3 : tie.Need-array-read-out-3 Inv-loop μ-loop Inv-loop2 μ-loop2
-array-read-out-3 c = search needs
-
-array-write-out-2 : tie.Need-array-write-out-2 Inv-loop μ-loop Inv-loop2 μ-loop2
-array-write-out-2 c = search needs
-
-add-folded : tie.Need-add-folded Inv-loop μ-loop Inv-loop2 μ-loop2
-add-folded c = search needs
-
-loop2-less : tie.Need-loop2-less Inv-loop μ-loop Inv-loop2 μ-loop2
-loop2-less c = search needs
 
 loop2-again : tie.Need-loop2-again Inv-loop μ-loop Inv-loop2 μ-loop2
 loop2-again c =
@@ -85,18 +52,18 @@ times-y-spec =
     Inv-loop2
     μ-loop2
     loop-holds
-    sub-out
-    array-read-out
-    array-write-out
-    add-o
-    loop-less
+    (λ c. search needs)
+    (λ c. search needs)
+    (λ c. search needs)
+    (λ c. search needs)
+    (λ c. search needs)
     loop-again
     loop2-holds
-    array-read-out-2
-    add-out
-    array-read-out-3
-    array-write-out-2
-    add-folded
-    loop2-less
+    (λ c. search needs)
+    (λ c. search needs)
+    (λ c. search needs)
+    (λ c. search needs)
+    (λ c. search needs)
+    (λ c. search needs)
     loop2-again
     returns)

@@ -10,32 +10,8 @@ use Rattle.elimination.proofs.reducing.cleared.Tie as tie
 returns : tie.Need-returns
 returns c = kept (λ f. absurd (c .if1 .taken f)) refl
 
-whole-requires : tie.Need-whole-requires
-whole-requires c κs = search needs
-
-at-requires : tie.Need-at-requires
-at-requires c κs = search needs
-
 returns-2 : tie.Need-returns-2
 returns-2 c = kept (λ f. value-zero _ _ (c .before .before .before .before .pre) (c .before .before .whole .ensures) (c .before .at .ensures) (c .if2 .taken)) refl
-
-whole-requires-2 : tie.Need-whole-requires-2
-whole-requires-2 c κs = search needs
-
-at-requires-2 : tie.Need-at-requires-2
-at-requires-2 c κs = search needs
-
-inverse-requires : tie.Need-inverse-requires
-inverse-requires c κs = search needs
-
-product-requires : tie.Need-product-requires
-product-requires c κs = search needs
-
-multiples-requires : tie.Need-multiples-requires
-multiples-requires c κs = search needs
-
-added-requires : tie.Need-added-requires
-added-requires c κs = search needs
 
 returns-3 : tie.Need-returns-3
 returns-3 c = off-by _ _ _ _ _ _ (c .before .before .before .before .before .before .before .before .before .before .if1 .left) (value-nonzero _ _ (c .before .before .before .before .before .before .before .before .before .before .before .pre) (c .before .before .before .before .before .before .before .before .before .whole .ensures) (c .before .before .before .before .before .before .before .before .at .ensures) (c .before .before .before .before .before .before .before .if2 .left)) (value-read _ _ (c .before .before .before .before .before .before .before .before .before .before .before .pre) (c .before .before .before .before .before .before .before .before .before .whole .ensures) (c .before .before .before .before .before .before .before .before .at .ensures)) (value-read _ _ (c .before .before .before .before .before .before .before .before .before .before .before .pre) (c .before .before .before .before .before .before .whole2 .ensures) (c .before .before .before .before .before .at2 .ensures)) (c .before .before .before .product .ensures ∙ ap (times _) (c .before .before .before .before .inverse .ensures)) (c .before .before .multiples .ensures) (c .added .ensures)
@@ -45,13 +21,13 @@ cleared-spec =
     tie.close
     (tie.spec
     returns
-    whole-requires
-    at-requires
+    (λ c κs. search needs)
+    (λ c κs. search needs)
     returns-2
-    whole-requires-2
-    at-requires-2
-    inverse-requires
-    product-requires
-    multiples-requires
-    added-requires
+    (λ c κs. search needs)
+    (λ c κs. search needs)
+    (λ c κs. search needs)
+    (λ c κs. search needs)
+    (λ c κs. search needs)
+    (λ c κs. search needs)
     returns-3)

@@ -16,29 +16,8 @@ abbrev μ-loop : tie.MeasureT-loop
 loop-holds : tie.Need-loop-holds Inv-loop μ-loop
 loop-holds c = (omega arith, record { reduced = λ M key word P R. R })
 
-mul-pivot : tie.Need-mul-pivot Inv-loop μ-loop
-mul-pivot c = search needs
-
-element-copy-out-pivot : tie.Need-element-copy-out-pivot Inv-loop μ-loop
-element-copy-out-pivot c = search needs
-
-array-read-flag : tie.Need-array-read-flag Inv-loop μ-loop
-array-read-flag c = search needs
-
-stuck-requires : tie.Need-stuck-requires Inv-loop μ-loop
-stuck-requires c κs = search needs
-
 returns : tie.Need-returns Inv-loop μ-loop
 returns c = stopped (search needs) (c .before .stuck .ensures) (c .if1 .taken) (c .before .before .before .before .loop .inv .1)
-
-cleared-requires : tie.Need-cleared-requires Inv-loop μ-loop
-cleared-requires c κs = search needs
-
-add-place : tie.Need-add-place Inv-loop μ-loop
-add-place c = search needs
-
-loop-less : tie.Need-loop-less Inv-loop μ-loop
-loop-less c = search needs
 
 loop-again : tie.Need-loop-again Inv-loop μ-loop
 loop-again c = (search needs, turn (search needs) (c .before .before .stuck .ensures) (c .before .if1 .left) (c .cleared .ensures) (c .before .before .before .before .before .loop .inv .1))
@@ -53,13 +32,13 @@ reduce-spec =
     Inv-loop
     μ-loop
     loop-holds
-    mul-pivot
-    element-copy-out-pivot
-    array-read-flag
-    stuck-requires
+    (λ c. search needs)
+    (λ c. search needs)
+    (λ c. search needs)
+    (λ c κs. search needs)
     returns
-    cleared-requires
-    add-place
-    loop-less
+    (λ c κs. search needs)
+    (λ c. search needs)
+    (λ c. search needs)
     loop-again
     returns-2)

@@ -9,20 +9,8 @@ use Rattle.elimination.proofs.reducing.stuck.Tie as tie
 returns : tie.Need-returns
 returns c = blank-passed _ _ _ _ (c .if1 .taken)
 
-whole-requires : tie.Need-whole-requires
-whole-requires c κs = search needs
-
-at-requires : tie.Need-at-requires
-at-requires c κs = search needs
-
 returns-2 : tie.Need-returns-2
 returns-2 c = pivot-passed _ _ _ _ (value-nonzero _ _ (c .before .before .before .before .pre) (c .before .before .whole .ensures) (c .before .at .ensures) (c .if2 .taken))
-
-whole-requires-2 : tie.Need-whole-requires-2
-whole-requires-2 c κs = search needs
-
-at-requires-2 : tie.Need-at-requires-2
-at-requires-2 c κs = search needs
 
 returns-3 : tie.Need-returns-3
 returns-3 c = free-stuck _ _ _ _ _ (c .before .before .before .before .before .if1 .left) (value-zero _ _ (c .before .before .before .before .before .before .pre) (c .before .before .before .before .whole .ensures) (c .before .before .before .at .ensures) (c .before .before .if2 .left)) (λ e. value-nonzero _ _ (c .before .before .before .before .before .before .pre) (c .before .whole2 .ensures) (c .at2 .ensures) (eqb-false _ _ (not-true _ e))) (λ e. value-zero _ _ (c .before .before .before .before .before .before .pre) (c .before .whole2 .ensures) (c .at2 .ensures) (eqb-true _ _ (not-false _ e)))
@@ -32,9 +20,9 @@ stuck-spec =
     tie.close
     (tie.spec
     returns
-    whole-requires
-    at-requires
+    (λ c κs. search needs)
+    (λ c κs. search needs)
     returns-2
-    whole-requires-2
-    at-requires-2
+    (λ c κs. search needs)
+    (λ c κs. search needs)
     returns-3)

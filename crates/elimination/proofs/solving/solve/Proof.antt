@@ -15,26 +15,14 @@ Inv-loop flags m limit symbols pivots₀ key₀ pivots key = (key ≤ limit + 1)
 abbrev μ-loop : tie.MeasureT-loop
 μ-loop flags m limit symbols pivots₀ key₀ pivots key = limit + 1 - key
 
-planes-requires : tie.Need-planes-requires Inv-loop μ-loop
-planes-requires c κs = search needs
-
 loop-holds : tie.Need-loop-holds Inv-loop μ-loop
 loop-holds c = (omega arith, search needs, no-rows _ _ _)
-
-tried-requires : tie.Need-tried-requires Inv-loop μ-loop
-tried-requires c κs = search needs
 
 returns : tie.Need-returns Inv-loop μ-loop
 returns c = key-found (c .before .before .before .before .before .loop .inv .2) (c .before .before .tried .ensures) (c .before .before .before .before .before .before .planes .ensures) (omega (arith, c .if1 .taken)) (c .before .before .before .before .loop-test .taken)
 
 keep-requires : tie.Need-keep-requires Inv-loop μ-loop
 keep-requires c κs = c .before .before .before .before .before .before .loop .inv .1
-
-add-key : tie.Need-add-key Inv-loop μ-loop
-add-key c = search needs
-
-loop-less : tie.Need-loop-less Inv-loop μ-loop
-loop-less c = search needs
 
 loop-again : tie.Need-loop-again Inv-loop μ-loop
 loop-again c = (search needs, c .keep .ensures .as-long ∙ c .before .before .before .before .before .before .before .loop .inv .1, key-turn (c .before .before .before .before .before .before .before .loop .inv .2) (c .before .before .before .before .tried .ensures) (c .before .before .if1 .left) (c .keep .ensures))
@@ -48,12 +36,12 @@ solve-spec =
     (tie.spec
     Inv-loop
     μ-loop
-    planes-requires
+    (λ c κs. search needs)
     loop-holds
-    tried-requires
+    (λ c κs. search needs)
     returns
     keep-requires
-    add-key
-    loop-less
+    (λ c. search needs)
+    (λ c. search needs)
     loop-again
     returns-2)

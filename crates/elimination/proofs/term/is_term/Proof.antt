@@ -5,21 +5,15 @@ use native.Mathlib.Omega.{arith}
 use Rattle.elimination.proofs.term.is_term.Statement.{statement}
 use Rattle.elimination.proofs.term.is_term.Tie as tie
 
-is-present-requires : tie.Need-is-present-requires
-is-present-requires c κs = search needs
-
 returns : tie.Need-returns
 returns c = even-tests _ _ (c .before .if1 .taken) (c .is-present .ensures)
 
 returns-2 : tie.Need-returns-2
 returns-2 c = low-tests _ _ (c .before .if1 .left) (omega (arith, c .if2 .taken))
 
-is-present-requires-2 : tie.Need-is-present-requires-2
-is-present-requires-2 c κs = search needs
-
 returns-3 : tie.Need-returns-3
 returns-3 c = odd-tests _ _ (c .before .before .if1 .left) (omega (arith, c .before .if2 .left)) (c .is-present2 .ensures)
 
 pub is-term-spec : {M : Type 1} → statement M
 is-term-spec =
-    tie.close (tie.spec is-present-requires returns returns-2 is-present-requires-2 returns-3)
+    tie.close (tie.spec (λ c κs. search needs) returns returns-2 (λ c κs. search needs) returns-3)

@@ -13,20 +13,8 @@ Inv-loop base n out₀ i₀ out i = (i ≤ n) × PowerOf base i out
 abbrev μ-loop : tie.MeasureT-loop
 μ-loop base n out₀ i₀ out i = n - i
 
-spread-requires : tie.Need-spread-requires Inv-loop μ-loop
-spread-requires c κs = search needs
-
 loop-holds : tie.Need-loop-holds Inv-loop μ-loop
 loop-holds c = (omega arith, power-start _ (c .spread .ensures))
-
-times-requires : tie.Need-times-requires Inv-loop μ-loop
-times-requires c κs = search needs
-
-add-i : tie.Need-add-i Inv-loop μ-loop
-add-i c = search needs
-
-loop-less : tie.Need-loop-less Inv-loop μ-loop
-loop-less c = search needs
 
 loop-again : tie.Need-loop-again Inv-loop μ-loop
 loop-again c = (omega arith, power-turn _ _ _ (c .times .ensures) (c .before .before .loop .inv .1))
@@ -40,10 +28,10 @@ power-spec =
     (tie.spec
     Inv-loop
     μ-loop
-    spread-requires
+    (λ c κs. search needs)
     loop-holds
-    times-requires
-    add-i
-    loop-less
+    (λ c κs. search needs)
+    (λ c. search needs)
+    (λ c. search needs)
     loop-again
     returns)

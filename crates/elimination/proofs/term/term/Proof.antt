@@ -8,12 +8,6 @@ use Rattle.elimination.proofs.term.term.Tie as tie
 monomial-requires : tie.Need-monomial-requires
 monomial-requires c κs = key-even (c .if1 .taken) (c .before .pre)
 
-spread-requires : tie.Need-spread-requires
-spread-requires c κs = search needs
-
-joined-requires : tie.Need-joined-requires
-joined-requires c κs = search needs
-
 returns : tie.Need-returns
 returns c = term-plain _ _ _ _ (c .before .before .before .if1 .taken) (c .before .before .monomial .ensures) (c .before .spread .ensures) (c .joined .ensures)
 
@@ -23,12 +17,6 @@ sub-monomial c = key-odd (c .if1 .left) (c .before .pre) .0
 monomial-requires-2 : tie.Need-monomial-requires-2
 monomial-requires-2 c κs = key-odd (c .if1 .left) (c .before .pre) .1
 
-times-requires : tie.Need-times-requires
-times-requires c κs = search needs
-
-joined-requires-2 : tie.Need-joined-requires-2
-joined-requires-2 c κs = search needs
-
 returns-2 : tie.Need-returns-2
 returns-2 c = term-z _ _ _ _ (c .before .before .before .if1 .left) (c .before .before .monomial2 .ensures) (c .before .times .ensures) (c .joined2 .ensures)
 
@@ -37,11 +25,11 @@ term-spec =
     tie.close
     (tie.spec
     monomial-requires
-    spread-requires
-    joined-requires
+    (λ c κs. search needs)
+    (λ c κs. search needs)
     returns
     sub-monomial
     monomial-requires-2
-    times-requires
-    joined-requires-2
+    (λ c κs. search needs)
+    (λ c κs. search needs)
     returns-2)

@@ -13,32 +13,8 @@ Inv-loop function powers out₀ order₀ out order = (order ≤ 64) × (order % 
 abbrev μ-loop : tie.MeasureT-loop
 μ-loop function powers out₀ order₀ out order = 64 - order
 
-x-powers-requires : tie.Need-x-powers-requires Inv-loop μ-loop
-x-powers-requires c κs = search needs
-
 loop-holds : tie.Need-loop-holds Inv-loop μ-loop
 loop-holds c = (search needs, search needs, powers-start _)
-
-cast-four : tie.Need-cast-four Inv-loop μ-loop
-cast-four c = search needs
-
-mul-entry : tie.Need-mul-entry Inv-loop μ-loop
-mul-entry c = search needs
-
-array-copy-out-entry : tie.Need-array-copy-out-entry Inv-loop μ-loop
-array-copy-out-entry c = search needs
-
-entry-requires : tie.Need-entry-requires Inv-loop μ-loop
-entry-requires c κs = search needs
-
-sum-requires : tie.Need-sum-requires Inv-loop μ-loop
-sum-requires c κs = search needs
-
-add-order : tie.Need-add-order Inv-loop μ-loop
-add-order c = search needs
-
-loop-less : tie.Need-loop-less Inv-loop μ-loop
-loop-less c = search needs
 
 loop-again : tie.Need-loop-again Inv-loop μ-loop
 loop-again c = (
@@ -57,14 +33,14 @@ power-sums-spec =
     (tie.spec
     Inv-loop
     μ-loop
-    x-powers-requires
+    (λ c κs. search needs)
     loop-holds
-    cast-four
-    mul-entry
-    array-copy-out-entry
-    entry-requires
-    sum-requires
-    add-order
-    loop-less
+    (λ c. search needs)
+    (λ c. search needs)
+    (λ c. search needs)
+    (λ c κs. search needs)
+    (λ c κs. search needs)
+    (λ c. search needs)
+    (λ c. search needs)
     loop-again
     returns)

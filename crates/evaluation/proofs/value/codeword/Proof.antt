@@ -4,17 +4,8 @@ use borrow.Author.Needs.{needs}
 use Rattle.evaluation.proofs.value.codeword.Statement.{statement}
 use Rattle.evaluation.proofs.value.codeword.Tie as tie
 
-planes-requires : tie.Need-planes-requires
-planes-requires c κs = search needs
-
-values-requires : tie.Need-values-requires
-values-requires c κs = search needs
-
-symbols-requires : tie.Need-symbols-requires
-symbols-requires c κs = search needs
-
 returns : tie.Need-returns
 returns c = codeword-by _ _ _ (c .before .before .planes .ensures) (c .before .values .ensures) (c .symbols .ensures)
 
 pub codeword-spec : {M : Type 1} → statement M
-codeword-spec = tie.close (tie.spec planes-requires values-requires symbols-requires returns)
+codeword-spec = tie.close (tie.spec (λ c κs. search needs) (λ c κs. search needs) (λ c κs. search needs) returns)

@@ -4,39 +4,6 @@ use borrow.Author.Needs.{needs}
 use Rattle.evaluation.proofs.value.fibre_values.Statement.{statement}
 use Rattle.evaluation.proofs.value.fibre_values.Tie as tie
 
-ys-requires : tie.Need-ys-requires
-ys-requires c κs = search needs
-
-broad-requires : tie.Need-broad-requires
-broad-requires c κs = search needs
-
-times-requires : tie.Need-times-requires
-times-requires c κs = search needs
-
-broad-requires-2 : tie.Need-broad-requires-2
-broad-requires-2 c κs = search needs
-
-sum-requires : tie.Need-sum-requires
-sum-requires c κs = search needs
-
-times-requires-2 : tie.Need-times-requires-2
-times-requires-2 c κs = search needs
-
-broad-requires-3 : tie.Need-broad-requires-3
-broad-requires-3 c κs = search needs
-
-sum-requires-2 : tie.Need-sum-requires-2
-sum-requires-2 c κs = search needs
-
-times-requires-3 : tie.Need-times-requires-3
-times-requires-3 c κs = search needs
-
-broad-requires-4 : tie.Need-broad-requires-4
-broad-requires-4 c κs = search needs
-
-sum-requires-3 : tie.Need-sum-requires-3
-sum-requires-3 c κs = search needs
-
 returns : tie.Need-returns
 returns c =
     let y = c .before .before .before .before .before .before .before .before .before .before .ys .ensures in
@@ -53,15 +20,15 @@ pub fibre-values-spec : {M : Type 1} → statement M
 fibre-values-spec =
     tie.close
     (tie.spec
-    ys-requires
-    broad-requires
-    times-requires
-    broad-requires-2
-    sum-requires
-    times-requires-2
-    broad-requires-3
-    sum-requires-2
-    times-requires-3
-    broad-requires-4
-    sum-requires-3
+    (λ c κs. search needs)
+    (λ c κs. search needs)
+    (λ c κs. search needs)
+    (λ c κs. search needs)
+    (λ c κs. search needs)
+    (λ c κs. search needs)
+    (λ c κs. search needs)
+    (λ c κs. search needs)
+    (λ c κs. search needs)
+    (λ c κs. search needs)
+    (λ c κs. search needs)
     returns)

@@ -4,14 +4,8 @@ use borrow.Author.Needs.{needs}
 use Rattle.evaluation.proofs.value.values.Statement.{statement}
 use Rattle.evaluation.proofs.value.values.Tie as tie
 
-power-sums-requires : tie.Need-power-sums-requires
-power-sums-requires c κs = search needs
-
-fibre-values-requires : tie.Need-fibre-values-requires
-fibre-values-requires c κs = search needs
-
 returns : tie.Need-returns
 returns c = evaluated-by _ _ _ (c .before .power-sums .ensures) (c .fibre-values .ensures)
 
 pub values-spec : {M : Type 1} → statement M
-values-spec = tie.close (tie.spec power-sums-requires fibre-values-requires returns)
+values-spec = tie.close (tie.spec (λ c κs. search needs) (λ c κs. search needs) returns)

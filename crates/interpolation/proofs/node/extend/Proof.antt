@@ -5,14 +5,8 @@ use Rattle.interpolation.proofs.Extended.{extends-kept, extends-moved}
 use Rattle.interpolation.proofs.node.extend.Statement.{statement}
 use Rattle.interpolation.proofs.node.extend.Tie as tie
 
-extend-own-requires : tie.Need-extend-own-requires
-extend-own-requires c κs = search needs
-
 returns : tie.Need-returns
 returns c = extends-kept (c .before .before .before .if1 .taken) (c .extend-own .ensures)
-
-moved-rows-requires : tie.Need-moved-rows-requires
-moved-rows-requires c κs = search needs
 
 extend-own-requires-2 : tie.Need-extend-own-requires-2
 extend-own-requires-2 c κs =
@@ -25,4 +19,4 @@ returns-2 c = extends-moved _ (c .before .before .before .moved-rows .ensures) (
 pub extend-spec : {M : Type 1} → statement M
 extend-spec =
     tie.close
-    (tie.spec extend-own-requires returns moved-rows-requires extend-own-requires-2 returns-2)
+    (tie.spec (λ c κs. search needs) returns (λ c κs. search needs) extend-own-requires-2 returns-2)

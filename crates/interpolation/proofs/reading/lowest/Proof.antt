@@ -4,11 +4,8 @@ use Rattle.interpolation.proofs.Shown.{lowest-is}
 use Rattle.interpolation.proofs.reading.lowest.Statement.{statement}
 use Rattle.interpolation.proofs.reading.lowest.Tie as tie
 
-choice-requires : tie.Need-choice-requires
-choice-requires c κs = search needs
-
 returns : tie.Need-returns
 returns c = lowest-is _ _ (c .choice .ensures)
 
 pub lowest-spec : {M : Type 1} → statement M
-lowest-spec = tie.close (tie.spec choice-requires returns)
+lowest-spec = tie.close (tie.spec (λ c κs. search needs) returns)

@@ -4,9 +4,6 @@ use Rattle.interpolation.proofs.Settling.{extends-taken, extends-not}
 use Rattle.interpolation.proofs.settle.extend_if.Statement.{statement}
 use Rattle.interpolation.proofs.settle.extend_if.Tie as tie
 
-extend-own-requires : tie.Need-extend-own-requires
-extend-own-requires c κs = search needs
-
 returns : tie.Need-returns
 returns c = extends-taken (c .before .before .before .if1 .taken) (c .extend-own .ensures)
 
@@ -14,4 +11,4 @@ returns-2 : tie.Need-returns-2
 returns-2 c = extends-not (c .if1 .left)
 
 pub extend-if-spec : {M : Type 1} → statement M
-extend-if-spec = tie.close (tie.spec extend-own-requires returns returns-2)
+extend-if-spec = tie.close (tie.spec (λ c κs. search needs) returns returns-2)

@@ -23,30 +23,15 @@ Inv-loop m limit leads₀ flags rows₀ place₀ leads rows place =
 abbrev μ-loop : tie.MeasureT-loop
 μ-loop m limit leads₀ flags rows₀ place₀ leads rows place = 64 - place
 
-start-leads-requires : tie.Need-start-leads-requires Inv-loop μ-loop
-start-leads-requires c κs = search needs
-
-start-rows-requires : tie.Need-start-rows-requires Inv-loop μ-loop
-start-rows-requires c κs = search needs
-
 loop-holds : tie.Need-loop-holds Inv-loop μ-loop
 loop-holds c =
     let e = c .before .before .start-leads .ensures in
     (search needs, ap length e ∙ listed-length 8 (first 4 _), c .start-rows .ensures .as-long, λ word S. S)
 
-array-read-extend-if : tie.Need-array-read-extend-if Inv-loop μ-loop
-array-read-extend-if c = search needs
-
 extend-if-requires : tie.Need-extend-if-requires Inv-loop μ-loop
 extend-if-requires c κs =
     let i = c .before .before .before .loop .inv in
     (i .2, i .1, search needs, search needs)
-
-add-place : tie.Need-add-place Inv-loop μ-loop
-add-place c = search needs
-
-loop-less : tie.Need-loop-less Inv-loop μ-loop
-loop-less c = search needs
 
 loop-again : tie.Need-loop-again Inv-loop μ-loop
 loop-again c =
@@ -65,12 +50,12 @@ settle-spec =
     (tie.spec
     Inv-loop
     μ-loop
-    start-leads-requires
-    start-rows-requires
+    (λ c κs. search needs)
+    (λ c κs. search needs)
     loop-holds
-    array-read-extend-if
+    (λ c. search needs)
     extend-if-requires
-    add-place
-    loop-less
+    (λ c. search needs)
+    (λ c. search needs)
     loop-again
     returns)

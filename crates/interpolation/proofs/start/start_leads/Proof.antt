@@ -19,21 +19,6 @@ abbrev μ-loop : tie.MeasureT-loop
 loop-holds : tie.Need-loop-holds Inv-loop μ-loop
 loop-holds c = (search needs, listed-start _ _)
 
-start-lead-requires : tie.Need-start-lead-requires Inv-loop μ-loop
-start-lead-requires c κs = search needs
-
-mul-out : tie.Need-mul-out Inv-loop μ-loop
-mul-out c = search needs
-
-array-write-out : tie.Need-array-write-out Inv-loop μ-loop
-array-write-out c = search needs
-
-add-r : tie.Need-add-r Inv-loop μ-loop
-add-r c = search needs
-
-loop-less : tie.Need-loop-less Inv-loop μ-loop
-loop-less c = search needs
-
 loop-again : tie.Need-loop-again Inv-loop μ-loop
 loop-again c = (search needs, listed-store 0 _ (replicate 8 0) _ _ _ (search needs) (c .start-lead .ensures) (c .before .before .loop .inv .1))
 
@@ -49,10 +34,10 @@ start-leads-spec =
     Inv-loop
     μ-loop
     loop-holds
-    start-lead-requires
-    mul-out
-    array-write-out
-    add-r
-    loop-less
+    (λ c κs. search needs)
+    (λ c. search needs)
+    (λ c. search needs)
+    (λ c. search needs)
+    (λ c. search needs)
     loop-again
     returns)

@@ -17,29 +17,8 @@ Inv-loop rows₀ m powers symbols r₀ rows r = YPowers powers × (length rows�
 abbrev μ-loop : tie.MeasureT-loop
 μ-loop rows₀ m powers symbols r₀ rows r = classes - r
 
-y-powers-requires : tie.Need-y-powers-requires Inv-loop μ-loop
-y-powers-requires c κs = search needs
-
-planes-requires : tie.Need-planes-requires Inv-loop μ-loop
-planes-requires c κs = search needs
-
 loop-holds : tie.Need-loop-holds Inv-loop μ-loop
 loop-holds c = (c .before .y-powers .ensures, search needs, search needs, passed-start [] _ 0 _)
-
-start-row-requires : tie.Need-start-row-requires Inv-loop μ-loop
-start-row-requires c κs = search needs
-
-mul-t9 : tie.Need-mul-t9 Inv-loop μ-loop
-mul-t9 c = search needs
-
-element-set-from-rows : tie.Need-element-set-from-rows Inv-loop μ-loop
-element-set-from-rows c = search needs
-
-add-r : tie.Need-add-r Inv-loop μ-loop
-add-r c = search needs
-
-loop-less : tie.Need-loop-less Inv-loop μ-loop
-loop-less c = search needs
 
 loop-again : tie.Need-loop-again Inv-loop μ-loop
 loop-again c =
@@ -56,13 +35,13 @@ start-rows-spec =
     (tie.spec
     Inv-loop
     μ-loop
-    y-powers-requires
-    planes-requires
+    (λ c κs. search needs)
+    (λ c κs. search needs)
     loop-holds
-    start-row-requires
-    mul-t9
-    element-set-from-rows
-    add-r
-    loop-less
+    (λ c κs. search needs)
+    (λ c. search needs)
+    (λ c. search needs)
+    (λ c. search needs)
+    (λ c. search needs)
     loop-again
     returns)

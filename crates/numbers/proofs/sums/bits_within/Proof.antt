@@ -9,14 +9,8 @@ use Rattle.numbers.proofs.sums.bits_within.Tie as tie
 returns : tie.Need-returns
 returns c = subst (λ T. Most (BurstWithin T) 0) (sym (c .if1 .taken)) burst-none
 
-mul-result : tie.Need-mul-result
-mul-result c = search needs
-
-sub-result : tie.Need-sub-result
-sub-result c = search needs
-
 returns-2 : tie.Need-returns-2
 returns-2 c = burst-most _ (omega (arith, c .if1 .left))
 
 pub bits-within-spec : {M : Type 1} → statement M
-bits-within-spec = tie.close (tie.spec returns mul-result sub-result returns-2)
+bits-within-spec = tie.close (tie.spec returns (λ c. search needs) (λ c. search needs) returns-2)

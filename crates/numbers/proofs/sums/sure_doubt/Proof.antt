@@ -5,14 +5,8 @@ use Rattle.numbers.specs.Most.{room, sure-from}
 use Rattle.numbers.proofs.sums.sure_doubt.Statement.{statement}
 use Rattle.numbers.proofs.sums.sure_doubt.Tie as tie
 
-least-distance-requires : tie.Need-least-distance-requires
-least-distance-requires c κs = search needs
-
 sub-result : tie.Need-sub-result
 sub-result c = omega (arith, room (c .before .pre .0) (c .before .pre .1))
-
-reach-requires : tie.Need-reach-requires
-reach-requires c κs = search needs
 
 mul-result : tie.Need-mul-result
 mul-result c = omega (arith, room (c .before .before .pre .0) (c .before .before .pre .1))
@@ -27,4 +21,4 @@ returns : tie.Need-returns
 returns c = sure-from (c .before .before .pre .0) (c .before .before .pre .1) (c .before .least-distance .ensures) (c .reach .ensures)
 
 pub sure-doubt-spec : {M : Type 1} → statement M
-sure-doubt-spec = tie.close (tie.spec least-distance-requires sub-result reach-requires mul-result sub-result-2 sub-result-3 returns)
+sure-doubt-spec = tie.close (tie.spec (λ c κs. search needs) sub-result (λ c κs. search needs) mul-result sub-result-2 sub-result-3 returns)

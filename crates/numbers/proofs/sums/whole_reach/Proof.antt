@@ -5,11 +5,8 @@ use Rattle.candidate.specs.Ranged.{reach-small}
 use Rattle.numbers.proofs.sums.whole_reach.Statement.{statement}
 use Rattle.numbers.proofs.sums.whole_reach.Tie as tie
 
-reach-requires : tie.Need-reach-requires
-reach-requires c κs = search needs
-
 returns : tie.Need-returns
 returns c = (c .reach .ensures, omega (arith, c .reach .ensures, reach-small (c .before .args .k) 0))
 
 pub whole-reach-spec : {M : Type 1} → statement M
-whole-reach-spec = tie.close (tie.spec reach-requires returns)
+whole-reach-spec = tie.close (tie.spec (λ c κs. search needs) returns)

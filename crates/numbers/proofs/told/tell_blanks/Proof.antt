@@ -11,37 +11,16 @@ Inv-loop k blanks text named₀ i₀ named i = i ≤ length text
 abbrev μ-loop : tie.MeasureT-loop
 μ-loop k blanks text named₀ i₀ named i = length text - i
 
-loop-holds : tie.Need-loop-holds Inv-loop μ-loop
-loop-holds c = search needs
-
-shared-slice-read-write-one : tie.Need-shared-slice-read-write-one Inv-loop μ-loop
-shared-slice-read-write-one c = search needs
-
-write-one-requires : tie.Need-write-one-requires Inv-loop μ-loop
-write-one-requires c κs = search needs
-
-add-i : tie.Need-add-i Inv-loop μ-loop
-add-i c = search needs
-
-loop-less : tie.Need-loop-less Inv-loop μ-loop
-loop-less c = search needs
-
-loop-again : tie.Need-loop-again Inv-loop μ-loop
-loop-again c = search needs
-
-returns : tie.Need-returns Inv-loop μ-loop
-returns c = search needs
-
 pub tell-blanks-spec : {M : Type 1} → statement M
 tell-blanks-spec =
     tie.close
     (tie.spec
     Inv-loop
     μ-loop
-    loop-holds
-    shared-slice-read-write-one
-    write-one-requires
-    add-i
-    loop-less
-    loop-again
-    returns)
+    (λ c. search needs)
+    (λ c. search needs)
+    (λ c κs. search needs)
+    (λ c. search needs)
+    (λ c. search needs)
+    (λ c. search needs)
+    (λ c. search needs))

@@ -5,20 +5,11 @@ use Rattle.parts.proofs.Shown.{shown-plain, shown-last, shown-z}
 use Rattle.parts.proofs.bytes.shown.Statement.{statement}
 use Rattle.parts.proofs.bytes.shown.Tie as tie
 
-array-read-result : tie.Need-array-read-result
-array-read-result c = search needs
-
 returns : tie.Need-returns
 returns c = shown-plain _ _ _ (search needs)
 
 returns-2 : tie.Need-returns-2
 returns-2 c = shown-last _ _ _ (search needs) (c .if2 .taken)
-
-sub-result : tie.Need-sub-result
-sub-result c = search needs
-
-array-read-result-2 : tie.Need-array-read-result-2
-array-read-result-2 c = search needs
 
 returns-3 : tie.Need-returns-3
 returns-3 c = shown-z _ _ _ (omega arith)
@@ -26,4 +17,4 @@ returns-3 c = shown-z _ _ _ (omega arith)
 pub shown-spec : {M : Type 1} → statement M
 shown-spec =
     tie.close
-    (tie.spec array-read-result returns returns-2 sub-result array-read-result-2 returns-3)
+    (tie.spec (λ c. search needs) returns returns-2 (λ c. search needs) (λ c. search needs) returns-3)

@@ -4,14 +4,8 @@ use Rattle.parts.proofs.Splitting.{second-read}
 use Rattle.parts.proofs.orders.with_z.Statement.{statement}
 use Rattle.parts.proofs.orders.with_z.Tie as tie
 
-slope-requires : tie.Need-slope-requires
-slope-requires c κs = search needs
-
-coefficients-requires : tie.Need-coefficients-requires
-coefficients-requires c κs = search needs
-
 returns : tie.Need-returns
 returns c = second-read _ (c .before .slope .ensures) (c .coefficients .ensures)
 
 pub with-z-spec : {M : Type 1} → statement M
-with-z-spec = tie.close (tie.spec slope-requires coefficients-requires returns)
+with-z-spec = tie.close (tie.spec (λ c κs. search needs) (λ c κs. search needs) returns)

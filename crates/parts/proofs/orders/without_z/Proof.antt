@@ -4,24 +4,6 @@ use Rattle.parts.proofs.Splitting.{first-read}
 use Rattle.parts.proofs.orders.without_z.Statement.{statement}
 use Rattle.parts.proofs.orders.without_z.Tie as tie
 
-whole-requires : tie.Need-whole-requires
-whole-requires c κs = search needs
-
-planes-requires : tie.Need-planes-requires
-planes-requires c κs = search needs
-
-slope-requires : tie.Need-slope-requires
-slope-requires c κs = search needs
-
-times-requires : tie.Need-times-requires
-times-requires c κs = search needs
-
-sum-requires : tie.Need-sum-requires
-sum-requires c κs = search needs
-
-coefficients-requires : tie.Need-coefficients-requires
-coefficients-requires c κs = search needs
-
 returns : tie.Need-returns
 returns c =
     first-read _ _ _ (c .before .before .before .before .before .whole .ensures) (c .before .before .before .before .planes .ensures) (c .before .before .before .slope .ensures)
@@ -31,10 +13,10 @@ pub without-z-spec : {M : Type 1} → statement M
 without-z-spec =
     tie.close
     (tie.spec
-    whole-requires
-    planes-requires
-    slope-requires
-    times-requires
-    sum-requires
-    coefficients-requires
+    (λ c κs. search needs)
+    (λ c κs. search needs)
+    (λ c κs. search needs)
+    (λ c κs. search needs)
+    (λ c κs. search needs)
+    (λ c κs. search needs)
     returns)

@@ -6,30 +6,6 @@ use borrow.Author.Needs.{needs}
 use Rattle.planes.proofs.words.planes.Statement.{statement}
 use Rattle.planes.proofs.words.planes.Tie as tie
 
-sixteen-requires : tie.Need-sixteen-requires
-sixteen-requires c κs = search needs
-
-sixteen-requires-2 : tie.Need-sixteen-requires-2
-sixteen-requires-2 c κs = search needs
-
-sixteen-requires-3 : tie.Need-sixteen-requires-3
-sixteen-requires-3 c κs = search needs
-
-sixteen-requires-4 : tie.Need-sixteen-requires-4
-sixteen-requires-4 c κs = search needs
-
-joined-requires : tie.Need-joined-requires
-joined-requires c κs = search needs
-
-joined-requires-2 : tie.Need-joined-requires-2
-joined-requires-2 c κs = search needs
-
-joined-requires-3 : tie.Need-joined-requires-3
-joined-requires-3 c κs = search needs
-
-joined-requires-4 : tie.Need-joined-requires-4
-joined-requires-4 c κs = search needs
-
 returns : tie.Need-returns
 unfolding planeOf
 returns c =
@@ -44,12 +20,12 @@ pub planes-spec : {M : Type 1} → statement M
 planes-spec =
     tie.close
     (tie.spec
-    sixteen-requires
-    sixteen-requires-2
-    sixteen-requires-3
-    sixteen-requires-4
-    joined-requires
-    joined-requires-2
-    joined-requires-3
-    joined-requires-4
+    (λ c κs. search needs)
+    (λ c κs. search needs)
+    (λ c κs. search needs)
+    (λ c κs. search needs)
+    (λ c κs. search needs)
+    (λ c κs. search needs)
+    (λ c κs. search needs)
+    (λ c κs. search needs)
     returns)

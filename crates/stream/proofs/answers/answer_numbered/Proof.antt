@@ -7,27 +7,6 @@ use Rattle.stream.proofs.Answering.{leaves-as, numbered-open, numbered-
 use Rattle.stream.proofs.answers.answer_numbered.Statement.{statement}
 use Rattle.stream.proofs.answers.answer_numbered.Tie as tie
 
-open-requires : tie.Need-open-requires
-open-requires c κs = search needs
-
-deliver-requires : tie.Need-deliver-requires
-deliver-requires c κs = search needs
-
-read-requires : tie.Need-read-requires
-read-requires c κs = search needs
-
-write-capture-requires : tie.Need-write-capture-requires
-write-capture-requires c κs = search needs
-
-close-requires : tie.Need-close-requires
-close-requires c κs = search needs
-
-look-up-requires : tie.Need-look-up-requires
-look-up-requires c κs = search needs
-
-withdraw-requires : tie.Need-withdraw-requires
-withdraw-requires c κs = search needs
-
 returns : tie.Need-returns
 returns c =
     let a = c .before .before .before .args in
@@ -74,13 +53,13 @@ pub answer-numbered-spec : {M : Type 1} → statement M
 answer-numbered-spec =
     tie.close
     (tie.spec
-    open-requires
-    deliver-requires
-    read-requires
-    write-capture-requires
-    close-requires
-    look-up-requires
-    withdraw-requires
+    (λ c κs. search needs)
+    (λ c κs. search needs)
+    (λ c κs. search needs)
+    (λ c κs. search needs)
+    (λ c κs. search needs)
+    (λ c κs. search needs)
+    (λ c κs. search needs)
     returns
     returns-2
     returns-3

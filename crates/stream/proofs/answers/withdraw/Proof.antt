@@ -4,12 +4,9 @@ use Rattle.stream.specs.Changes.{changeBy}
 use Rattle.stream.proofs.answers.withdraw.Statement.{statement}
 use Rattle.stream.proofs.answers.withdraw.Tie as tie
 
-lend-requires : tie.Need-lend-requires
-lend-requires c κs = search needs
-
 returns : tie.Need-returns
 unfolding changeBy
 returns c = c .lend .ensures
 
 pub withdraw-spec : {M : Type 1} → statement M
-withdraw-spec = tie.close (tie.spec lend-requires returns)
+withdraw-spec = tie.close (tie.spec (λ c κs. search needs) returns)

@@ -10,9 +10,6 @@ use borrow.Author.Needs.{needs}
 use Rattle.superframe.proofs.building.build.Statement.{statement}
 use Rattle.superframe.proofs.building.build.Tie as tie
 
-known-rate-requires : tie.Need-known-rate-requires
-known-rate-requires c κs = search needs
-
 returns : tie.Need-returns
 returns c = sym (build-rate _ _ _ (sym (c .before .known-rate .ensures) ∙ not-true _ (c .if1 .taken)))
 
@@ -25,9 +22,6 @@ returns-2 c = sym (build-size _ _ _ (sym (c .before .before .known-rate .ensures
 returns-3 : tie.Need-returns-3
 returns-3 c = sym (build-size _ _ _ (sym (c .before .before .before .known-rate .ensures) ∙ not-false _ (c .before .before .if1 .left)) (inr (c .if3 .taken)))
 
-symbols-only-requires : tie.Need-symbols-only-requires
-symbols-only-requires c κs = search needs
-
 returns-4 : tie.Need-returns-4
 returns-4 c = sym (build-symbol _ _ _ (sym (c .before .before .before .before .before .known-rate .ensures) ∙ not-false _ (c .before .before .before .before .if1 .left)) (c .before .before .before .if2 .left) (c .before .before .if3 .left) (sym (c .before .symbols-only .ensures) ∙ not-true _ (c .if4 .taken)))
 
@@ -37,18 +31,6 @@ codewords-requires c κs = (sym (c .before .before .before .before .before .know
 cast-bytes-of : tie.Need-cast-bytes-of
 cast-bytes-of c = omega (arith, known-bounds _ (sym (c .before .before .before .before .before .before .known-rate .ensures) ∙ not-false _ (c .before .before .before .before .before .if1 .left)))
 
-bytes-of-requires : tie.Need-bytes-of-requires
-bytes-of-requires c κs = search needs
-
-slice-aggregate-copy : tie.Need-slice-aggregate-copy
-slice-aggregate-copy c = search needs
-
-copy-requires : tie.Need-copy-requires
-copy-requires c κs = search needs
-
-same-length : tie.Need-same-length
-same-length c = search needs
-
 returns-5 : tie.Need-returns-5
 returns-5 c = build-done _ _ _ (sym (c .before .before .before .before .before .before .before .before .before .before .before .before .before .known-rate .ensures) ∙ not-false _ (c .before .before .before .before .before .before .before .before .before .before .before .before .if1 .left)) (c .before .before .before .before .before .before .before .before .before .before .before .if2 .left) (c .before .before .before .before .before .before .before .before .before .before .if3 .left) (sym (c .before .before .before .before .before .before .before .before .before .symbols-only .ensures) ∙ not-false _ (c .before .before .before .before .before .before .before .before .if4 .left)) (c .before .before .before .before .before .before .before .codewords .ensures) (c .before .before .before .before .before .bytes-of .ensures) (c .before .before .copy .ensures)
 
@@ -56,17 +38,17 @@ pub build-spec : {M : Type 1} → statement M
 build-spec =
     tie.close
     (tie.spec
-    known-rate-requires
+    (λ c κs. search needs)
     returns
     mul-if2
     returns-2
     returns-3
-    symbols-only-requires
+    (λ c κs. search needs)
     returns-4
     codewords-requires
     cast-bytes-of
-    bytes-of-requires
-    slice-aggregate-copy
-    copy-requires
-    same-length
+    (λ c κs. search needs)
+    (λ c. search needs)
+    (λ c κs. search needs)
+    (λ c. search needs)
     returns-5)

@@ -17,18 +17,6 @@ returns-3 c = byte-low _ _ (c .if3 .taken)
 returns-4 : tie.Need-returns-4
 returns-4 c = byte-rate _ _ (c .if4 .taken)
 
-sub-symbol : tie.Need-sub-symbol
-sub-symbol c = search needs
-
-mul-word : tie.Need-mul-word
-mul-word c = search needs
-
-element-copy-out-word : tie.Need-element-copy-out-word
-element-copy-out-word c = search needs
-
-array-read-result : tie.Need-array-read-result
-array-read-result c = search needs
-
 returns-5 : tie.Need-returns-5
 returns-5 c = byte-symbol _ _ _ (search needs) (c .before .before .before .before .before .pre .1)
 
@@ -40,8 +28,8 @@ byte-of-spec =
     returns-2
     returns-3
     returns-4
-    sub-symbol
-    mul-word
-    element-copy-out-word
-    array-read-result
+    (λ c. search needs)
+    (λ c. search needs)
+    (λ c. search needs)
+    (λ c. search needs)
     returns-5)

@@ -28,29 +28,8 @@ mul-at c = omega (arith, row-end (c .before .before .before .args .rate) (c .bef
 add-end : tie.Need-add-end Inv-loop μ-loop
 add-end c = omega (arith, row-end (c .before .before .before .args .rate) (c .before .loop .v) words (c .loop-test .taken), known-bounds _ (c .before .before .before .pre .0))
 
-sub-codeword-of : tie.Need-sub-codeword-of Inv-loop μ-loop
-sub-codeword-of c = search needs
-
-part-codeword-of-start : tie.Need-part-codeword-of-start Inv-loop μ-loop
-part-codeword-of-start c = search needs
-
 part-codeword-of-end : tie.Need-part-codeword-of-end Inv-loop μ-loop
 part-codeword-of-end c = omega (arith, row-end (c .before .before .before .args .rate) (c .before .loop .v) words (c .loop-test .taken), c .before .before .before .pre .1)
-
-codeword-of-requires : tie.Need-codeword-of-requires Inv-loop μ-loop
-codeword-of-requires c κs = search needs
-
-mul-out : tie.Need-mul-out Inv-loop μ-loop
-mul-out c = search needs
-
-array-set-from-out : tie.Need-array-set-from-out Inv-loop μ-loop
-array-set-from-out c = search needs
-
-add-v : tie.Need-add-v Inv-loop μ-loop
-add-v c = search needs
-
-loop-less : tie.Need-loop-less Inv-loop μ-loop
-loop-less c = search needs
 
 loop-again : tie.Need-loop-again Inv-loop μ-loop
 loop-again c = filled-turn [] (c .before .before .before .loop .inv) _ (search needs) (c .codeword-of .ensures ∙ part-encoded _ _ _ (c .before .before .before .before .before .pre .0))
@@ -67,13 +46,13 @@ codewords-spec =
     loop-holds
     mul-at
     add-end
-    sub-codeword-of
-    part-codeword-of-start
+    (λ c. search needs)
+    (λ c. search needs)
     part-codeword-of-end
-    codeword-of-requires
-    mul-out
-    array-set-from-out
-    add-v
-    loop-less
+    (λ c κs. search needs)
+    (λ c. search needs)
+    (λ c. search needs)
+    (λ c. search needs)
+    (λ c. search needs)
     loop-again
     returns)

@@ -18,12 +18,6 @@ returns-2 c =
       le-ltb (c .before .before .args .place) (length (c .before .before .args .v .now)) (c .if2 .taken),
     )
 
-shared-slice-read-result : tie.Need-shared-slice-read-result
-shared-slice-read-result c = search needs
-
-shared-slice-read-result-2 : tie.Need-shared-slice-read-result-2
-shared-slice-read-result-2 c = search needs
-
 returns-3 : tie.Need-returns-3
 unfolding agree
 returns-3 c =
@@ -36,4 +30,4 @@ returns-3 c =
 pub agreeing-spec : {M : Type 1} → statement M
 agreeing-spec =
     tie.close
-    (tie.spec returns returns-2 shared-slice-read-result shared-slice-read-result-2 returns-3)
+    (tie.spec returns returns-2 (λ c. search needs) (λ c. search needs) returns-3)

@@ -7,17 +7,11 @@ use borrow.Author.Needs.{needs}
 use Rattle.totals.proofs.total.changed.Statement.{statement}
 use Rattle.totals.proofs.total.changed.Tie as tie
 
-blanks-requires : tie.Need-blanks-requires
-blanks-requires c κs = search needs
-
 sub-result : tie.Need-sub-result
 sub-result c = omega (arith, c .blanks .ensures, count-both places (flagAt (c .before .args .flags)))
-
-cast-result : tie.Need-cast-result
-cast-result c = search needs
 
 returns : tie.Need-returns
 returns c = omega (arith, c .blanks .ensures, count-both places (flagAt (c .before .args .flags)))
 
 pub changed-spec : {M : Type 1} → statement M
-changed-spec = tie.close (tie.spec blanks-requires sub-result cast-result returns)
+changed-spec = tie.close (tie.spec (λ c κs. search needs) sub-result (λ c. search needs) returns)

@@ -21,33 +21,6 @@ abbrev μ-loop : tie.MeasureT-loop
 loop-holds : tie.Need-loop-holds Inv-loop μ-loop
 loop-holds c = (omega arith, listed-start _ _)
 
-byte-at-requires : tie.Need-byte-at-requires Inv-loop μ-loop
-byte-at-requires c κs = search needs
-
-array-read-is-changed : tie.Need-array-read-is-changed Inv-loop μ-loop
-array-read-is-changed c = search needs
-
-array-read-is-changed-2 : tie.Need-array-read-is-changed-2 Inv-loop μ-loop
-array-read-is-changed-2 c = search needs
-
-is-changed-requires : tie.Need-is-changed-requires Inv-loop μ-loop
-is-changed-requires c κs = search needs
-
-bit-requires : tie.Need-bit-requires Inv-loop μ-loop
-bit-requires c κs = search needs
-
-cast-out : tie.Need-cast-out Inv-loop μ-loop
-cast-out c = search needs
-
-array-write-out : tie.Need-array-write-out Inv-loop μ-loop
-array-write-out c = search needs
-
-add-place : tie.Need-add-place Inv-loop μ-loop
-add-place c = search needs
-
-loop-less : tie.Need-loop-less Inv-loop μ-loop
-loop-less c = search needs
-
 loop-again : tie.Need-loop-again Inv-loop μ-loop
 loop-again c = (
   omega arith,
@@ -68,14 +41,14 @@ changed-places-spec =
     Inv-loop
     μ-loop
     loop-holds
-    byte-at-requires
-    array-read-is-changed
-    array-read-is-changed-2
-    is-changed-requires
-    bit-requires
-    cast-out
-    array-write-out
-    add-place
-    loop-less
+    (λ c κs. search needs)
+    (λ c. search needs)
+    (λ c. search needs)
+    (λ c κs. search needs)
+    (λ c κs. search needs)
+    (λ c. search needs)
+    (λ c. search needs)
+    (λ c. search needs)
+    (λ c. search needs)
     loop-again
     returns)

@@ -20,29 +20,11 @@ abbrev μ-loop : tie.MeasureT-loop
 loop-holds : tie.Need-loop-holds Inv-loop μ-loop
 loop-holds c = (omega arith, omega arith, sym (count-nil _))
 
-array-read-bit : tie.Need-array-read-bit Inv-loop μ-loop
-array-read-bit c = search needs
-
-bit-requires : tie.Need-bit-requires Inv-loop μ-loop
-bit-requires c κs = search needs
-
-agreeing-requires : tie.Need-agreeing-requires Inv-loop μ-loop
-agreeing-requires c κs = search needs
-
-bit-requires-2 : tie.Need-bit-requires-2 Inv-loop μ-loop
-bit-requires-2 c κs = search needs
-
 mul-n : tie.Need-mul-n Inv-loop μ-loop
 mul-n c = omega (arith, both-le (c .before .before .bit .ensures .1) (c .bit2 .ensures .1))
 
 add-n : tie.Need-add-n Inv-loop μ-loop
 add-n c = omega (arith, both-le (c .before .before .bit .ensures .1) (c .bit2 .ensures .1))
-
-add-place : tie.Need-add-place Inv-loop μ-loop
-add-place c = search needs
-
-loop-less : tie.Need-loop-less Inv-loop μ-loop
-loop-less c = search needs
 
 loop-again : tie.Need-loop-again Inv-loop μ-loop
 loop-again c =
@@ -68,13 +50,13 @@ differing-in-spec =
     Inv-loop
     μ-loop
     loop-holds
-    array-read-bit
-    bit-requires
-    agreeing-requires
-    bit-requires-2
+    (λ c. search needs)
+    (λ c κs. search needs)
+    (λ c κs. search needs)
+    (λ c κs. search needs)
     mul-n
     add-n
-    add-place
-    loop-less
+    (λ c. search needs)
+    (λ c. search needs)
     loop-again
     returns)

@@ -20,24 +20,6 @@ abbrev μ-loop : tie.MeasureT-loop
 loop-holds : tie.Need-loop-holds Inv-loop μ-loop
 loop-holds c = (omega arith, omega arith, sym (count-nil _))
 
-byte-at-requires : tie.Need-byte-at-requires Inv-loop μ-loop
-byte-at-requires c κs = search needs
-
-cost-of-requires : tie.Need-cost-of-requires Inv-loop μ-loop
-cost-of-requires c κs = search needs
-
-bit-requires : tie.Need-bit-requires Inv-loop μ-loop
-bit-requires c κs = search needs
-
-add-n : tie.Need-add-n Inv-loop μ-loop
-add-n c = search needs
-
-add-place : tie.Need-add-place Inv-loop μ-loop
-add-place c = search needs
-
-loop-less : tie.Need-loop-less Inv-loop μ-loop
-loop-less c = search needs
-
 loop-again : tie.Need-loop-again Inv-loop μ-loop
 loop-again c = (
   omega arith,
@@ -46,9 +28,6 @@ loop-again c = (
       (c .bit .ensures .0 ∙ ap (λ x. bit (eqb x 65535))
       (cost-in _ (c .before .before .before .before .before .before .before .args .word .now) _ _ _ (c .before .before .byte-at .ensures) (c .before .cost-of .ensures))),
 )
-
-cast-result : tie.Need-cast-result Inv-loop μ-loop
-cast-result c = search needs
 
 returns : tie.Need-returns Inv-loop μ-loop
 unfolding pinnedOf
@@ -63,12 +42,12 @@ pinned-spec =
     Inv-loop
     μ-loop
     loop-holds
-    byte-at-requires
-    cost-of-requires
-    bit-requires
-    add-n
-    add-place
-    loop-less
+    (λ c κs. search needs)
+    (λ c κs. search needs)
+    (λ c κs. search needs)
+    (λ c. search needs)
+    (λ c. search needs)
+    (λ c. search needs)
     loop-again
-    cast-result
+    (λ c. search needs)
     returns)
