@@ -83,6 +83,9 @@ module _ {F : Type 0} (K : Field F) where
   pub zero-mul : (a : F) → 𝟘 ⊗ a ≡ 𝟘
   zero-mul a = mul-comm 𝟘 a ∙ mul-zero a
 
+  -- decides identities of sums and products in characteristic 2: both sides come to one sorted sum of sorted products
+  pub ruleset ring = (add-assoc, add-comm, add-left-comm, add-zero, zero-add, add-self, add-self-left, mul-assoc, mul-comm, mul-left-comm, mul-one, one-mul, mul-zero, zero-mul, mul-add, add-mul)
+
   -- a product of products, factor by factor
   pub mul-swap : (a b c d : F) → (a ⊗ b) ⊗ (c ⊗ d) ≡ (a ⊗ c) ⊗ (b ⊗ d)
   mul-swap a b c d = simp (mul-assoc, mul-left-comm)

@@ -25,7 +25,7 @@ use Rattle.chase.specs.Call.{Asked, nearestOf}
 use Rattle.chase.specs.Laws.{nearest-asked}
 use Rattle.answers.specs.Nearest.{Nearest}
 use Rattle.candidate.specs.Settled.{settled-decided}
-use Rattle.candidate.specs.OpenFlags.{OpenFlags, limit-marked}
+use Rattle.candidate.specs.OpenFlags.{OpenFlags, limit-flagged}
 use Rattle.candidate.specs.Ranged.{known-range, workable}
 use Rattle.known.specs.Known.{governsOf, WithinOf, answerHere}
 use Rattle.known.specs.Governing.{sound-below, governs-only, governed-nearest}
@@ -102,7 +102,7 @@ module _ (k : ℕ) (costs doubtful : List ℕ) (doubt : ℕ) (f : Finding) (coun
           nodes = settled word flags places;
           decided = settled-decided word flags m16 (openAt columns) doubled F;
           all-open = λ p i. unblanked-member (openAt columns) (take doubt doubtful) p i .1;
-          stored = subst₂ (λ n l. Stored n word l (settled word flags places) rows leads) m-is (L-is ∙ limit-marked M) B;
+          stored = subst₂ (λ n l. Stored n word l (settled word flags places) rows leads) m-is (L-is ∙ limit-flagged M) B;
         })
         doubled-places)
         sound

@@ -29,7 +29,7 @@ use Rattle.near.specs.Near as Near
 use Rattle.near.specs.Runner.{margin-governed}
 use Rattle.near.specs.Within as Within
 use Rattle.near.specs.Governing.{Governed, Only, expand-outside, governed-outside, governed-only, within-tests, within-some, within-none}
-use Rattle.candidate.specs.OpenFlags.{OpenFlags, reach-marked, differing-marked}
+use Rattle.candidate.specs.OpenFlags.{OpenFlags, reach-flagged, differing-flagged}
 use Rattle.answers.specs.declared.Answer.{Answer}
 use Rattle.answers.specs.declared.Answer.the-variants.{NoneNear, Near}
 use Rattle.answers.specs.declared.Finding.{Finding}
@@ -94,7 +94,7 @@ module _ {k : ℕ} {columns : ℕ → List ℕ} {known : Finding} (s : Sound k c
         let close : differingIn (flagAt counts) places c (filledOf c word ps) + length ps + reachOf k b < places - mOf k - b = ltb-true _ _ e in
         let g : Governed m16 on T k c t =
         governed-outside m16 on T k c word P size
-        (omega (arith, close, differing-marked marked c (filledOf c word ps), reach-marked marked, marked .number, open-count places columns)) t
+        (omega (arith, close, differing-flagged marked c (filledOf c word ps), reach-flagged marked, marked .number, open-count places columns)) t
         (expand-outside places columns word ps size t i) in
         governed-only m16 on T rate (s .word) t n (subst (λ u. Governed m16 on T k u t) (s .encoded) g) f
 
@@ -105,7 +105,7 @@ module _ {k : ℕ} {columns : ℕ → List ℕ} {known : Finding} (s : Sound k c
       where
         count : tests ≡ Within.testsWithin m16 on T (encodeOf k m) ts
         count =
-            within ∙ ap₂ (λ f r. Within.testsWithin m16 f r (known .codeword) ts) (marked .flags) (reach-marked marked)
+            within ∙ ap₂ (λ f r. Within.testsWithin m16 f r (known .codeword) ts) (marked .flags) (reach-flagged marked)
             ∙ ap (λ u. Within.testsWithin m16 on T u ts) (s .encoded)
 
         go : Dec (tests ≡ 0) → Nearest k columns ts (answerHere columns known tests)

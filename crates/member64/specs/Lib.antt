@@ -1,2 +1,1 @@
 pub mod Member64
-pub mod Ground

@@ -1,1 +1,1 @@
-// GF(64) with w = 8 as a member of the family: its computed tests, and what the family then says of its 512 places. No code.
+// GF(64) with w = 8 as a member of the family, by its computed tests. No code.

@@ -5,10 +5,13 @@
 --                        1, no codeword of the rate costs less than that of the message (`book` Cheapest)
 --   TableTold, BelowTold, BitsTold, SessionTold   the call answers as the book says, and tells this; of a session that is good
 --   ColumnTold bytes p part   a look-up hands back what the book says: for an accepted capture and a place below 64 the bytes of that place's column
+--   WrittenAgain bytes before r after   an accepted capture, opened and written into a buffer of its size, is accepted, and has its bytes again exactly if its
+--                        records are in place order
 --   table-told, below-told, bits-told, session-told, column-told   so it is, of bytes and of costs of 16 bits
 use mathlib.Core.Bool.{Bool, true, false}
 use mathlib.Core.Path.{_≡_, refl, sym, ap, _∙_, subst, subst₂}
 use mathlib.Core.List.{List}
+use mathlib.Core.Logic.{_↔_}
 use mathlib.Core.Option.{some}
 use Prim.Native.Nat.{ℕ, _+_, _*_, _<_, _≤_}
 use native.Mathlib.Decide.{decLt, ℕ-discrete}
@@ -26,12 +29,13 @@ use Rattle.soft.specs.Doubt.{doubtfulOf}
 use Rattle.code.specs.Encoding.{knownRate}
 use Rattle.book.specs.Model.{modem64}
 use Rattle.book.specs.Book.{columnIn}
-use Rattle.book.specs.CaptureOpening.{openCaptureOf}
+use Rattle.book.specs.CaptureOpening.{recordsIn, openCaptureOf}
 use Rattle.book.specs.Closing.{Closed}
 use Rattle.book.specs.ClosingLaws.{refused-number, close-report}
 use Rattle.book.specs.LookUp.{lookUpOf}
 use Rattle.book.specs.LookUpLaws.{look-up-column}
 use Rattle.book.specs.Marked.{Cheapest, table-marked, shows-cheapest, close-word}
+use Rattle.book.specs.PlaceOrder.{InPlaceOrder}
 use Rattle.book.specs.Report.{ShowsFor, Reported, table-shows, report-shows}
 use Rattle.book.specs.OpeningLaws.{list-short}
 use Rattle.book.specs.Table.{closed, table-rate, checks-passed}
@@ -40,11 +44,15 @@ use Rattle.book.specs.Bits.{bits-as-table, bits-refused, made-columns}
 use Rattle.book.specs.Table as Table
 use Rattle.book.specs.Here.{places, width, markIn, mark-byte, columnsOf, closeOf, tableColumns, pickedOf, pickedBelow, tableOf, tableBelowOf, frameLength, power, tableMade, bitsOf, checksOf, AreColumns}
 use Rattle.session.specs.declared.Session.{Session}
+use Rattle.session.specs.declared.Opened.{Opened}
 use Rattle.session.specs.Answering.{Closing}
+use Rattle.session.specs.Calls.{Opening}
 use Rattle.session.specs.View.{held, bookOf, Good}
 use Rattle.session.specs.Held as Fields
 use Rattle.session.specs.HeldLaws.{columns-table}
 use Rattle.session.specs.Laws.{good-proper}
+use Rattle.capture.specs.Calls.{Writing}
+use Rattle.capture.specs.Laws.{open-then-write}
 
 pub record Told (k : ℕ) (columns : ℕ → List ℕ) (doubtful : List ℕ) (c : Closed) : Type 0 where
   pub shows : c .number ≡ accepted → Reported modem64 k columns doubtful c
@@ -70,6 +78,10 @@ pub record ColumnTold (bytes : List ℕ) (p : ℕ) (part : List ℕ) : Type 0 wh
   pub answers : part ≡ lookUpOf bytes p
   pub tells : p < 64 → openCaptureOf bytes .number ≡ accepted
       → (column : List ℕ) × (columnIn (openCaptureOf bytes .book .row) p ≡ some column) × (part ≡ costBytes column)
+
+pub record WrittenAgain (bytes before : List ℕ) (r : ℕ) (after : List ℕ) : Type 0 where
+  pub accepts : openCaptureOf bytes .number ≡ accepted → length before ≡ length bytes → r ≡ accepted
+  pub gives : openCaptureOf bytes .number ≡ accepted → length before ≡ length bytes → ((after ≡ bytes) ↔ InPlaceOrder (recordsIn bytes))
 
 -- ---- tables
 
@@ -217,3 +229,11 @@ by-closing {s} {message} {report} {message′} {report′} {r} c small =
 
 pub by-look-up : {bytes part : List ℕ} {p : ℕ} → part ≡ lookUpOf bytes p → below 256 bytes ≡ true → ColumnTold bytes p part
 by-look-up {bytes} {part} {p} e small = subst (ColumnTold bytes p) (sym e) (column-told bytes p small)
+
+pub by-opening : {bytes before after : List ℕ} {r : ℕ} {o : Opened} → Opening (openCaptureOf bytes) o → Writing (o .session) before r after
+    → below 256 bytes ≡ true → WrittenAgain bytes before r after
+by-opening {bytes} {before} {after} {r} {o} d w small =
+    record {
+      accepts = λ n e. open-then-write bytes before after r o small d (d .number ∙ n) e w .0;
+      gives = λ n e. open-then-write bytes before after r o small d (d .number ∙ n) e w .1;
+    }

@@ -1,8 +1,8 @@
 // What a call's report holds and what its mark means, as promises of functions that make the call and nothing else: where it is accepted, the report's bytes hold
-// the numbers of the answer, none of them cut, and an answer with the mark is the cheapest of all codewords. And what a look-up hands back is the column's bytes.
+// the numbers of the answer, none of them cut, and an answer with the mark is the cheapest of all codewords. And what a look-up hands back is the column's bytes, and what opening a capture and writing the session gives is the capture in place order.
 // That bytes are bytes and costs have 16 bits is taken from the types (`ranges`), so that nothing is left to the caller.
 ghost use Rattle.book.specs.Table.{closed};
-ghost use Rattle.promises.specs.Told.{TableTold, BelowTold, BitsTold, SessionTold, ColumnTold};
+ghost use Rattle.promises.specs.Told.{TableTold, BelowTold, BitsTold, SessionTold, ColumnTold, WrittenAgain};
 use session::Session;
 
 pub fn decode_table(
@@ -57,4 +57,13 @@ pub fn look_up<'a>(capture: &'a [u8], place: usize) -> &'a [u8]
 {
     ranges::bytes(capture);
     look_up::look_up(capture, place)
+}
+
+// The two calls one after the other.
+pub fn write_again(capture: &[u8], out: &mut [u8]) -> u8
+    ensures { λ r. ⌜ WrittenAgain (now (capture .entry)) (now (out .entry)) r (now (out .exit)) ⌝ }
+{
+    ranges::bytes(capture);
+    let opened = opening::open_capture(capture);
+    writing::write_capture(opened.session, out)
 }

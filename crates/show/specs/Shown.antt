@@ -3,9 +3,10 @@
 --   answerLines book c   `rate d total tests pinned changed margin`, then the message; `refused N` if closing was refused
 --   closedOf book        what closing answers into buffers of zeros
 --   shownOf bytes        of the capture's book, closed; `refused N` if opening was refused
---   shown-answer         where both are accepted: the two lines, and the report that they are of shows the numbers of the answer
---   shown-numbers        so the first line has the rate, d, and the answer's total, test words with a codeword within T, pinned and changed places and
---                        margin, or a dash where there is none; and the second line has its message
+--   numbersLines book c  a first line with the rate, d, and the total of the codeword of c's message, the test words with a codeword within T, the
+--                        codeword's pinned and changed places and its margin, or a dash where there is none; a second line with the message
+--   Shown bytes lines    where opening and closing are accepted: the report shows the numbers of the answer, and the lines are these
+--   shown-numbers        so are those that the program prints
 use mathlib.Core.Bool.{true, cond}
 use mathlib.Core.Path.{_≡_, ap, _∙_}
 use mathlib.Core.List.{List, _++_}
@@ -42,29 +43,34 @@ openedLines o = cond (eqb (o .number) accepted) (closedLines (o .book)) (refused
 unfoldable pub shownOf : List ℕ → List ℕ
 shownOf bytes = openedLines (openCaptureOf bytes)
 
-module _ (bytes : List ℕ) (small : below 256 bytes ≡ true) (opened : openCaptureOf bytes .number ≡ accepted) where
-  -- what the capture closes with
-  abbrev pub book : Book
-  book = openCaptureOf bytes .book
+unfoldable pub numbersLines : Book → Closed → List ℕ
+numbersLines book c =
+    (numberLine (book .rate) space ++ numberLine (length (book .doubtful)) space
+    ++ numberLine (totalOf 64 (columnsOf (book .row)) (encodeOf (book .rate) (c .message))) space
+    ++ numberLine (testsFor (book .rate) (columnsOf (book .row)) (book .doubtful)) space
+    ++ numberLine (pinnedOf 64 (columnsOf (book .row)) (encodeOf (book .rate) (c .message))) space
+    ++ numberLine (changedOf 64 (columnsOf (book .row)) (encodeOf (book .rate) (c .message))) space
+    ++ marginText (marginFor (book .rate) (columnsOf (book .row)) (book .doubtful) (c .message)))
+    ++ messageLine (c .message)
 
-  pub shown-answer : closedOf book .number ≡ accepted
-      → (shownOf bytes ≡ headingOf (book .rate) (length (book .doubtful)) (closedOf book .report) ++ messageLine (closedOf book .message))
-      × ReportedIn book (closedOf book)
-  unfolding shownOf openedLines closedLines answerLines
-  shown-answer n = (
-    rw (eq-eqb (openCaptureOf bytes .number) accepted opened, eq-eqb (closedOf (openCaptureOf bytes .book) .number) accepted n),
-    capture-shows bytes small opened _ _ n,
-  )
+pub record ShownFor (lines : List ℕ) (book : Book) : Type 0 where
+  pub shows : ReportedIn book (closedOf book)
+  pub lines-are : lines ≡ numbersLines book (closedOf book)
 
-  pub shown-numbers : closedOf book .number ≡ accepted
-      → shownOf bytes
-      ≡ (numberLine (book .rate) space ++ numberLine (length (book .doubtful)) space
-      ++ numberLine (totalOf 64 (columnsOf (book .row)) (encodeOf (book .rate) (closedOf book .message))) space
-      ++ numberLine (testsFor (book .rate) (columnsOf (book .row)) (book .doubtful)) space
-      ++ numberLine (pinnedOf 64 (columnsOf (book .row)) (encodeOf (book .rate) (closedOf book .message))) space
-      ++ numberLine (changedOf 64 (columnsOf (book .row)) (encodeOf (book .rate) (closedOf book .message))) space
-      ++ marginText (marginFor (book .rate) (columnsOf (book .row)) (book .doubtful) (closedOf book .message)))
-      ++ messageLine (closedOf book .message)
-  shown-numbers n =
-      let r = shown-answer n in
-      r .0 ∙ ap (λ l. l ++ messageLine (closedOf book .message)) (heading-shows (book .rate) (length (book .doubtful)) (r .1))
+abbrev pub Shown : List ℕ → List ℕ → Type 0
+Shown bytes lines =
+    openCaptureOf bytes .number ≡ accepted → closedOf (openCaptureOf bytes .book) .number ≡ accepted
+    → ShownFor lines (openCaptureOf bytes .book)
+
+pub shown-numbers : (bytes : List ℕ) → below 256 bytes ≡ true → Shown bytes (shownOf bytes)
+unfolding shownOf openedLines closedLines answerLines numbersLines
+shown-numbers bytes small opened n = record { shows = reported; lines-are = two ∙ ap (λ l. l ++ messageLine (closedOf book .message)) (heading-shows (book .rate) (length (book .doubtful)) reported) }
+  where
+    book : Book
+    book = openCaptureOf bytes .book
+
+    reported : ReportedIn book (closedOf book)
+    reported = capture-shows bytes small opened _ _ n
+
+    two : shownOf bytes ≡ headingOf (book .rate) (length (book .doubtful)) (closedOf book .report) ++ messageLine (closedOf book .message)
+    two = rw (eq-eqb (openCaptureOf bytes .number) accepted opened, eq-eqb (closedOf (openCaptureOf bytes .book) .number) accepted n)

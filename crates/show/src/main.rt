@@ -9,7 +9,7 @@ ghost use Prim.Native.Nat.{_≤_};
 ghost use lib.ListN.{length, replicate};
 ghost use Rattle.session.specs.View.{bookOf, Good};
 ghost use Rattle.text.specs.Appended.{Appended};
-ghost use Rattle.show.specs.Shown.{closedLines, shownOf};
+ghost use Rattle.show.specs.Shown.{closedLines, shownOf, Shown};
 
 // Closes a session into a message buffer of zeros, as long as its rate asks for.
 fn show_closed(opened: Session, message: &mut [u8], out: &mut [u8]) -> usize
@@ -46,10 +46,19 @@ fn show_capture(bytes: &[u8], out: &mut [u8]) -> usize
     show_session(opened.session, out)
 }
 
+// The same, with what the lines tell of an accepted capture: that bytes are bytes is taken from the types.
+fn show_bytes(bytes: &[u8], out: &mut [u8]) -> usize
+    requires { ⌜ 256 ≤ length (now out) ⌝ }
+    ensures { λ r. ⌜ Appended (now (out .entry)) 0 (shownOf (now (bytes .entry))) r (now (out .exit)) × Shown (now (bytes .entry)) (shownOf (now (bytes .entry))) ⌝ }
+{
+    ranges::bytes(bytes);
+    show_capture(bytes, out)
+}
+
 fn main() {
     let mut input = io::buffer();
     let count = io::read_full(STDIN_FILENO, &mut input);
     let mut out = [0u8; 256];
-    let length = show_capture(&input[..count], &mut out);
+    let length = show_bytes(&input[..count], &mut out);
     io::write_all(STDOUT_FILENO, &out[..length]);
 }

@@ -225,8 +225,6 @@ module _ (n j : ℕ) (counts : ℕ → Bool) (gap : ℕ → ℕ) (t : ℕ) where
           ap (λ c. c * t) rest ∙ add-mul (count n below) (j - count n below) t,
         )
 
-module _ (n j : ℕ) (c e : ℕ → Bool) (g h : ℕ → ℕ) (counts : (p : ℕ) → p < n → c p ≡ e p) (gaps : (p : ℕ) → p < n → g p ≡ h p) where
-
 -- ---- best costs and unchanged places
 
 pub blank-gap : (column : List ℕ) → 1 < length column → isBlank column ≡ true → gapOf column ≡ 0

@@ -82,8 +82,6 @@ module _ (columns : ℕ → List ℕ) (word : List ℕ) where
   unfolding changedOf
   changed-le n = count-le n (changedAt columns word)
 
-module _ (n : ℕ) (c e : ℕ → List ℕ) (word : List ℕ) (h : (p : ℕ) → p < n → c p ≡ e p) where
-
 -- two words agree at a place exactly if both have an entry there and it is the same
 pub agree-true : (u v : List ℕ) (p : ℕ) → p < length u → p < length v → symbolAt u p ≡ symbolAt v p → agree u v p ≡ true
 unfolding agree

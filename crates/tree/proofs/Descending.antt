@@ -29,7 +29,7 @@ use Rattle.answers.specs.declared.Finding.{Finding}
 use Rattle.answers.specs.Nearest.{Nearest}
 use Rattle.tree.specs.Searching.{Lowest, Ready, DecidedOf, SearchOf, BranchOf}
 use Rattle.candidate.specs.Ranged.{Ranged, workable}
-use Rattle.candidate.specs.OpenFlags.{OpenFlags, reach-marked, repairs-marked}
+use Rattle.candidate.specs.OpenFlags.{OpenFlags, reach-flagged, repairs-flagged}
 use Rattle.answers.specs.Answered.{counted, missedOf, Sound, nearest-missed}
 use Rattle.answers.specs.Better.{betterOf, better-tests, better-joins}
 use Rattle.known.specs.Known.{governsOf, WithinOf, answerHere}
@@ -82,7 +82,7 @@ module _ {k : ℕ} (rate : Ranged k) (columns : ℕ → List ℕ) (leads : List 
                 holds = R .stored .held class within low;
                 through = h .member;
                 leads = h .leads;
-                decides = omega (arith, long, decides, r-is, reach-marked marked, marked .number, open-count places columns);
+                decides = omega (arith, long, decides, r-is, reach-flagged marked, marked .number, open-count places columns);
               })
               P;
         }
@@ -93,10 +93,10 @@ module _ {k : ℕ} (rate : Ranged k) (columns : ℕ → List ℕ) (leads : List 
         omega (
           arith,
           r-is,
-          reach-marked marked,
+          reach-flagged marked,
           marked .number,
           open-count places columns,
-          limit-decides m16 (openAt columns) (reachIn k columns) k (subst (λ n. leadAt leads class ≤ n) L-is close) (repairs-marked marked rate),
+          limit-decides m16 (openAt columns) (reachIn k columns) k (subst (λ n. leadAt leads class ≤ n) L-is close) (repairs-flagged marked rate),
         )
 
 -- one branch: the place is decided with the symbol, by a codeword that is known or by one more node

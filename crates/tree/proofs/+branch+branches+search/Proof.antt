@@ -12,7 +12,7 @@ use Rattle.answers.specs.Better.{sound-better}
 use Rattle.known.specs.Governing.{sound-below}
 use Rattle.tree.specs.Searching.{SearchOf, BranchOf}
 use Rattle.candidate.specs.Ranged.{reach-small, limit-small}
-use Rattle.candidate.specs.OpenFlags.{limit-open}
+use Rattle.candidate.specs.OpenFlags.{limit-flagged}
 use Rattle.tree.proofs.Descending.{branch-known, branch-node, node-spent, node-decided, node-open, node-branch}
 use Rattle.near.specs.Left.{rest-length}
 use Rattle.near.specs.Near as Near
@@ -141,8 +141,8 @@ branch-tests-within-requires t c κs =
     let h = c .before .before .before .before .pre .1 in
     (h .0, h .1, h .4 .few)
 
-branch-below-requires : (t : ℕ) → branch-lts.Need-below-requires (branch-claims t) (branch-at t) branch.Post
-branch-below-requires t c κs = search needs
+branch-as-answer-here-requires : (t : ℕ) → branch-lts.Need-as-answer-here-requires (branch-claims t) (branch-at t) branch.Post
+branch-as-answer-here-requires t c κs = search needs
 
 branch-returns : (t : ℕ) → branch-lts.Need-returns (branch-claims t) (branch-at t) branch.Post
 branch-returns t c =
@@ -173,7 +173,7 @@ branch-returns-2 : (t : ℕ) → branch-lts.Need-returns-2 (branch-claims t) (br
 branch-returns-2 t c =
     let s = c .before .before .before .before .before .before .before .before in
     let h = s .pre .1 in
-    (branch-node (h .0) _ _ _ _ _ _ _ _ (branch-lengths t s) _ (c .before .before .before .before .largest-key .ensures ∙ limit-open (h .4)) _ _ (c .before .extend .ensures) _ (c .search .ensures .0), c .search .ensures .1)
+    (branch-node (h .0) _ _ _ _ _ _ _ _ (branch-lengths t s) _ (c .before .before .before .before .largest-key .ensures ∙ limit-flagged (h .4)) _ _ (c .before .extend .ensures) _ (c .search .ensures .0), c .search .ensures .1)
 
 branches-lengths : (t : ℕ) (c : branches-lts.Start (branches-claims t) (branches-at t) branches.Post)
     → length (c .args .t6 .doubtful) ≡ mostDoubt
@@ -248,7 +248,7 @@ search-returns : (t : ℕ) → search-lts.Need-returns (search-claims t) (search
 unfolding leadAt
 search-returns t c =
     let h = c .before .before .before .before .before .pre .1 in (
-      subst (SearchOf _ _ _ _ _ _ _) (sym (c .missed .ensures)) (node-spent (h .0) _ _ _ _ (c .before .before .before .largest-key .ensures ∙ limit-open (h .3)) _ _ _ _ (c .before .before .least-from .ensures) _ (c .before .if1 .taken)),
+      subst (SearchOf _ _ _ _ _ _ _) (sym (c .missed .ensures)) (node-spent (h .0) _ _ _ _ (c .before .before .before .largest-key .ensures ∙ limit-flagged (h .3)) _ _ _ _ (c .before .before .least-from .ensures) _ (c .before .if1 .taken)),
       subst (Sound _ _) (sym (c .missed .ensures)) (sound-missed (h .2)),
     )
 
@@ -313,7 +313,7 @@ search-returns-2 : (t : ℕ) → search-lts.Need-returns-2 (search-claims t) (se
 unfolding leadAt
 search-returns-2 t c =
     let h = c .before .before .before .before .before .before .before .before .before .before .before .pre .1 in (
-      node-decided (h .0) _ _ _ _ (c .before .before .before .before .before .before .before .before .before .largest-key .ensures ∙ limit-open (h .3)) (h .3) _ (c .before .before .before .reach .ensures) _ (search-close t (c .before .before .before .before .before)) _ _ _ _ (c .before .before .before .before .before .lower .ensures .0)
+      node-decided (h .0) _ _ _ _ (c .before .before .before .before .before .before .before .before .before .largest-key .ensures ∙ limit-flagged (h .3)) (h .3) _ (c .before .before .before .reach .ensures) _ (search-close t (c .before .before .before .before .before)) _ _ _ _ (c .before .before .before .before .before .lower .ensures .0)
           (rest-length _ _ _ (search-lengths t (c .before .before .before .before .before .before .before .before .before .before .before)) (h .1 .0) (h .1 .1)) (c .before .before .if2 .taken) (c .decided .ensures .0),
       c .decided .ensures .1,
     )
@@ -322,7 +322,7 @@ search-branches-requires : (t : ℕ) → search-lts.Need-branches-requires (sear
 unfolding leadAt
 search-branches-requires t c κs =
     let h = c .before .before .before .before .before .before .before .before .before .pre in
-    let some = node-open (h .1 .0) _ (c .before .before .before .before .before .before .before .before .before .args .t2) _ _ (c .before .before .before .before .before .before .before .largest-key .ensures ∙ limit-open (h .1 .3)) (h .1 .3) _ (c .before .reach .ensures) (c .before .before .before .lower .result) (search-close t (c .before .before .before)) (c .if2 .left) in
+    let some = node-open (h .1 .0) _ (c .before .before .before .before .before .before .before .before .before .args .t2) _ _ (c .before .before .before .before .before .before .before .largest-key .ensures ∙ limit-flagged (h .1 .3)) (h .1 .3) _ (c .before .reach .ensures) (c .before .before .before .lower .result) (search-close t (c .before .before .before)) (c .if2 .left) in
     (omega (arith, h .0), (h .1 .0, h .1 .1, h .1 .2, h .1 .3, some))
 
 search-returns-3 : (t : ℕ) → search-lts.Need-returns-3 (search-claims t) (search-at t) search′.Post
@@ -335,7 +335,7 @@ pub +branch+branches+search-spec : {M : Type 1} → statement M
     (branch-array-write-next-word t)
     (branch-governs-requires t)
     (branch-tests-within-requires t)
-    (branch-below-requires t)
+    (branch-as-answer-here-requires t)
     (branch-returns t)
     (branch-largest-key-requires t)
     (branch-array-read-change t)
