@@ -36,7 +36,7 @@ use Rattle.book.specs.Book.{Entry, newBook, Outcome}
 use Rattle.book.specs.Opening.{fitDoubt, openOf}
 use Rattle.book.specs.Delivery.{deliverRow}
 use Rattle.book.specs.Closing.{reportLength, Closed, refusedClosing, decodeOf, closeOf}
-use Rattle.book.specs.ClosingLaws.{refused-number, decode-too-blank, decode-blank-only}
+use Rattle.book.specs.ClosingLaws.{decode-too-blank, decode-blank-only, not-refused}
 use Rattle.book.specs.RowLaws.{open-accepted}
 use Rattle.book.specs.Table.{sizes-fit, sizes-unfit, tableLength, tableColumns, pickedOf, tableFits, checksOf, refused-by-checks, tableOf, limit-below, picked-fit, Delivered, table-as-session, entriesOf, order-delivered, order-accepted}
 
@@ -122,15 +122,12 @@ module _ (𝓓 : Model) where
     unfolding tableBelowOf
     below-accepted n = go (known rate) refl (tableFits 𝓓 rate table message report) refl (leb 1 m && leb m mostDoubt) refl
       where
-        not-refused : (k : ℕ) → tableBelowOf rate table t m message report ≡ refusedClosing k message report → k ≡ accepted
-        not-refused k e = sym (refused-number k message report) ∙ sym (ap (λ (c : Closed). c .number) e) ∙ n
-
         go : (a : Bool) → known rate ≡ a → (b : Bool) → tableFits 𝓓 rate table message report ≡ b → (c : Bool) → (leb 1 m && leb m mostDoubt) ≡ c
             → (1 ≤ m) × (m ≤ mostDoubt)
             × (tableBelowOf rate table t m message report ≡ decodeOf 𝓓 rate (tableColumns 𝓓 table) (pickedBelow table t m) message report)
-        go false e b f c g = absurd (omega (arith, not-refused unknownRate (below-rate e)))
-        go true e false f c g = absurd (omega (arith, not-refused wrongSize (unfit e f)))
-        go true e true f false g = absurd (omega (arith, not-refused wrongDoubt (rw (e, f, g))))
+        go false e b f c g = absurd (omega (arith, not-refused message report n unknownRate (below-rate e)))
+        go true e false f c g = absurd (omega (arith, not-refused message report n wrongSize (unfit e f)))
+        go true e true f false g = absurd (omega (arith, not-refused {c = tableBelowOf rate table t m message report} message report n wrongDoubt (rw (e, f, g))))
         go true e true f true g = (
           leb-true 1 m (and-left (leb 1 m) (leb m mostDoubt) g),
           leb-true m mostDoubt (and-right (leb 1 m) (leb m mostDoubt) g),

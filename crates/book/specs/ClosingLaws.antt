@@ -4,6 +4,7 @@
 --   close-size, close-missing, close-decoded   the three cases of closing
 --   decode-too-blank, decode-none, decode-some   the three cases of decoding; Decoded, decode-cases: it is one of them
 --   decode-blank-only    it gives 12 exactly where more places are blank than leave a T
+--   refused-number, not-refused   the number of a refused call; a call that is accepted was not refused
 --   decode-report, close-report   an accepted call gives the report of the message that it gives
 --   Kept, decode-kept, close-kept   a refused call leaves its buffers as they were
 --   Sized, decode-sized, close-sized   no call changes a buffer's length
@@ -46,6 +47,9 @@ pub record Sized (message report : List ℕ) (c : Closed) : Type 0 where
 pub refused-number : (n : ℕ) (message report : List ℕ) → refusedClosing n message report .number ≡ n
 unfolding refusedClosing
 refused-number n message report = refl
+
+pub not-refused : {c : Closed} (message report : List ℕ) → c .number ≡ accepted → (r : ℕ) → c ≡ refusedClosing r message report → r ≡ accepted
+not-refused message report n r e = sym (refused-number r message report) ∙ sym (ap (λ (c : Closed). c .number) e) ∙ n
 
 pub refused-kept : (n : ℕ) (message report : List ℕ) → Kept message report (refusedClosing n message report)
 unfolding refusedClosing
@@ -129,13 +133,10 @@ module _ (𝓓 : Model) where
         → decodeOf 𝓓 k columns doubtful message report .report ≡ reportFor 𝓓 k columns doubtful (decodeOf 𝓓 k columns doubtful message report .message)
     decode-report n = go decode-cases
       where
-        not-refused : (r : ℕ) → decodeOf 𝓓 k columns doubtful message report ≡ refusedClosing r message report → r ≡ accepted
-        not-refused r e = sym (refused-number r message report) ∙ sym (ap (λ (c : Closed). c .number) e) ∙ n
-
         go : Decoded k columns doubtful message report (decodeOf 𝓓 k columns doubtful message report)
             → decodeOf 𝓓 k columns doubtful message report .report ≡ reportFor 𝓓 k columns doubtful (decodeOf 𝓓 k columns doubtful message report .message)
-        go (blank h e) = absurd (omega (arith, not-refused tooBlank e))
-        go (far few a e) = absurd (omega (arith, not-refused noneNear e))
+        go (blank h e) = absurd (omega (arith, not-refused message report n tooBlank e))
+        go (far few a e) = absurd (omega (arith, not-refused message report n noneNear e))
         go (found few a word e) = rw e
 
     pub decode-sized : length message ≡ k → length report ≡ reportLength 𝓓 → Sized message report (decodeOf 𝓓 k columns doubtful message report)
@@ -197,14 +198,11 @@ module _ (𝓓 : Model) where
         ≡ reportFor 𝓓 (book .rate) (columnsOf 𝓓 (book .row)) (book .doubtful) (closeOf 𝓓 book message report .message)
     close-report n = go (closingFits 𝓓 book message report) refl (someMissing 𝓓 (book .row)) refl
       where
-        not-refused : (k : ℕ) → closeOf 𝓓 book message report ≡ refusedClosing k message report → k ≡ accepted
-        not-refused k e = sym (refused-number k message report) ∙ sym (ap (λ (c : Closed). c .number) e) ∙ n
-
         go : (a : Bool) → closingFits 𝓓 book message report ≡ a → (b : Bool) → someMissing 𝓓 (book .row) ≡ b
             → closeOf 𝓓 book message report .report
             ≡ reportFor 𝓓 (book .rate) (columnsOf 𝓓 (book .row)) (book .doubtful) (closeOf 𝓓 book message report .message)
-        go false e b m = absurd (omega (arith, not-refused wrongSize (close-size e)))
-        go true e true m = absurd (omega (arith, not-refused placeMissing (close-missing e m)))
+        go false e b m = absurd (omega (arith, not-refused message report n wrongSize (close-size e)))
+        go true e true m = absurd (omega (arith, not-refused message report n placeMissing (close-missing e m)))
         go true e false m =
             rw (close-decoded e m)
             (decode-report (book .rate) (columnsOf 𝓓 (book .row)) (book .doubtful) message report

@@ -29,7 +29,7 @@ use Rattle.book.specs.Model.{Model, places, width}
 use Rattle.book.specs.Book.{Book, someMissing}
 use Rattle.book.specs.Columns.{columnsOf}
 use Rattle.book.specs.Closing.{Closed, refusedClosing, decodeOf, closingFits, closeOf}
-use Rattle.book.specs.ClosingLaws.{Decoded, blank, far, found, decode-cases, refused-number, close-size, close-missing, close-decoded}
+use Rattle.book.specs.ClosingLaws.{Decoded, blank, far, found, decode-cases, close-size, close-missing, close-decoded, not-refused}
 use Rattle.book.specs.OpeningLaws.{Known}
 use Rattle.book.specs.Table.{tableColumns, pickedOf, tableOf, table-accepted}
 use Rattle.book.specs.Below.{tableBelowOf, doubtFor, below-accepted, below-as-table}
@@ -67,26 +67,20 @@ module _ (𝓓 : Model) where
         → Word (width 𝓓) k (decodeOf 𝓓 k columns doubtful message report .message)
     decode-word n = go (decode-cases 𝓓 k columns doubtful message report)
       where
-        not-refused : (r : ℕ) → decodeOf 𝓓 k columns doubtful message report ≡ refusedClosing r message report → r ≡ accepted
-        not-refused r e = sym (refused-number r message report) ∙ sym (ap (λ (c : Closed). c .number) e) ∙ n
-
         go : Decoded 𝓓 k columns doubtful message report (decodeOf 𝓓 k columns doubtful message report)
             → Word (width 𝓓) k (decodeOf 𝓓 k columns doubtful message report .message)
-        go (blank h e) = absurd (omega (arith, not-refused tooBlank e))
-        go (far few a e) = absurd (omega (arith, not-refused noneNear e))
+        go (blank h e) = absurd (omega (arith, not-refused message report n tooBlank e))
+        go (far few a e) = absurd (omega (arith, not-refused message report n noneNear e))
         go (found few a word e) = subst (λ (c : Closed). Word (width 𝓓) k (c .message)) (sym e) word
 
   module _ (book : Book) (message report : List ℕ) (n : closeOf 𝓓 book message report .number ≡ accepted) where
     pub close-word : Word (width 𝓓) (book .rate) (closeOf 𝓓 book message report .message)
     close-word = go (closingFits 𝓓 book message report) refl (someMissing 𝓓 (book .row)) refl
       where
-        not-refused : (r : ℕ) → closeOf 𝓓 book message report ≡ refusedClosing r message report → r ≡ accepted
-        not-refused r e = sym (refused-number r message report) ∙ sym (ap (λ (c : Closed). c .number) e) ∙ n
-
         go : (a : Bool) → closingFits 𝓓 book message report ≡ a → (b : Bool) → someMissing 𝓓 (book .row) ≡ b
             → Word (width 𝓓) (book .rate) (closeOf 𝓓 book message report .message)
-        go false e b m = absurd (omega (arith, not-refused wrongSize (close-size 𝓓 book message report e)))
-        go true e true m = absurd (omega (arith, not-refused placeMissing (close-missing 𝓓 book message report e m)))
+        go false e b m = absurd (omega (arith, not-refused message report n wrongSize (close-size 𝓓 book message report e)))
+        go true e true m = absurd (omega (arith, not-refused message report n placeMissing (close-missing 𝓓 book message report e m)))
         go true e false m =
             let d = close-decoded 𝓓 book message report e m in
             subst (λ (c : Closed). Word (width 𝓓) (book .rate) (c .message)) (sym d)

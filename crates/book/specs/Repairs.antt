@@ -53,7 +53,7 @@ use Rattle.refusals.specs.Refusal.{accepted, noneNear}
 use Rattle.lists.specs.Count.{count, count-mono, count-none, count-split}
 use Rattle.lists.specs.Different.{count-among}
 use Rattle.lists.specs.Every.{both-left, both-right, both-intro, T-true}
-use Rattle.lists.specs.Distinct.{among, among-member}
+use Rattle.lists.specs.Distinct.{among, among-member, member-among}
 use Rattle.lists.specs.Words.{Word, Lex, lex-or, lex-asym}
 use Rattle.soft.specs.Blank.{openAt, blanksOf}
 use Rattle.soft.specs.BlankLaws.{member-unblanked, unblanked-length}
@@ -86,15 +86,6 @@ wrongAt columns doubtful word p = not (among p doubtful) && changedAt columns wo
 unfoldable pub wrongOf : ℕ → (ℕ → List ℕ) → List ℕ → List ℕ → ℕ
 wrongOf n columns doubtful word = count n (wrongAt columns doubtful word)
 
-among-there : (p : ℕ) (l : List ℕ) → among p l ≡ true → List·Memᴰ p l
-unfolding among
-among-there p [] a = absurd (false≢true a)
-among-there p (x ∷ l) a = go (eqb x p) refl a (among-there p l)
-  where
-    go : (b : Bool) → eqb x p ≡ b → (b || among p l) ≡ true → (among p l ≡ true → List·Memᴰ p l) → List·Memᴰ p (x ∷ l)
-    go true e f ih = List·Memᴰ·head (sym (eqb-true x p e))
-    go false e f ih = List·Memᴰ·tail (ih f)
-
 -- where a test word has the word's symbol if the place is doubtful and not blank, it differs from it, of the places that are not blank, at wrong ones only
 module _ (n : ℕ) (columns : ℕ → List ℕ) (doubtful word t : List ℕ) (size : length word ≡ n) (m : List·Memᴰ t (testWords n columns doubtful)) where
   differ-wrong : (p : ℕ) → p < n → (List·Memᴰ p doubtful → openAt columns p ≡ true → getD t p 0 ≡ symbolAt word p)
@@ -113,7 +104,7 @@ module _ (n : ℕ) (columns : ℕ → List ℕ) (doubtful word t : List ℕ) (si
       settled e i = true≢false (sym (among-member i) ∙ e)
 
       go : (a : Bool) → among p doubtful ≡ a → (b : Bool) → eqb (symbolAt word p) (bestAt columns p) ≡ b → Holds (not a && (openAt columns p && not b))
-      go true e b f = absurd (same (sym (chosen (among-there p doubtful e) (T-true (openAt columns p) counts))))
+      go true e b f = absurd (same (sym (chosen (member-among p doubtful e) (T-true (openAt columns p) counts))))
       go false e true f =
           absurd (same (eqb-true (symbolAt word p) (bestAt columns p) f ∙ sym (testWords-settled n columns doubtful t m p l (settled e))))
       go false e false f = both-intro (openAt columns p) true counts tt

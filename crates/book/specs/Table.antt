@@ -59,7 +59,7 @@ use Rattle.book.specs.Delivery.{deliverRow}
 use Rattle.book.specs.RowDelivery.{extended, row-delivered}
 use Rattle.book.specs.Columns.{columnsOf, columns-taken, columns-none}
 use Rattle.book.specs.Closing.{reportLength, Closed, refusedClosing, decodeOf, closingFits, closeOf}
-use Rattle.book.specs.ClosingLaws.{refused-number, fits-both, close-size, close-decoded, decode-too-blank, decode-blank-only}
+use Rattle.book.specs.ClosingLaws.{fits-both, close-size, close-decoded, decode-too-blank, decode-blank-only, not-refused}
 
 -- what a call answered, put together
 abbrev pub closed : ℕ → List ℕ → List ℕ → Closed
@@ -300,14 +300,11 @@ module _ (𝓓 : Model) where
     unfolding tableOf
     table-accepted n = go (known rate) refl (tableFits rate table message report) refl (leb doubt mostDoubt) refl
       where
-        not-refused : (k : ℕ) → tableOf rate table doubt message report ≡ refusedClosing k message report → k ≡ accepted
-        not-refused k e = sym (refused-number k message report) ∙ sym (ap (λ (c : Closed). c .number) e) ∙ n
-
         go : (a : Bool) → known rate ≡ a → (b : Bool) → tableFits rate table message report ≡ b → (c : Bool) → leb doubt mostDoubt ≡ c
             → (doubt ≤ mostDoubt) × (tableOf rate table doubt message report ≡ decodeOf 𝓓 rate (tableColumns table) (pickedOf table doubt) message report)
-        go false e b f c g = absurd (omega (arith, not-refused unknownRate (table-rate e)))
-        go true e false f c g = absurd (omega (arith, not-refused wrongSize (unfit e f)))
-        go true e true f false g = absurd (omega (arith, not-refused wrongDoubt (rw (e, f, g))))
+        go false e b f c g = absurd (omega (arith, not-refused message report n unknownRate (table-rate e)))
+        go true e false f c g = absurd (omega (arith, not-refused message report n wrongSize (unfit e f)))
+        go true e true f false g = absurd (omega (arith, not-refused {c = tableOf rate table doubt message report} message report n wrongDoubt (rw (e, f, g))))
         go true e true f true g = (leb-true doubt mostDoubt g, rw (e, f, g))
 
   pub zero-table : {rate : ℕ} → known rate ≡ true → (doubt : ℕ) → doubt ≤ mostDoubt → (message report : List ℕ) → length message ≡ rate

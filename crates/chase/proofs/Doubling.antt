@@ -11,7 +11,7 @@ use native.Mathlib.Numerals.{add-one}
 use native.Mathlib.Omega.{arith}
 use lib.ListN.{length, getD, set, take, replicate, length-append, length-take}
 use lib.Seq.{take-suc}
-use Rattle.lists.specs.Count.{bit}
+use Rattle.lists.specs.Count.{bit, length-if}
 use Rattle.lists.specs.Padded.{padded, padded-nil, padded-if}
 use Rattle.soft.specs.Blank.{unblanked}
 use Rattle.soft.specs.BlankLaws.{unblanked-nil, unblanked-snoc, unblanked-length}
@@ -57,11 +57,7 @@ module _ (counts : ℕ → Bool) (doubtful : List ℕ) where
           found-is,
           n-is,
           ap bit b-is,
-          one (counts x),
+          length-if (counts x) x,
           ap length longer,
           length-append (unblanked counts (take i doubtful)) (cond (counts x) (x ∷ []) []),
         )
-      where
-        one : (t : Bool) → length (cond t (x ∷ []) []) ≡ bit t
-        one true = refl
-        one false = refl

@@ -28,14 +28,14 @@ use Rattle.hermitian.specs.Interpolation.{Sample, Value, Through, value-
 module _ {F : Type 0} (K : Field F) where
   open Field K using (_⊕_, _⊗_, 𝟘, 𝟙)
 
-  unit-plain : (o : ℕ) → withoutZ K (unit K (2 * o)) ≡ unit K o
+  pub unit-plain : (o : ℕ) → withoutZ K (unit K (2 * o)) ≡ unit K o
   unit-plain o = fun-ext (λ k. go k (ℕ-discrete k o))
     where
       go : (k : ℕ) → Dec (k ≡ o) → unit K (2 * o) (2 * k) ≡ unit K o k
       go k (yes e) = ap (λ i. unit K (2 * o) (2 * i)) e ∙ unit-at K (2 * o) ∙ sym (ap (unit K o) e ∙ unit-at K o)
       go k (no e) = unit-off K (2 * o) (2 * k) (λ (q : 2 * k ≡ 2 * o). e (omega arith)) ∙ sym (unit-off K o k e)
 
-  unit-z : (M o : ℕ) → withZ K M (unit K (2 * o)) ≡ (λ k. 𝟘)
+  pub unit-z : (M o : ℕ) → withZ K M (unit K (2 * o)) ≡ (λ k. 𝟘)
   unit-z M o = fun-ext (λ k. unit-off K (2 * o) (2 * (k + M) + 1) (λ (q : 2 * (k + M) + 1 ≡ 2 * o). absurd (omega arith)))
 
   module _ (w : ℕ) (two : 2 ≤ w) (M : ℕ) where

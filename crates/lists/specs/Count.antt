@@ -184,7 +184,7 @@ kept-ext zero f g h = refl
 kept-ext (suc n) f g h =
     ap₂ (λ (l : List ℕ) b. l ++ cond b (n ∷ []) []) (kept-ext n f g (λ k l. h k (le-step l))) (h n (lt-suc-self n))
 
-length-if : (b : Bool) (k : ℕ) → length (cond b (k ∷ []) []) ≡ bit b
+pub length-if : (b : Bool) (k : ℕ) → length (cond b (k ∷ []) []) ≡ bit b
 length-if true k = refl
 length-if false k = refl
 

@@ -61,6 +61,10 @@ pub T-true : (b : Bool) → T b → b ≡ true
 T-true true t = refl
 T-true false t = absurd t
 
+pub T-false : (b : Bool) → (T b → ⊥) → b ≡ false
+T-false true t = absurd (t tt)
+T-false false t = refl
+
 pub every-true : (n : ℕ) (f : ℕ → Bool) → ((k : ℕ) → k < n → f k ≡ true) → every n f ≡ true
 unfolding every
 every-true zero f h = refl

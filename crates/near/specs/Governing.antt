@@ -23,6 +23,7 @@ use lib.Dec.{T, leb, leb→le}
 use lib.ListN.{length, getD, set, length-set}
 use lib.Seq.{getD-set-other}
 use borrow.Author.Tests.{le-leb}
+use Rattle.lists.specs.Every.{both-right}
 use Rattle.lists.specs.Count.{bit, count}
 use Rattle.lists.specs.Distinct.{among, among-member}
 use Rattle.lists.specs.Different.{count-among}
@@ -44,10 +45,6 @@ use Rattle.near.specs.Within.{testsWithin, within-nil, within-cons}
 
 -- ---- words that have the same symbols but at some places differ in no more than these
 
-second : (a b : Bool) → T (a && b) → T b
-second true b t = t
-second false b t = absurd t
-
 module _ (n : ℕ) where
   pub record Outside (ps u v : List ℕ) : Type 0 where
     pub size : length v ≡ n
@@ -56,7 +53,7 @@ module _ (n : ℕ) where
   outside-differing : (counts : ℕ → Bool) {ps word u v : List ℕ} → Outside ps word u → Outside ps word v → differingIn counts n u v ≤ length ps
   unfolding differingIn
   outside-differing counts {ps} {word} {u} {v} a b =
-      count-among ps n (λ p. counts p && differAt u v p) (λ p l t. go p l (second (counts p) (differAt u v p) t) (among p ps) refl)
+      count-among ps n (λ p. counts p && differAt u v p) (λ p l t. go p l (both-right (counts p) (differAt u v p) t) (among p ps) refl)
     where
       go : (p : ℕ) → p < n → T (differAt u v p) → (b : Bool) → among p ps ≡ b → b ≡ true
       go p l t true e = refl

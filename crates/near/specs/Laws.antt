@@ -10,7 +10,7 @@
 --   answer-append       the answer of two lists is the better of their answers
 --   answer-none, codeword-none   where no codeword is near
 --   answer-word         an answer is a message
-use mathlib.Core.Bool.{Bool, true, false, _||_}
+use mathlib.Core.Bool.{Bool, true, false, _||_, or-assoc}
 use mathlib.Core.Path.{_≡_, refl, sym, ap, _∙_, subst}
 use mathlib.Core.List.{List, [], _∷_, _++_, List·Memᴰ, List·Memᴰ·head, List·Memᴰ·tail, List·Memᴰ·cases-cons, List·Memᴰ·not-nil}
 use mathlib.Core.Logic.{_↔_, _⊎_, inl, inr, ⊎-elim}
@@ -41,10 +41,6 @@ or-left false b t = absurd t
 or-right : (a b : Bool) → T b → T (a || b)
 or-right true b t = tt
 or-right false b t = t
-
-or-assoc : (a b c : Bool) → (a || b || c) ≡ (a || (b || c))
-or-assoc true b c = refl
-or-assoc false b c = refl
 
 module _ (𝓜 : Member) (counts : ℕ → Bool) (reach : ℕ) where
   -- ---- near some test word

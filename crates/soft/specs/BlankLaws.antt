@@ -13,7 +13,7 @@
 --   unblanked-member       a place of those that count is in the list, and counts; member-unblanked: and the other way round
 --   unblanked-length       they are no more than the list has; unblanked-split: with those that do not count they are as many
 --   unblanked-different    different places stay different
-use mathlib.Core.Bool.{Bool, true, false, not, cond}
+use mathlib.Core.Bool.{Bool, true, false, not, cond, Bool·not-not}
 use mathlib.Core.Path.{_≡_, refl, sym, ap, ap₂, _∙_, subst, fun-ext}
 use mathlib.Core.List.{List, [], _∷_, _++_, List·Memᴰ, List·Memᴰ·head, List·Memᴰ·tail, List·Memᴰ·cases-cons, List·Memᴰ·not-nil}
 use mathlib.Core.Logic.{_↔_, ⊎-elim}
@@ -54,7 +54,7 @@ ceiling-blank column two most e = blank-same column .1 (λ s t ls lt. at s ls �
     at : (s : ℕ) → s < length column → costOf column s ≡ ceiling
     at s l = omega (arith, most s l, best-least column two s l)
 
-opposite : (b : Bool) → bit (not b) + bit b ≡ 1
+pub opposite : (b : Bool) → bit (not b) + bit b ≡ 1
 opposite true = refl
 opposite false = refl
 
@@ -103,11 +103,7 @@ pub flags-blanks : (n : ℕ) (columns : ℕ → List ℕ) → count n (λ p. not
 unfolding blanksOf
 flags-blanks n columns =
     count-ext n (λ p. not (flagAt (flagsOf n columns) p)) (blankAt columns)
-    (λ p l. ap not (flags-at n columns p l) ∙ not-not (isBlank (columns p)))
-  where
-    not-not : (b : Bool) → not (not b) ≡ b
-    not-not true = refl
-    not-not false = refl
+    (λ p l. ap not (flags-at n columns p l) ∙ Bool·not-not (isBlank (columns p)))
 
 -- a column read off behind the costs is blank
 pub column-none : (q : ℕ) (costs : List ℕ) (p : ℕ) → length costs ≤ p * q → isBlank (columnOf q costs p) ≡ true

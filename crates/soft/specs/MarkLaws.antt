@@ -27,7 +27,7 @@ use Rattle.lists.specs.Count.{bit, sumOf-nil, sumOf-suc, sumOf-ext, sumOf-mono,
 use Rattle.lists.specs.Every.{both-left, both-right, both-intro, T-true, true-T}
 use Rattle.soft.specs.Column.{costOf, bestOf, secondOf, gapOf, isBlank}
 use Rattle.soft.specs.ColumnLaws.{best-below, best-least, second-below, second-best, gap-cost}
-use Rattle.soft.specs.BlankLaws.{blank-same}
+use Rattle.soft.specs.BlankLaws.{blank-same, opposite}
 use Rattle.soft.specs.Doubt.{ahead, aheadBy, aheadOf, fewAhead, smallest}
 use Rattle.soft.specs.DoubtLaws.{ahead-cases, smaller-ahead, smallest-length, smallest-most, smallest-ahead}
 use Rattle.soft.specs.TestWord.{bestAt}
@@ -251,12 +251,8 @@ unchanged-count (suc n) columns word =
       unchanged-count n columns word,
       count-suc n (changedAt columns word),
       count-suc n (unchanged columns word),
-      either (changedAt columns word n),
+      opposite (changedAt columns word n),
     )
-  where
-    either : (b : Bool) → bit b + bit (not b) ≡ 1
-    either true = refl
-    either false = refl
 
 -- ---- what a word costs over all best costs
 

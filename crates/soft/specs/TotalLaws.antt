@@ -27,6 +27,7 @@ use lib.Dec.{T, ltb, eqb, ltb→lt, eqb→eq}
 use lib.ListN.{length, set, length-append, length-set}
 use lib.Seq.{ext-getD, getD-set-same, getD-set-other}
 use borrow.Author.Tests.{lt-ltb, eq-eqb, ne-eqb, eqb-false, not-false}
+use Rattle.lists.specs.Every.{both-left, both-right, both-intro, T-true, T-false}
 use Rattle.lists.specs.Count.{bit, sumOf, sumOf-suc, sumOf-ext, sumOf-mono, sumOf-plus, sumOf-bound, count, count-nil, count-suc, count-ext, count-le, count-mono, count-none, count-zero, count-but}
 use Rattle.soft.specs.Column.{costOf, bestOf, ceiling, isBlank}
 use Rattle.soft.specs.Blank.{openAt, flagAt}
@@ -95,10 +96,6 @@ pub differing-le : (n : ℕ) (u v : List ℕ) → differing n u v ≤ n
 unfolding differingIn
 differing-le n u v = count-le n (differAt u v)
 
-both-true : (a b : Bool) → T (a && b) → T a × T b
-both-true true b t = (tt, t)
-both-true false b t = absurd t
-
 pub record AgreeAt (u v : List ℕ) (p : ℕ) : Type 0 where
   pub left : p < length u
   pub right : p < length v
@@ -107,12 +104,11 @@ pub record AgreeAt (u v : List ℕ) (p : ℕ) : Type 0 where
 pub agree-facts : (u v : List ℕ) (p : ℕ) → T (agree u v p) → AgreeAt u v p
 unfolding agree
 agree-facts u v p t =
-    let a = both-true (ltb p (length u)) (ltb p (length v) && eqb (symbolAt u p) (symbolAt v p)) t in
-    let b = both-true (ltb p (length v)) (eqb (symbolAt u p) (symbolAt v p)) (a .1) in
+    let a = both-right (ltb p (length u)) (ltb p (length v) && eqb (symbolAt u p) (symbolAt v p)) t in
     record {
-      left = ltb→lt p (length u) (a .0);
-      right = ltb→lt p (length v) (b .0);
-      same = eqb→eq (symbolAt u p) (symbolAt v p) (b .1);
+      left = ltb→lt p (length u) (both-left (ltb p (length u)) (ltb p (length v) && eqb (symbolAt u p) (symbolAt v p)) t);
+      right = ltb→lt p (length v) (both-left (ltb p (length v)) (eqb (symbolAt u p) (symbolAt v p)) a);
+      same = eqb→eq (symbolAt u p) (symbolAt v p) (both-right (ltb p (length v)) (eqb (symbolAt u p) (symbolAt v p)) a);
     }
 
 pub facts-agree : (u v : List ℕ) (p : ℕ) → AgreeAt u v p → agree u v p ≡ true
@@ -129,19 +125,11 @@ decide : (b : Bool) → (T b → ⊥) ⊎ T b
 decide true = inr tt
 decide false = inl (λ t. t)
 
-is-true : (b : Bool) → T b → b ≡ true
-is-true true t = refl
-is-true false t = absurd t
-
-is-false : (b : Bool) → (T b → ⊥) → b ≡ false
-is-false true t = absurd (t tt)
-is-false false t = refl
-
 agree-comm : (u v : List ℕ) (p : ℕ) → agree u v p ≡ agree v u p
 agree-comm u v p =
     ⊎-elim
-    (λ no-uv. is-false (agree u v p) no-uv ∙ sym (is-false (agree v u p) (λ t. no-uv (subst T (sym (facts-agree u v p (agree-sym v u p (agree-facts v u p t)))) tt))))
-    (λ t. is-true (agree u v p) t ∙ sym (facts-agree v u p (agree-sym u v p (agree-facts u v p t))))
+    (λ no-uv. T-false (agree u v p) no-uv ∙ sym (T-false (agree v u p) (λ t. no-uv (subst T (sym (facts-agree u v p (agree-sym v u p (agree-facts v u p t)))) tt))))
+    (λ t. T-true (agree u v p) t ∙ sym (facts-agree v u p (agree-sym u v p (agree-facts u v p t))))
     (decide (agree u v p))
 
 pub differing-self : (n : ℕ) (u : List ℕ) → n ≤ length u → differing n u u ≡ 0
@@ -180,15 +168,12 @@ differing-none n u v lu lv e =
     ext-getD 0 u v (lu ∙ sym lv)
     (λ p l. agree-facts u v p (subst T (sym (not-false (agree u v p) (count-zero n (differAt u v) e p (omega arith)))) tt) .same)
 
-both-pass : (a b : Bool) → T a → T b → T (a && b)
-both-pass true b s t = t
-both-pass false b s t = s
-
 pub differing-mono : (counts fewer : ℕ → Bool) (n : ℕ) (u v : List ℕ) → ((p : ℕ) → p < n → T (fewer p) → T (counts p)) → differingIn fewer n u v ≤ differingIn counts n u v
 unfolding differingIn
 differing-mono counts fewer n u v h =
     count-mono n (λ p. fewer p && differAt u v p) (λ p. counts p && differAt u v p)
-    (λ p l t. let b = both-true (fewer p) (differAt u v p) t in both-pass (counts p) (differAt u v p) (h p l (b .0)) (b .1))
+    (λ p l t.
+    both-intro (counts p) (differAt u v p) (h p l (both-left (fewer p) (differAt u v p) t)) (both-right (fewer p) (differAt u v p) t))
 
 pub differing-fewer : (counts : ℕ → Bool) (n : ℕ) (u v : List ℕ) → differingIn counts n u v ≤ differing n u v
 differing-fewer counts n u v = differing-mono everywhere counts n u v (λ p l t. tt)

@@ -17,6 +17,7 @@ use Rattle.galois.specs.BinaryField.{GF, K, toF}
 use Rattle.hermitian.specs.Present.{Present}
 use Rattle.hermitian.specs.Value.{monomial, val-unit}
 use Rattle.hermitian.specs.Keys.{plain, timesZ, isKey}
+use Rattle.hermitian.specs.Frobenius.{unit-plain, unit-z}
 use Rattle.hermitian.specs.Interpolant.{Interpolant, withoutZ, withZ, interpolant-unit}
 use Rattle.family.specs.Member.{Member, places, px, py}
 use Rattle.values.specs.Holds.{Values, Holds}
@@ -31,14 +32,7 @@ module _ {F : Type 0} (K : Field F) where
       go k (yes e) = ap f e ∙ p ∙ sym (unit-at K i) ∙ ap (unit K i) (sym e)
       go k (no e) = q k e ∙ sym (unit-off K i k e)
 
-  -- the parts of a term: without z,
-  plain-first : (o : ℕ) → withoutZ K (unit K (2 * o)) ≡ unit K o
-  plain-first o = unit-ext o _ (unit-at K (2 * o)) (λ k n. unit-off K (2 * o) (2 * k) (λ (e : 2 * k ≡ 2 * o). absurd (omega arith)))
-
-  plain-second : (M o : ℕ) → withZ K M (unit K (2 * o)) ≡ (λ k. 𝟘)
-  plain-second M o = fun-ext (λ k. unit-off K (2 * o) (2 * (k + M) + 1) (λ (e : 2 * (k + M) + 1 ≡ 2 * o). absurd (omega arith)))
-
-  -- and with it
+  -- the parts of a term with z
   z-first : (M o : ℕ) → withoutZ K (unit K (2 * (o + M) + 1)) ≡ (λ k. 𝟘)
   z-first M o = fun-ext (λ k. unit-off K (2 * (o + M) + 1) (2 * k) (λ (e : 2 * k ≡ 2 * (o + M) + 1). absurd (omega arith)))
 
@@ -70,11 +64,11 @@ module _ (𝓜 : Member) where
                 interpolant = plain-term;
                 at0 = monomialAt o p;
                 at1 = 𝟘;
-                value0 = weighted-by (K gf) (plain-first (K gf) o) (val-unit (K gf) w wide (px 𝓜 p) (py 𝓜 p) o);
-                value1 = weighted-by (K gf) (plain-second (K gf) M o) (weighted-zero (K gf) _);
+                value0 = weighted-by (K gf) (unit-plain (K gf) o) (val-unit (K gf) w wide (px 𝓜 p) (py 𝓜 p) o);
+                value1 = weighted-by (K gf) (unit-z (K gf) M o) (weighted-zero (K gf) _);
                 total = ap (λ a. monomialAt o p ⊕ a) (mul-zero (K gf) _) ∙ add-zero (K gf) _ ∙ sym (whole p l);
               };
-          slope = λ p l. weighted-by (K gf) (plain-second (K gf) M o) (weighted-is (K gf) (sym (slope p l)) (weighted-zero (K gf) _));
+          slope = λ p l. weighted-by (K gf) (unit-z (K gf) M o) (weighted-is (K gf) (sym (slope p l)) (weighted-zero (K gf) _));
         }
 
     pub z-holds : {v : Values 𝓜} (word : List ℕ) → ((p : ℕ) → p < places 𝓜 → v 0 p ≡ toF gf (getD word p 0) ⊗ monomialAt o p)
