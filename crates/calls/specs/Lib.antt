@@ -5,3 +5,14 @@ pub mod Flags
 pub mod Keeping
 pub mod Promises
 pub mod PromiseLaws
+pub mod Step
+pub mod Runs
+pub mod Follows
+pub mod Alike
+pub mod Undone
+pub mod Demand3
+pub mod Repaired
+pub mod Marked
+pub mod Shown
+pub mod Tabled
+pub mod Alive
