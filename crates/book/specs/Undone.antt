@@ -30,8 +30,8 @@ module _ (book : Book) (call : Call) (calls : List Call) where
   pub refused-goes : answer book call .number ≢ accepted → acceptedOf book (call ∷ calls) ≡ acceptedOf book calls
   refused-goes = any.refused-goes others64 book call calls
 
-module _ (book : Book) (p : ℕ) (column : List ℕ) (n : answer book (deliver p column) .number ≡ accepted) {calls : List Call} (spares : Spares p calls)
-    where
+module _ (book : Book) (p : ℕ) (column : List ℕ) (n : answer book (deliver p column) .number ≡ accepted) {calls : List Call}
+    (spares : Spares p calls) where
   pub undone-calls : (answer (afterAll book (deliver p column ∷ calls)) (withdraw p) .number ≡ accepted)
       × (afterAll book (deliver p column ∷ (calls ++ (withdraw p ∷ []))) ≡ afterAll book (acceptedOf (after book (deliver p column)) calls))
   undone-calls = any.undone-calls others64 book p column n spares

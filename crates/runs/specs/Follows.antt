@@ -19,35 +19,30 @@
 --   CaptureStarts bytes r, capture-starts   every accepted capture is such an opening: its rate and list are ones that opening accepts, and each of its
 --                        records is accepted
 use mathlib.Core.Bool.{true}
-use mathlib.Core.Path.{_≡_, refl, sym, ap, _∙_, subst}
+use mathlib.Core.Path.{_≡_, sym, ap, _∙_, subst}
 use mathlib.Core.List.{List, List·Memᴰ}
 use Prim.Native.Nat.{ℕ}
-use lib.ListN.{length}
 use Rattle.refusals.specs.Refusal.{accepted}
 use Rattle.lists.specs.Distinct.{below}
-use Rattle.near.specs.Here.{blankLimit, IsReach}
+use Rattle.near.specs.Here.{IsReach}
 use Rattle.book.specs.Model.{modem64}
-use Rattle.book.specs.Book.{Book, newBook, Outcome}
-use Rattle.book.specs.Columns.{Agree, agree-sym, agree-path, agree-trans}
+use Rattle.book.specs.Book.{Book, newBook}
+use Rattle.book.specs.Columns.{Agree, agree-path, agree-trans}
 use Rattle.book.specs.CaptureOpening.{rateIn, listIn, recordsIn, openCaptureOf}
-use Rattle.book.specs.Closing.{Closed}
 use Rattle.code.specs.Encoding.{knownRate}
 use Rattle.book.specs.OpeningLaws.{Rate, rate-known, known-rate}
 use Rattle.book.specs.AnyCalls.{Answer}
 use Rattle.book.specs.Calls.{Call, others64, closing, answers, afterAll}
-use Rattle.book.specs.AlikeCalls.{answer-alike, answers-alike, afterAll-alike}
-use Rattle.book.specs.Sentences.{opening-accepts, opening-only, closes}
-use Rattle.book.specs.Costs.{new-costs}
-use Rattle.book.specs.Here.{openOf, reportLength, DoubtfulList, blanksIn, Closes, closeOf, RowColumns}
-use Rattle.book.specs.CallLaws.{rate-held, AllFit}
+use Rattle.book.specs.Sentences.{opening-only}
+use Rattle.book.specs.Here.{openOf, DoubtfulList, closeOf, RowColumns}
+use Rattle.book.specs.CallLaws.{rate-held}
 use Rattle.book.specs.Captured.{deliveries, capture-opens, capture-costs}
 use Rattle.session.specs.declared.Session.{Session}
 use Rattle.session.specs.declared.Opened.{Opened}
 use Rattle.session.specs.View.{keeping, bookOf, Good}
 use Rattle.session.specs.Calls.{Opening}
-use Rattle.session.specs.Laws.{one-session}
 use Rattle.runs.specs.Step.{Step}
-use Rattle.runs.specs.Runs.{Run, every-run, run-good, run-book, one-end, some-run}
+use Rattle.runs.specs.Runs.{Run}
 use Rattle.calls.specs.Follows as any
 use Rattle.calls.specs.Follows.{new-rate}
 pub use Rattle.calls.specs.Follows.{closedBy}
