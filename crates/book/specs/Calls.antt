@@ -1,59 +1,103 @@
--- The book of the modem of 64 places under a list of calls: what each call answers, fed its arguments except the session.
+-- The calls of the modem of 64 places (AnyCalls): beside deliveries, withdrawals and closings it has interpolant readings and capture writings.
 --
---   Call                 delivery of a place and its column, interpolant reading, capture writing or closing, with the buffers as they are lent, or
---                        withdrawal of a place
+--   Other                its other calls: interpolant reading and capture writing, each with the buffer as it is lent
+--   others64             what the book answers to them: other-alike, other-kept, other-sized, other-blank
+--   Call                 its calls: deliver, withdraw, closing, reading, writing
 --   firstLent, secondLent   the buffers as they are lent
 --   answer book call     what the book answers to a call
 --   after book call      the book after it: only an accepted delivery or withdrawal changes it
 --   answers, afterAll    the same of a list of calls, each of which finds the book that the call before it left
-use mathlib.Core.List.{List, []}
+use mathlib.Core.Bool.{true}
+use mathlib.Core.Path.{_≡_, refl}
+use mathlib.Core.List.{List}
+use mathlib.Core.Logic.{_≢_}
 use Prim.Native.Nat.{ℕ}
+use lib.Dec.{eqb}
+use lib.ListN.{length}
+use Rattle.refusals.specs.Refusal.{accepted, wrongSize, tooBlank}
+use Rattle.interpolant.specs.LeastQ.{readingLength}
 use Rattle.book.specs.Book.{Book}
+use Rattle.book.specs.Columns.{Agree}
+use Rattle.book.specs.Capture.{captureLength}
+use Rattle.book.specs.Writing.{Filled, writeOf}
+use Rattle.book.specs.WritingLaws.{writing-alike, write-kept, write-sized}
 use Rattle.book.specs.Reading.{readOf}
-use Rattle.book.specs.Writing.{writeOf}
+use Rattle.book.specs.ReadingLaws.{read-kept, read-sized}
+use Rattle.book.specs.ReadingSentences.{reading-alike}
 use Rattle.book.specs.Model.{modem64}
-use Rattle.book.specs.Here.{deliverOf, withdrawOf}
-use Rattle.book.specs.AnyCalls.{Answer, toDelivery, toWithdrawal, toClosing}
-use Rattle.book.specs.Machine.{afterBy, answersBy}
+use Rattle.book.specs.Here.{someMissing, Proper}
+use Rattle.book.specs.AnyCalls as any
+use Rattle.book.specs.AnyCalls.{Answer, Others, other}
+use Rattle.book.specs.AnyCallLaws.{none-of-three}
+pub use Rattle.book.specs.AnyCalls.{deliver, withdraw, closing}
 
-pub data Call : Type 0 where
-  deliver : ℕ → List ℕ → Call
-  reading : List ℕ → Call
-  writing : List ℕ → Call
-  closing : List ℕ → List ℕ → Call
-  withdraw : ℕ → Call
+pub data Other : Type 0 where
+  read : List ℕ → Other
+  write : List ℕ → Other
 
--- a column is given by value, so a delivery lends no buffer; nor does a withdrawal
-unfoldable pub firstLent : Call → List ℕ
-firstLent (deliver p column) = []
-firstLent (reading out) = out
-firstLent (writing out) = out
-firstLent (closing message report) = message
-firstLent (withdraw p) = []
+abbrev pub Call : Type 0
+Call = any.Call Other
 
-unfoldable pub secondLent : Call → List ℕ
-secondLent (deliver p column) = []
-secondLent (reading out) = []
-secondLent (writing out) = []
-secondLent (closing message report) = report
-secondLent (withdraw p) = []
+abbrev pub reading : List ℕ → Call
+reading out = other (read out)
 
-unfoldable pub answer : Book → Call → Answer
-answer book (deliver p column) = toDelivery modem64 book p column
-answer book (reading out) = record { number = readOf book out .number; first = readOf book out .bytes; second = [] }
-answer book (writing out) = record { number = writeOf book out .number; first = writeOf book out .bytes; second = [] }
-answer book (closing message report) = toClosing modem64 book message report
-answer book (withdraw p) = toWithdrawal modem64 book p
+abbrev pub writing : List ℕ → Call
+writing out = other (write out)
 
-unfoldable pub after : Book → Call → Book
-after book (deliver p column) = deliverOf book p column .book
-after book (reading out) = book
-after book (writing out) = book
-after book (closing message report) = book
-after book (withdraw p) = withdrawOf book p .book
+abbrev lentTo : Other → List ℕ
+lentTo (read out) = out
+lentTo (write out) = out
+
+abbrev askedOf : Book → Other → Filled
+askedOf book (read out) = readOf book out
+askedOf book (write out) = writeOf book out
+
+pub other-alike : {a b : Book} → Agree a b → (x : Other) → askedOf a x ≡ askedOf b x
+other-alike same (read out) = reading-alike same out
+other-alike same (write out) = writing-alike same out
+
+pub other-kept : (book : Book) (x : Other) → askedOf book x .number ≢ accepted → askedOf book x .bytes ≡ lentTo x
+other-kept book (read out) = read-kept book out
+other-kept book (write out) = write-kept book out
+
+pub other-sized : (book : Book) (x : Other) → Proper book → length (askedOf book x .bytes) ≡ length (lentTo x)
+other-sized book (read out) proper = read-sized book out
+other-sized book (write out) proper = write-sized book out proper
+
+pub other-blank : (book : Book) (x : Other) → askedOf book x .number ≢ tooBlank
+unfolding readOf writeOf
+other-blank book (read out) n =
+    let refused : Filled = record { number = wrongSize; bytes = out } in
+    none-of-three (λ (f : Filled). f .number) tooBlank (eqb (length out) readingLength) true _ refused refused n refl refl refl
+other-blank book (write out) n =
+    none-of-three (λ (f : Filled). f .number) tooBlank (eqb (length out) (captureLength (length (book .doubtful)))) (someMissing (book .row)) _ _ _ n
+    refl refl refl
+
+abbrev pub others64 : Others modem64 Other
+others64 =
+    record {
+      lent = lentTo;
+      asked = askedOf;
+      asked-alike = λ same x. other-alike same x;
+      asked-kept = other-kept;
+      asked-sized = other-sized;
+      asked-blank = other-blank;
+    }
+
+abbrev pub firstLent : Call → List ℕ
+firstLent call = any.firstLent others64 call
+
+abbrev pub secondLent : Call → List ℕ
+secondLent call = any.secondLent others64 call
+
+abbrev pub answer : Book → Call → Answer
+answer book call = any.answer others64 book call
+
+abbrev pub after : Book → Call → Book
+after book call = any.after others64 book call
 
 abbrev pub answers : Book → List Call → List Answer
-answers book calls = answersBy answer after book calls
+answers book calls = any.answers others64 book calls
 
 abbrev pub afterAll : Book → List Call → Book
-afterAll book calls = afterBy after book calls
+afterAll book calls = any.afterAll others64 book calls

@@ -6,80 +6,43 @@
 --                        order
 --   capture-costs        the columns of an accepted capture's row are columns
 --   capture-shows        so an accepted closing of the book that it opens as shows the numbers of the message that it gives
-use mathlib.Core.Bool.{Bool, true, false}
-use mathlib.Core.Path.{_≡_, refl, sym, ap, _∙_, subst}
-use mathlib.Core.List.{List, [], _∷_, List·Memᴰ, List·Memᴰ·cases-cons, List·Memᴰ·not-nil}
+use mathlib.Core.Bool.{true}
+use mathlib.Core.Path.{_≡_, sym, ap, _∙_, subst}
+use mathlib.Core.List.{List, List·Memᴰ, List·Memᴰ·cases-cons, List·Memᴰ·not-nil}
 use mathlib.Core.Logic.{_⊎_, ⊎-elim}
-use Prim.Native.Nat.{ℕ, zero, suc, _+_, _<_}
-use native.Mathlib.Decide.{decLt}
-use native.Mathlib.Omega.{arith}
+use Prim.Native.Nat.{ℕ, zero, suc, _+_}
 use lib.ListN.{take, drop}
 use Rattle.refusals.specs.Refusal.{accepted}
 use Rattle.code.specs.Encoding.{knownRate}
 use Rattle.lists.specs.Distinct.{below, below-take, below-drop}
 use Rattle.book.specs.Model.{modem64}
-use Rattle.book.specs.Book.{Entry, Book, newBook, taken, Outcome}
-use Rattle.book.specs.Delivery.{withEntry}
+use Rattle.book.specs.Book.{Entry, Book, newBook, Outcome}
 use Rattle.book.specs.Capture.{recordLength, recordsOf}
 use Rattle.book.specs.CaptureOpening.{rateIn, listIn, recordsIn, openCaptureOf, doubtIn}
 use Rattle.book.specs.CaptureCases.{open-checked, bookIn, capture-fit, capture-proper}
-use Rattle.book.specs.RowLaws.{deliver-accepted, open-accepted}
+use Rattle.book.specs.RowLaws.{open-accepted}
 use Rattle.book.specs.AnyCalls.{Answer}
-use Rattle.book.specs.Machine.{answersBy, afterBy}
-use Rattle.book.specs.Calls.{Call, deliver, answer, after, answers, afterAll}
+use Rattle.book.specs.Calls.{Call, others64, answers, afterAll}
+use Rattle.book.specs.AnyCallLaws as laws
 use Rattle.book.specs.Costs.{costs-column}
 use Rattle.book.specs.Report.{closing-shows}
-use Rattle.book.specs.Here.{places, fitDoubt, openOf, deliverOf, closeOf, deliverRow, RowColumns, IsColumn, ReportedIn}
-use Rattle.book.specs.RowDelivery.{row-above, row-taken, row-next, row-none}
+use Rattle.book.specs.Here.{places, fitDoubt, openOf, closeOf, deliverRow, RowColumns, IsColumn, ReportedIn}
 use Rattle.book.specs.OpeningLaws.{list-short}
-use Rattle.book.specs.Opening as BookOpening
 
 -- ---- 'opening an accepted capture counts as opening with its rate and list and then delivering its records in their order'
 
-unfoldable pub deliveries : List Entry → List Call
-deliveries [] = []
-deliveries (e ∷ entries) = deliver (e .place) (e .column) ∷ deliveries entries
+abbrev pub deliveries : List Entry → List Call
+deliveries entries = laws.deliveries entries
 
 pub record CaptureOpens (bytes : List ℕ) : Type 0 where
   pub opened : openOf (rateIn bytes) (listIn bytes) .number ≡ accepted
   pub delivered : openCaptureOf bytes .book ≡ afterAll (newBook (rateIn bytes) (listIn bytes)) (deliveries (recordsIn bytes))
   pub all-accepted : (a : Answer) → List·Memᴰ a (answers (newBook (rateIn bytes) (listIn bytes)) (deliveries (recordsIn bytes))) → a .number ≡ accepted
 
--- the first of a list of calls, where it is an accepted delivery, and the rest
 pub row-calls : (book : Book) (entries : List Entry) → deliverRow book entries .number ≡ accepted
     → (deliverRow book entries .book ≡ afterAll book (deliveries entries))
     × ((a : Answer) → List·Memᴰ a (answers book (deliveries entries)) → a .number ≡ accepted)
-unfolding deliveries answersBy afterBy answer after BookOpening.refusedOpening
-row-calls book [] n = (ap (λ (o : Outcome). o .book) (row-none modem64 book), λ a m. absurd (List·Memᴰ·not-nil m))
-row-calls book (e ∷ entries) n =
-    go (decLt (e .place) places) (taken (book .row) (e .place)) refl (row-calls (withEntry book (e .place) (e .column)) entries)
-  where
-    first : Outcome
-    first = deliverOf book (e .place) (e .column)
-
-    Called : Book → Type 0
-    Called b =
-        (deliverRow b entries .book ≡ afterAll b (deliveries entries))
-        × ((a : Answer) → List·Memᴰ a (answers b (deliveries entries)) → a .number ≡ accepted)
-
-    go : Dec (e .place < places) → (b : Bool) → taken (book .row) (e .place) ≡ b
-        → (deliverRow (withEntry book (e .place) (e .column)) entries .number ≡ accepted → Called (withEntry book (e .place) (e .column)))
-        → (deliverRow book (e ∷ entries) .book ≡ afterAll (first .book) (deliveries entries))
-        × ((a : Answer) → List·Memᴰ a (record { number = first .number; first = []; second = [] } ∷ answers (first .book) (deliveries entries))
-        → a .number ≡ accepted)
-    go (yes h) true t ih = absurd (omega (arith, sym (ap (λ (o : Outcome). o .number) (row-taken modem64 book e entries h t)) ∙ n))
-    go (yes h) false t ih =
-        let d : first ≡ record { number = accepted; book = withEntry book (e .place) (e .column) } = deliver-accepted modem64 book (e .place) (e .column) h t in
-        let r = ih (sym (ap (λ (o : Outcome). o .number) (row-next modem64 book e entries h t)) ∙ n) in (
-          ap (λ (o : Outcome). o .book) (row-next modem64 book e entries h t) ∙ r .0 ∙ ap (λ (o : Outcome). afterAll (o .book) (deliveries entries)) (sym d),
-          λ a m.
-              ⊎-elim
-              (λ (q : a ≡ record { number = first .number; first = []; second = [] }).
-              ap (λ (x : Answer). x .number) q ∙ ap (λ (o : Outcome). o .number) d)
-              (λ l. r .1 a (subst (λ (o : Outcome). List·Memᴰ a (answers (o .book) (deliveries entries))) d l))
-              (List·Memᴰ·cases-cons m),
-        )
-    go (no h) b t ih = absurd (omega (arith, sym (ap (λ (o : Outcome). o .number) (row-above modem64 book e entries (omega arith))) ∙ n))
+row-calls = laws.row-calls others64
 
 pub capture-opens : (bytes : List ℕ) → openCaptureOf bytes .number ≡ accepted → CaptureOpens bytes
 unfolding bookIn

@@ -44,6 +44,9 @@ pub mod EngineLaws
 pub mod Single
 pub mod Bench
 pub mod AnyCalls
+pub mod AnyCallLaws
+pub mod AnyUndone
+pub mod WritingLaws
 pub mod Calls
 pub mod AlikeCalls
 pub mod CallLaws

@@ -6,18 +6,18 @@
 --   rowOf costs n            the places below n, rising, with their columns in the table
 --   Writing s before r after   writing the session s into a buffer: of a good session the number and the buffer afterwards are the book's; whatever
 --                            the session, a refused call leaves the buffer as it was, and the buffer keeps its length
-use mathlib.Core.Path.{_≡_}
 use mathlib.Core.List.{List, _∷_}
 use Prim.Native.Nat.{ℕ, _+_, _/_, _%_}
 use lib.ListN.{length}
-use Rattle.refusals.specs.Refusal.{accepted}
 use Rattle.lists.specs.Listed.{listed}
 use Rattle.soft.specs.CostBytes.{costBytes}
 use Rattle.book.specs.Book.{Entry}
 use Rattle.book.specs.Capture.{bodyLength, versionOf}
-use Rattle.book.specs.Writing.{writeOf}
+use Rattle.book.specs.Model.{modem64}
+use Rattle.book.specs.Calls.{write, others64}
+use Rattle.calls.specs.Promises.{Asking}
 use Rattle.session.specs.declared.Session.{Session}
-use Rattle.session.specs.View.{entryAt, bookOf, Good}
+use Rattle.session.specs.View.{keeping, entryAt}
 
 abbrev pub headLength : ℕ → ℕ
 headLength d = 5 + d
@@ -31,8 +31,5 @@ recordBytes p column = p ∷ costBytes column
 unfoldable pub rowOf : List ℕ → ℕ → List Entry
 rowOf costs n = listed n (entryAt costs)
 
-pub record Writing (s : Session) (before : List ℕ) (r : ℕ) (after : List ℕ) : Type 0 where
-  pub number : Good s → r ≡ writeOf (bookOf s) before .number
-  pub bytes : Good s → after ≡ writeOf (bookOf s) before .bytes
-  pub kept : (r ≡ accepted → ⊥) → after ≡ before
-  pub size : length after ≡ length before
+abbrev pub Writing : Session → List ℕ → ℕ → List ℕ → Type 0
+Writing s before r after = Asking modem64 keeping others64 s (write before) r after

@@ -21,7 +21,7 @@ use Rattle.book.specs.CaptureOpening.{recordsIn, openCaptureOf}
 use Rattle.book.specs.CaptureCases.{capture-refused}
 use Rattle.book.specs.PlaceOrder.{InPlaceOrder, order-agree}
 use Rattle.book.specs.RoundTrip.{write-whole, written-opened}
-use Rattle.book.specs.AlikeCalls.{writing-alike}
+use Rattle.book.specs.WritingLaws.{writing-alike}
 use Rattle.book.specs.Here.{ordered}
 use Rattle.session.specs.declared.Session.{Session}
 use Rattle.session.specs.declared.Opened.{Opened}

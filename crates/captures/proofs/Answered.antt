@@ -12,7 +12,7 @@ use Rattle.book.specs.Model.{modem64}
 use Rattle.book.specs.Book.{Entry, Outcome}
 use Rattle.book.specs.Columns.{agree-sym}
 use Rattle.book.specs.AlikeDelivery.{Agreed, agreed-path, agreed-trans, row-alike}
-use Rattle.book.specs.AlikeCalls.{writing-alike}
+use Rattle.book.specs.WritingLaws.{writing-alike}
 use Rattle.book.specs.Sentences.{closing-alike}
 use Rattle.book.specs.Closing.{refusedClosing}
 use Rattle.book.specs.Table.{closed, entriesOf}

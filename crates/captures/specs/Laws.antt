@@ -29,7 +29,7 @@ use Rattle.book.specs.CaptureOpening.{recordsIn, openCaptureOf}
 use Rattle.book.specs.CaptureCases.{bookIn, capture-fit, capture-proper}
 use Rattle.book.specs.PlaceOrder.{InPlaceOrder, order-agree}
 use Rattle.book.specs.RoundTrip.{written-order, open-written, write-accepted, write-whole, none-missing, written-opened, open-then-write}
-use Rattle.book.specs.AlikeCalls.{writing-alike}
+use Rattle.book.specs.WritingLaws.{writing-alike}
 use Rattle.book.specs.Sentences.{closing-alike}
 use Rattle.book.specs.Here.{someMissing, columnsOf, Proper, ordered, decodeOf, closeOf}
 use Rattle.captures.specs.Calls.{filled, closeOpened, writeOpened, decodeCaptureOf, sortCaptureOf}

@@ -1,1 +1,4 @@
 pub mod Ground
+pub mod Model
+pub mod Demand3
+pub mod Sessions

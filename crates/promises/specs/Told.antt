@@ -48,8 +48,8 @@ use Rattle.session.specs.declared.Opened.{Opened}
 use Rattle.session.specs.Answering.{Closing}
 use Rattle.session.specs.Calls.{Opening}
 use Rattle.session.specs.View.{held, bookOf, Good}
-use Rattle.session.specs.Held as Fields
-use Rattle.session.specs.HeldLaws.{columns-table}
+use Rattle.calls.specs.Held as Fields
+use Rattle.calls.specs.HeldLaws.{columns-table}
 use Rattle.session.specs.Laws.{good-proper}
 use Rattle.capture.specs.Calls.{Writing}
 use Rattle.capture.specs.Laws.{open-then-write}
@@ -167,7 +167,7 @@ costs-columns costs small =
 
 pub session-told : (s : Session) (message report : List ℕ) → below 65536 (s .costs) ≡ true → Good s
     → Told (s .rate) (columnsOf (bookOf s .row)) (bookOf s .doubtful) (closeOf (bookOf s) message report)
-unfolding bookOf Fields.bookOf
+unfolding Fields.bookOf
 session-told s message report small good = record { shows = shows; cheapest = λ n mark. cheapest n mark }
   where
     columns : AreColumns (columnsOf (bookOf s .row))

@@ -1,9 +1,9 @@
--- Demand 3, whole: 'No sequence of calls can lose, add or change an answer.'
+-- Demand 3, whole, of the modem of 64 places: 'No sequence of calls can lose, add or change an answer.'
 --
 --   ClosedAfter book calls a   closing after those calls, into buffers of the right sizes, is given the answer a; the calls are made on a session that an
 --                        accepted opening returned, with that book
 --   Demand3              the claim, sentence by sentence
---   whole                it holds
+--   whole                it holds: what is not of captures, readings and writings is every modem's (`calls` Demand3 demand-3), at this one
 --
 -- It speaks of runs, whose steps are what the contract of `step` says of every call that it makes (Step, Stepping), and of openings (Start), which are what
 -- the contracts of `open` and `open_capture` say. T is that of the closing (ReachAfter): by the rate and the places that are blank in the columns held then.
@@ -13,37 +13,33 @@ use mathlib.Core.Path.{_≡_, subst}
 use mathlib.Core.List.{List, [], _∷_, _++_}
 use mathlib.Core.Logic.{_↔_, _≢_, _⊎_}
 use Prim.Native.Nat.{ℕ, suc, _+_, _-_, _*_, _<_, _≤_}
-use native.Mathlib.Decide.{decLe}
 use native.Mathlib.Omega.{arith}
 use lib.ListN.{length, getD}
 use Rattle.refusals.specs.Refusal.{accepted, placeMissing, noneNear, tooBlank}
-use Rattle.family.specs.Member.{m16}
-use Rattle.near.specs.Here.{m-is, blankLimit, reachOf, IsReach, t-is}
-use Rattle.near.specs.Reach.{reach-is}
+use Rattle.near.specs.Here.{m-is, blankLimit, IsReach, t-is}
 use Rattle.book.specs.Book.{Book, columnIn}
 use Rattle.book.specs.Columns.{Agree}
 use Rattle.book.specs.PlaceOrder.{InPlaceOrder}
 use Rattle.book.specs.Delivery.{withEntry}
 use Rattle.book.specs.Withdrawal.{withoutPlace}
 use Rattle.book.specs.CaptureOpening.{recordsIn}
-use Rattle.book.specs.OpeningLaws.{Rate, rate-39, rate-49, rate-workable, rate-blanks, rate-reaches}
+use Rattle.book.specs.OpeningLaws.{Rate, rate-known, rate-39, rate-49, rate-blanks, rate-reaches}
 use Rattle.book.specs.AnyCalls.{Answer}
-use Rattle.book.specs.Calls.{Call, deliver, writing, closing, withdraw, firstLent, secondLent, answer, after, answers, afterAll}
-use Rattle.book.specs.Here.{openOf, reportLength, Missing, DoubtfulList, IsNear, IsAnswer, Closes}
-use Rattle.book.specs.CallLaws as laws
+use Rattle.book.specs.Calls.{Call, others64, deliver, writing, closing, withdraw, firstLent, secondLent, answer, after, answers, afterAll}
+use Rattle.book.specs.Here.{openOf, reportLength, Missing, DoubtfulList, IsNear, IsAnswer}
+use Rattle.calls.specs.Demand3 as any
 use Rattle.book.specs.CallLaws.{AllFit}
 use Rattle.book.specs.Undone.{Spares, acceptedOf}
 use Rattle.session.specs.declared.Session.{Session}
 use Rattle.session.specs.declared.Opened.{Opened}
-use Rattle.session.specs.View.{bookOf, Good}
+use Rattle.session.specs.View.{keeping, bookOf, Good}
 use Rattle.session.specs.Calls.{Opening}
 use Rattle.runs.specs.Step.{Step}
 use Rattle.runs.specs.Runs.{Run}
-use Rattle.runs.specs.Follows.{closedBy, blanksAfter, ReachAfter, reach-after, limit-after, ByCapture, Start, opening-accepted, start-rate, start-follows, one-start, CaptureStarts, capture-starts}
+use Rattle.runs.specs.Follows.{closedBy, blanksAfter, ReachAfter, ByCapture, Start, start-stands, CaptureStarts, capture-starts}
 use Rattle.runs.specs.Shown.{run-writes, capture-written, capture-back}
 use Rattle.runs.specs.Alike as agreeing
 use Rattle.runs.specs.Alike.{Reached, SameHeld, Alike}
-use Rattle.runs.specs.Undone as undoing
 
 pub data ClosedAfter (book : Book) (calls : List Call) (a : Answer) : Type 0 where
   closed-after : {s t u : Session} {given : List Answer} {message report : List ℕ} → Start book s → Run s calls given t
@@ -135,28 +131,12 @@ pub record Demand3 : Type 0 where
       → Run s (before ++ (deliver p column ∷ (calls ++ (withdraw p ∷ [])))) given t
       → Run s (before ++ acceptedOf (after (afterAll book before) (deliver p column)) calls) other u → t ≡ u
 
-closes-after : {book : Book} {calls : List Call} {a : Answer} → ClosedAfter book calls a → Closes (afterAll book calls) (closedBy a)
-closes-after (closed-after start run step long whole-report) = start-follows start .closed run step long whole-report
+-- every modem's, at this one
+abbrev general : any.Demand3 others64 keeping
+general = any.demand-3 others64 keeping
 
-closed-rate : {book : Book} {calls : List Call} {a : Answer} → ClosedAfter book calls a → Rate (book .rate)
-closed-rate (closed-after start run step long whole-report) = start-rate start
-
-module _ {book : Book} {calls : List Call} {a : Answer} (c : ClosedAfter book calls a) where
-  blank-after : (a .number ≡ tooBlank) ↔ (((p : ℕ) → Missing (afterAll book calls .row) p → ⊥) × (blankLimit (book .rate) < blanksAfter book calls))
-  blank-after = (
-    λ n. (full n, omega (arith, limit-after book calls, closes-after c .too-blank (full n) .0 n)),
-    λ r. closes-after c .too-blank (r .0) .1 (omega (arith, limit-after book calls, r .1)),
-  )
-    where
-      full : a .number ≡ tooBlank → (p : ℕ) → Missing (afterAll book calls .row) p → ⊥
-      full n p m = omega (arith, n, closes-after c .early .1 (p, m))
-
-  reach-there : ((p : ℕ) → Missing (afterAll book calls .row) p → ⊥) → a .number ≢ tooBlank → (T : ℕ) × ReachAfter book calls T
-  reach-there full n = go (decLe (blanksAfter book calls) (blankLimit (book .rate)))
-    where
-      go : Dec (blanksAfter book calls ≤ blankLimit (book .rate)) → (T : ℕ) × ReachAfter book calls T
-      go (yes few) = (reachOf (book .rate) (blanksAfter book calls), reach-is m16 (rate-workable (closed-rate c)) few)
-      go (no many) = absurd (n (blank-after .1 (full, omega arith)))
+closes-after : {book : Book} {calls : List Call} {a : Answer} → ClosedAfter book calls a → any.ClosedAfter others64 keeping book calls a
+closes-after (closed-after start run step long whole-report) = any.closed-after (start-stands start) run step long whole-report
 
 reach-rule-is : (rate b T : ℕ) → IsReach rate b T ↔ ((2 * T + b < 64 - (rate + 5) - 6) × ((n : ℕ) → 2 * n + b < 64 - (rate + 5) - 6 → n ≤ T))
 reach-rule-is rate b T =
@@ -165,18 +145,18 @@ reach-rule-is rate b T =
 pub whole : Demand3
 whole =
     record {
-      opening-accepts = λ known fit opened. opening-accepted known fit opened;
+      opening-accepts = λ known fit opened. general .opening-accepts (rate-known known) fit opened;
       rates = λ rate. (λ r. (r .least, r .most), λ h. record { least = h .0; most = h .1 });
       lists = λ list. (
         λ d. (d .short, λ i l. omega (arith, d .in-range i l), d .rises),
         λ d. record { short = d .0; in-range = λ i l. omega (arith, d .1 i l); rises = d .2 },
       );
-      answered = λ start run. start-follows start .answered run;
-      left = λ start run. start-follows start .left run;
-      one-left = λ start run other. start-follows start .one-left run other;
-      some-run = λ start fit. start-follows start .not-empty fit;
-      early = λ c. closes-after c .early;
-      too-blank = λ c. blank-after c;
+      answered = λ start run. general .answered (start-stands start) run;
+      left = λ start run. general .left (start-stands start) run;
+      one-left = λ start run other. general .one-left (start-stands start) run other;
+      some-run = λ start fit. general .some-run (start-stands start) fit;
+      early = λ c. general .early (closes-after c);
+      too-blank = λ c. general .too-blank (closes-after c);
       blank-rule = λ known. rate-blanks known;
       reach-rule = λ rate b T. reach-rule-is rate b T;
       limits = (
@@ -187,19 +167,19 @@ whole =
         rate-blanks rate-39 .1,
         rate-blanks rate-49 .1,
       );
-      blank-closing = laws.only-closing-blank;
-      some-reach = λ c full n. reach-there c full n;
-      none-near = λ {book} {calls} c full reach. closes-after c .none-near full (reach-after book calls reach);
-      otherwise = λ {book} {calls} c full reach n. closes-after c .otherwise full (reach-after book calls reach) n;
+      blank-closing = general .blank-closing;
+      some-reach = λ c full n. general .some-reach (closes-after c) full n;
+      none-near = λ c full reach. general .none-near (closes-after c) full reach;
+      otherwise = λ c full reach n. general .otherwise (closes-after c) full reach n;
       captures = λ opened n. capture-starts opened n;
-      only-changes = laws.only-changes;
-      takes-out = laws.withdrawn-after;
-      refused-kept = laws.refused-lent;
+      only-changes = general .only-changes;
+      takes-out = general .takes-out;
+      refused-kept = general .refused-kept;
       alike = λ x y same. agreeing.alike x y same;
       one-held = λ x y same. agreeing.held-one x y same;
-      one-start = λ x y. one-start x y;
+      one-start = λ x y. general .one-start (start-stands x) (start-stands y);
       in-order = λ start run step n. run-writes start run step n;
       unchanged = λ opened n step long. capture-written opened n step long;
       written-back = λ bytes opened n step long p. capture-back bytes opened n step long p;
-      undone = λ start before p column n spares run without. undoing.undone start before p column n spares run without;
+      undone = λ start before p column n spares run without. general .undone (start-stands start) before p column n spares run without;
     }

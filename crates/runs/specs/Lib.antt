@@ -4,9 +4,9 @@ pub mod Runs
 pub mod Follows
 pub mod Alike
 pub mod Undone
+pub mod Shown
 pub mod Demand3
 pub mod Repaired
 pub mod Alive
 pub mod Tabled
-pub mod Shown
 pub mod Marked

@@ -1,4 +1,5 @@
--- The message sent, after every list of calls: what `book` Repairs says of closing, said of the session that the calls left.
+-- The message sent, after every list of calls: what `book` Repairs says of closing, said of the session that the calls left. (`calls` Repaired, of the modem of
+-- 64 places, which opens captures too.)
 --
 --   follows-repaired, follows-refused, follows-found, follows-alone, follows-sure, follows-never   of a session that follows a book: an opened one, or one opened by
 --                          an accepted capture (Follows)
@@ -17,101 +18,67 @@
 --   capture-alone, capture-sure, capture-never   the same of a session opened by an accepted capture
 --
 -- T is the one that the blank places leave (ReachAfter), and they are none of the wrong ones.
-use mathlib.Core.Path.{_≡_, refl, sym, _∙_, subst, subst₂}
+use mathlib.Core.Path.{_≡_}
 use mathlib.Core.List.{List, []}
 use Prim.Native.Nat.{ℕ, _≤_}
-use native.Mathlib.Omega.{arith}
 use lib.ListN.{length}
 use Rattle.refusals.specs.Refusal.{accepted, noneNear}
 use Rattle.lists.specs.Words.{Word}
 use Rattle.near.specs.Here.{blankLimit, reachOf}
 use Rattle.book.specs.Model.{modem64}
 use Rattle.book.specs.Book.{Book, newBook}
-use Rattle.book.specs.OpeningLaws.{Rate, rate-known, rate-reach}
+use Rattle.book.specs.OpeningLaws.{Rate, rate-known}
 use Rattle.book.specs.AnyCalls.{Answer}
-use Rattle.book.specs.Calls.{Call, closing, afterAll}
-use Rattle.book.specs.Closing.{Closed}
-use Rattle.book.specs.Repairs.{always-repaired, always-refused, always-found, few-alone, always-alone, never-another}
-use Rattle.book.specs.Here.{openOf, columnsOf, closeOf, Missing, reportLength, DoubtfulList, FewWrong, FewDoubtful, Alone, notBest, TooFar, Repaired, NoDearer, Sure, RefusedAs, Never}
-use Rattle.book.specs.CallLaws.{rate-held, list-held}
+use Rattle.book.specs.Calls.{Call, others64, closing, afterAll}
+use Rattle.calls.specs.Repaired as any
+use Rattle.book.specs.Repairs.{few-alone}
+use Rattle.book.specs.Here.{openOf, columnsOf, Missing, reportLength, DoubtfulList, FewWrong, FewDoubtful, Alone, notBest, TooFar, Repaired, NoDearer, Sure, RefusedAs, Never}
 use Rattle.session.specs.declared.Session.{Session}
 use Rattle.session.specs.declared.Opened.{Opened}
+use Rattle.session.specs.View.{keeping}
 use Rattle.session.specs.Calls.{Opening}
 use Rattle.runs.specs.Step.{Step}
 use Rattle.runs.specs.Runs.{Run}
-use Rattle.runs.specs.Follows.{closedBy, Follows, closes-as, blanksAfter, ReachAfter, reach-after, captureBook, ByCapture, by-opening, start-follows, start-rate, capture-starts}
+use Rattle.runs.specs.Follows.{closedBy, Follows, blanksAfter, ReachAfter, captureBook, ByCapture, start-follows, start-rate, capture-starts}
 
 module _ {s : Session} {book : Book} (follows : Follows s book) {calls : List Call} {given : List Answer} {t : Session}
     (run : Run s calls given t) {message report : List ℕ} {a : Answer} {u : Session} (step : Step t (closing message report) a u)
     (long : length message ≡ book .rate) (whole-report : length report ≡ reportLength) (full : (p : ℕ) → Missing (afterAll book calls .row) p → ⊥)
     {T : ℕ} (reach : ReachAfter book calls T) (m : List ℕ) where
-  -- what holds of closing the book after the calls, by its rate and its list, holds of the answer, by those of the book
-  by-book : (P : ℕ → List ℕ → Closed → Type 0)
-      → P (afterAll book calls .rate) (afterAll book calls .doubtful) (closeOf (afterAll book calls) message report)
-      → P (book .rate) (book .doubtful) (closedBy a)
-  by-book P h =
-      subst (P (book .rate) (book .doubtful)) (closes-as follows run step)
-      (subst₂ (λ r l. P r l (closeOf (afterAll book calls) message report)) (rate-held book calls) (list-held book calls) h)
-
-  columns : ℕ → List ℕ
-  columns = columnsOf (afterAll book calls .row)
-
-  -- of closing the book after the calls
-  long-after : length message ≡ afterAll book calls .rate
-  long-after = long ∙ sym (rate-held book calls)
-
   pub follows-repaired : Rate (book .rate) → book .doubtful ≡ [] → Word 16 (book .rate) m
       → notBest (book .rate) (columnsOf (afterAll book calls .row)) m ≤ T
       → Repaired (book .rate) (columnsOf (afterAll book calls .row)) (book .doubtful) m (closedBy a)
-  unfolding columns
-  follows-repaired =
-      by-book (λ r l c. Rate r → l ≡ [] → Word 16 r m → notBest r columns m ≤ T → Repaired r columns l m c)
-      (λ rate. always-repaired modem64 (afterAll book calls) full message report long-after whole-report m (reach-after book calls reach) (rate-known rate))
+  follows-repaired rate = any.follows-repaired others64 keeping follows run step long whole-report full reach m (rate-known rate)
 
   pub follows-refused : Rate (book .rate) → book .doubtful ≡ [] → TooFar (book .rate) (columnsOf (afterAll book calls .row)) T m
       → RefusedAs noneNear message report (closedBy a)
-  unfolding columns
-  follows-refused =
-      by-book (λ r l c. Rate r → l ≡ [] → TooFar r columns T m → RefusedAs noneNear message report c)
-      (λ rate. always-refused modem64 (afterAll book calls) full message report long-after whole-report m (reach-after book calls reach) (rate-known rate))
+  follows-refused rate = any.follows-refused others64 keeping follows run step long whole-report full reach m (rate-known rate)
 
   pub follows-found : FewWrong (book .rate) (columnsOf (afterAll book calls .row)) (book .doubtful) T m
       → NoDearer (book .rate) (columnsOf (afterAll book calls .row)) (book .doubtful) m (closedBy a)
-  unfolding columns
-  follows-found =
-      by-book (λ r l c. FewWrong r columns l T m → NoDearer r columns l m c)
-      (always-found modem64 (afterAll book calls) full message report long-after whole-report m (reach-after book calls reach))
+  follows-found = any.follows-found others64 keeping follows run step long whole-report full reach m
 
   pub follows-alone : Rate (book .rate) → FewWrong (book .rate) (columnsOf (afterAll book calls .row)) (book .doubtful) T m
       → Alone (book .rate) (columnsOf (afterAll book calls .row)) (book .doubtful) T m
       → Sure (book .rate) (columnsOf (afterAll book calls .row)) (book .doubtful) m (closedBy a)
-  unfolding columns
-  follows-alone =
-      by-book (λ r l c. Rate r → FewWrong r columns l T m → Alone r columns l T m → Sure r columns l m c)
-      (λ rate. always-alone modem64 (afterAll book calls) full message report long-after whole-report m (reach-after book calls reach) (rate-known rate))
+  follows-alone rate = any.follows-alone others64 keeping follows run step long whole-report full reach m (rate-known rate)
 
   pub follows-sure : Rate (book .rate) → FewDoubtful (book .rate) (columnsOf (afterAll book calls .row)) (book .doubtful) T
       → FewWrong (book .rate) (columnsOf (afterAll book calls .row)) (book .doubtful) T m
       → Sure (book .rate) (columnsOf (afterAll book calls .row)) (book .doubtful) m (closedBy a)
-  follows-sure rate few-doubtful few = follows-alone rate few (few-alone modem64 few-doubtful few)
+  follows-sure rate = any.follows-sure others64 keeping follows run step long whole-report full reach m (rate-known rate)
 
   pub follows-never : Rate (book .rate) → Alone (book .rate) (columnsOf (afterAll book calls .row)) (book .doubtful) T m
       → Never (book .rate) (columnsOf (afterAll book calls .row)) (book .doubtful) m message report (closedBy a)
-  unfolding columns
-  follows-never =
-      by-book (λ r l c. Rate r → Alone r columns l T m → Never r columns l m message report c)
-      (λ rate. never-another modem64 (afterAll book calls) full message report long-after whole-report m (reach-after book calls reach) (rate-known rate))
+  follows-never rate = any.follows-never others64 keeping follows run step long whole-report full reach m (rate-known rate)
 
 -- ---- an opened session
 
 abbrev pub Full : ℕ → List ℕ → List Call → Type 0
-Full rate list calls = (p : ℕ) → Missing (afterAll (newBook rate list) calls .row) p → ⊥
+Full rate list calls = any.Full others64 rate list calls
 
 abbrev pub columnsAfter : ℕ → List ℕ → List Call → ℕ → List ℕ
-columnsAfter rate list calls = columnsOf (afterAll (newBook rate list) calls .row)
-
-no-places : DoubtfulList []
-no-places = record { short = omega arith; in-range = λ i l. absurd (omega arith); rises = λ i l. absurd (omega arith) }
+columnsAfter rate list calls = any.columnsAfter others64 rate list calls
 
 module _ {rate : ℕ} (known : Rate rate) {r : Opened} {calls : List Call} {given : List Answer} {t : Session} {message report : List ℕ}
     {a : Answer} {u : Session} (step : Step t (closing message report) a u) (long : length message ≡ rate) (whole-report : length report ≡ reportLength)
@@ -119,52 +86,38 @@ module _ {rate : ℕ} (known : Rate rate) {r : Opened} {calls : List Call} {give
   pub run-repaired : Opening (openOf rate []) r → Run (r .session) calls given t → Full rate [] calls
       → {T : ℕ} → ReachAfter (newBook rate []) calls T → Word 16 rate m
       → notBest rate (columnsAfter rate [] calls) m ≤ T → Repaired rate (columnsAfter rate [] calls) [] m (closedBy a)
-  unfolding newBook
-  run-repaired opened run full reach word few =
-      follows-repaired (start-follows (by-opening known no-places opened)) run step long whole-report full reach m known refl word few
+  run-repaired opened run full reach word few = any.run-repaired others64 keeping (rate-known known) step long whole-report m opened run full reach word few
 
   pub run-faded : Opening (openOf rate []) r → Run (r .session) calls given t → Full rate [] calls
       → blanksAfter (newBook rate []) calls ≤ blankLimit rate → Word 16 rate m
       → notBest rate (columnsAfter rate [] calls) m ≤ reachOf rate (blanksAfter (newBook rate []) calls)
       → Repaired rate (columnsAfter rate [] calls) [] m (closedBy a)
-  unfolding newBook
-  run-faded opened run full few-blank word few =
-      run-repaired opened run full (rate-reach known few-blank) word few
+  run-faded opened run full few-blank word few = any.run-faded others64 keeping (rate-known known) step long whole-report m opened run full few-blank word few
 
   pub run-refused : Opening (openOf rate []) r → Run (r .session) calls given t → Full rate [] calls
       → {T : ℕ} → ReachAfter (newBook rate []) calls T → TooFar rate (columnsAfter rate [] calls) T m
       → RefusedAs noneNear message report (closedBy a)
-  unfolding newBook
-  run-refused opened run full reach far =
-      follows-refused (start-follows (by-opening known no-places opened)) run step long whole-report full reach m known refl far
+  run-refused opened run full reach far = any.run-refused others64 keeping (rate-known known) step long whole-report m opened run full reach far
 
   pub run-found : {list : List ℕ} → DoubtfulList list → Opening (openOf rate list) r → Run (r .session) calls given t → Full rate list calls
       → {T : ℕ} → ReachAfter (newBook rate list) calls T
       → FewWrong rate (columnsAfter rate list calls) list T m → NoDearer rate (columnsAfter rate list calls) list m (closedBy a)
-  unfolding newBook
-  run-found d opened run full reach few =
-      follows-found (start-follows (by-opening known d opened)) run step long whole-report full reach m few
+  run-found d opened run full reach = any.run-found others64 keeping (rate-known known) step long whole-report m d opened run full reach
 
   pub run-alone : {list : List ℕ} → DoubtfulList list → Opening (openOf rate list) r → Run (r .session) calls given t → Full rate list calls
       → {T : ℕ} → ReachAfter (newBook rate list) calls T → FewWrong rate (columnsAfter rate list calls) list T m
       → Alone rate (columnsAfter rate list calls) list T m → Sure rate (columnsAfter rate list calls) list m (closedBy a)
-  unfolding newBook
-  run-alone d opened run full reach =
-      follows-alone (start-follows (by-opening known d opened)) run step long whole-report full reach m known
+  run-alone d opened run full reach = any.run-alone others64 keeping (rate-known known) step long whole-report m d opened run full reach
 
   pub run-sure : {list : List ℕ} → DoubtfulList list → Opening (openOf rate list) r → Run (r .session) calls given t → Full rate list calls
       → {T : ℕ} → ReachAfter (newBook rate list) calls T → FewDoubtful rate (columnsAfter rate list calls) list T
       → FewWrong rate (columnsAfter rate list calls) list T m → Sure rate (columnsAfter rate list calls) list m (closedBy a)
-  unfolding newBook
-  run-sure d opened run full reach =
-      follows-sure (start-follows (by-opening known d opened)) run step long whole-report full reach m known
+  run-sure d opened run full reach = any.run-sure others64 keeping (rate-known known) step long whole-report m d opened run full reach
 
   pub run-never : {list : List ℕ} → DoubtfulList list → Opening (openOf rate list) r → Run (r .session) calls given t → Full rate list calls
       → {T : ℕ} → ReachAfter (newBook rate list) calls T → Alone rate (columnsAfter rate list calls) list T m
       → Never rate (columnsAfter rate list calls) list m message report (closedBy a)
-  unfolding newBook
-  run-never d opened run full reach =
-      follows-never (start-follows (by-opening known d opened)) run step long whole-report full reach m known
+  run-never d opened run full reach = any.run-never others64 keeping (rate-known known) step long whole-report m d opened run full reach
 
 -- ---- a session opened by an accepted capture
 

@@ -1,4 +1,4 @@
--- What the bytes of a reading, of a report and of a capture hold, after every list of calls.
+-- What the bytes of a reading, of a report and of a capture hold, after every list of calls. Of reports it is every modem's (`calls` Shown).
 --
 --   step-reads, step-shows   of a good session: an accepted reading shows the least Q (Reads), and an accepted closing the numbers of its answer
 --                        (ReportedIn), both of every book that agrees with the session's
@@ -9,7 +9,6 @@
 --   capture-written      writing a session that an accepted capture opened, into a buffer of the capture's size, is accepted, and gives that capture
 --                        exactly if its records are in place order
 --   capture-back         in whatever order they were, each place is written back with its column
-use mathlib.Core.Bool.{true}
 use mathlib.Core.Path.{_≡_, sym, ap, _∙_, subst}
 use mathlib.Core.List.{List}
 use mathlib.Core.Logic.{_↔_}
@@ -17,34 +16,33 @@ use Prim.Native.Nat.{ℕ}
 use lib.ListN.{length}
 use Rattle.refusals.specs.Refusal.{accepted}
 use Rattle.interpolant.specs.LeastQ.{readingLength}
-use Rattle.book.specs.Model.{modem64}
 use Rattle.book.specs.Book.{Book, newBook, columnIn}
 use Rattle.book.specs.Columns.{Agree}
 use Rattle.book.specs.PlaceOrder.{InPlaceOrder}
 use Rattle.book.specs.Writing.{Filled}
 use Rattle.book.specs.CaptureOpening.{recordsIn, openCaptureOf}
-use Rattle.book.specs.OpeningLaws.{list-short, Rate, known-rate}
+use Rattle.book.specs.OpeningLaws.{Rate, known-rate}
 use Rattle.book.specs.AnyCalls.{Answer}
-use Rattle.book.specs.Calls.{Call, reading, writing, closing, answer, afterAll}
+use Rattle.book.specs.Calls.{Call, others64, reading, writing, closing, afterAll}
+use Rattle.book.specs.AnyCalls as any
+use Rattle.calls.specs.Shown as shown
 use Rattle.book.specs.AlikeCalls.{answer-alike}
-use Rattle.book.specs.Report.{closing-shows}
 use Rattle.book.specs.RoundTrip.{write-whole, write-accepted, written-order, written-columns, written-opened, open-then-write}
-use Rattle.book.specs.Here.{openOf, fitDoubt, DoubtfulList, RowColumns, ReportedIn}
+use Rattle.book.specs.Here.{openOf, DoubtfulList, RowColumns, ReportedIn}
 use Rattle.book.specs.ReadingSentences.{Reads, reading-least}
-use Rattle.book.specs.CallLaws.{after-costs}
 use Rattle.session.specs.declared.Session.{Session}
 use Rattle.session.specs.declared.Opened.{Opened}
-use Rattle.session.specs.View.{bookOf, Good}
+use Rattle.session.specs.View.{keeping, bookOf, Good}
 use Rattle.session.specs.Calls.{Opening}
 use Rattle.session.specs.Laws.{good-proper}
 use Rattle.runs.specs.Step.{Step}
-use Rattle.runs.specs.Runs.{Run, run-fits}
-use Rattle.runs.specs.Follows.{closedBy, captureBook, ByCapture, Start, by-opening, start-costs, start-follows, capture-starts}
+use Rattle.runs.specs.Runs.{Run}
+use Rattle.runs.specs.Follows.{closedBy, captureBook, ByCapture, Start, by-opening, start-stands, start-follows, capture-starts}
 
 module _ {t : Session} {book : Book} (good : Good t) (same : Agree (bookOf t) book) where
   pub step-reads : {out : List ℕ} {a : Answer} {u : Session} → Step t (reading out) a u → length out ≡ readingLength
       → (a .number ≡ accepted) × Reads book (a .first)
-  unfolding answer
+  unfolding any.answer
   step-reads {out} step long =
       let rate = known-rate (bookOf t .rate) (good-proper t good .rate-known) in
       subst (λ (x : Answer). (x .number ≡ accepted) × Reads book (x .first)) (sym (step .answered good ∙ answer-alike same (reading out)))
@@ -52,16 +50,11 @@ module _ {t : Session} {book : Book} (good : Good t) (same : Agree (bookOf t) bo
 
   pub step-shows : {message report : List ℕ} {a : Answer} {u : Session} → RowColumns (book .row) → Step t (closing message report) a u
       → a .number ≡ accepted → ReportedIn book (closedBy a)
-  unfolding answer
-  step-shows {message} {report} all step n =
-      let e = step .answered good ∙ answer-alike same (closing message report) in
-      let fit : fitDoubt (book .doubtful) ≡ true = subst (λ l. fitDoubt l ≡ true) (same .same-list) (good-proper t good .list-fit) in
-      subst (λ (x : Answer). ReportedIn book (closedBy x)) (sym e)
-      (closing-shows modem64 book message report all (list-short modem64 (book .doubtful) fit) (sym (ap (λ (x : Answer). x .number) e) ∙ n))
+  step-shows all step n = shown.step-shows others64 keeping good same all step n
 
 pub step-writes : {t : Session} → Good t → {out : List ℕ} {a : Answer} {u : Session} → Step t (writing out) a u → a .number ≡ accepted
     → InPlaceOrder (recordsIn (a .first))
-unfolding answer
+unfolding any.answer
 step-writes {t} good {out} {a} step n =
     let e = step .answered good in
     let w = write-whole (bookOf t) out (sym (ap (λ (x : Answer). x .number) e) ∙ n) in
@@ -83,7 +76,7 @@ module _ {book : Book} {s : Session} (start : Start book s) {calls : List Call} 
 
   pub run-shows : {message report : List ℕ} {a : Answer} {u : Session} → Step t (closing message report) a u → a .number ≡ accepted
       → ReportedIn (afterAll book calls) (closedBy a)
-  run-shows step n = step-shows good left (after-costs book (run-fits run) (start-costs start)) step n
+  run-shows step n = shown.run-shows others64 keeping (start-stands start) run step n
 
   pub run-writes : {out : List ℕ} {a : Answer} {u : Session} → Step t (writing out) a u → a .number ≡ accepted → InPlaceOrder (recordsIn (a .first))
   run-writes step n = step-writes good step n
@@ -104,7 +97,7 @@ capture-shows bytes opened n run step m = run-shows (capture-starts {bytes = byt
 pub capture-written : {bytes out : List ℕ} {r : Opened} {a : Answer} {u : Session} → ByCapture bytes r
     → r .refusal ≡ accepted → Step (r .session) (writing out) a u → length out ≡ length bytes
     → (a .number ≡ accepted) × ((a .first ≡ bytes) ↔ InPlaceOrder (recordsIn bytes))
-unfolding answer
+unfolding any.answer
 capture-written {bytes} {out} opened n step long =
     let o : openCaptureOf bytes .number ≡ accepted = sym (opened .opening .number) ∙ n in
     let given = step .answered (opened .opening .good) ∙ answer-alike (opened .opening .book) (writing out) in
@@ -119,7 +112,7 @@ capture-written {bytes} {out} opened n step long =
 pub capture-back : (bytes : List ℕ) {out : List ℕ} {r : Opened} {a : Answer} {u : Session} → ByCapture bytes r
     → r .refusal ≡ accepted → Step (r .session) (writing out) a u → length out ≡ length bytes
     → (p : ℕ) → columnIn (recordsIn (a .first)) p ≡ columnIn (recordsIn bytes) p
-unfolding answer
+unfolding any.answer
 capture-back bytes {out} opened n step long p =
     let o : openCaptureOf bytes .number ≡ accepted = sym (opened .opening .number) ∙ n in
     let given = step .answered (opened .opening .good) ∙ answer-alike (opened .opening .book) (writing out) in

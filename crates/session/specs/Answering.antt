@@ -6,27 +6,16 @@
 --
 -- Whatever the session, a refused call leaves the buffers as they were, and no buffer changes its length. Both calls take the session by value
 -- and hand none back, so the caller's session is as it was: closing may be repeated.
-use mathlib.Core.Path.{_≡_}
 use mathlib.Core.List.{List}
 use Prim.Native.Nat.{ℕ}
-use lib.ListN.{length}
-use Rattle.refusals.specs.Refusal.{accepted}
-use Rattle.book.specs.Reading.{readOf}
-use Rattle.book.specs.Here.{closeOf}
+use Rattle.book.specs.Model.{modem64}
+use Rattle.book.specs.Calls.{read, others64}
+use Rattle.calls.specs.Promises as promises
 use Rattle.session.specs.declared.Session.{Session}
-use Rattle.session.specs.View.{bookOf, Good}
+use Rattle.session.specs.View.{keeping}
 
-pub record Reading (s : Session) (before : List ℕ) (r : ℕ) (after : List ℕ) : Type 0 where
-  pub number : Good s → r ≡ readOf (bookOf s) before .number
-  pub bytes : Good s → after ≡ readOf (bookOf s) before .bytes
-  pub kept : (r ≡ accepted → ⊥) → after ≡ before
-  pub size : length after ≡ length before
+abbrev pub Reading : Session → List ℕ → ℕ → List ℕ → Type 0
+Reading s before r after = promises.Asking modem64 keeping others64 s (read before) r after
 
-pub record Closing (s : Session) (message report : List ℕ) (r : ℕ) (message′ report′ : List ℕ) : Type 0 where
-  pub number : Good s → r ≡ closeOf (bookOf s) message report .number
-  pub message-bytes : Good s → message′ ≡ closeOf (bookOf s) message report .message
-  pub report-bytes : Good s → report′ ≡ closeOf (bookOf s) message report .report
-  pub message-kept : (r ≡ accepted → ⊥) → message′ ≡ message
-  pub report-kept : (r ≡ accepted → ⊥) → report′ ≡ report
-  pub message-size : length message′ ≡ length message
-  pub report-size : length report′ ≡ length report
+abbrev pub Closing : Session → List ℕ → List ℕ → ℕ → List ℕ → List ℕ → Type 0
+Closing s message report r message′ report′ = promises.Closing modem64 keeping s message report r message′ report′

@@ -1,4 +1,4 @@
--- What opening, delivery and withdrawal answer.
+-- What opening, delivery and withdrawal answer, and what they promise: every modem's promises (`calls` Promises), of the declared session.
 --
 --   refusedWith n            a refused opening: its number, and a new session of rate 39 with an empty list
 --   openedOf rate list       opening: 1 or 4 if refused, else 0 and a new session of that rate and list
@@ -9,22 +9,20 @@
 --   deniedWith n s           a refused withdrawal: its number, and the session that was given
 --   Withdrawal s p r         withdrawal of a place from the session s: of a good session the number is the book's, its book afterwards agrees with the book's,
 --                            and it stays good; a refused one is the session that was given, whatever that was
---
--- 'Agrees' (book Columns): the same rate and list, and the same column at each place. A session does not hold the order of its row.
 use mathlib.Core.Bool.{cond}
-use mathlib.Core.Path.{_≡_}
 use mathlib.Core.List.{List, []}
 use Prim.Native.Nat.{ℕ}
 use Rattle.refusals.specs.Refusal.{accepted, unknownRate, wrongDoubt}
 use Rattle.code.specs.Encoding.{knownRate}
 use Rattle.book.specs.Book.{Outcome}
-use Rattle.book.specs.Columns.{Agree}
-use Rattle.book.specs.Here.{fitDoubt, deliverOf, withdrawOf}
+use Rattle.book.specs.Model.{modem64}
+use Rattle.book.specs.Here.{fitDoubt}
+use Rattle.calls.specs.Promises as promises
 use Rattle.session.specs.declared.Session.{Session}
 use Rattle.session.specs.declared.Opened.{Opened}
 use Rattle.session.specs.declared.Delivered.{Delivered}
 use Rattle.session.specs.declared.Withdrawn.{Withdrawn}
-use Rattle.session.specs.View.{newSession, bookOf, Good}
+use Rattle.session.specs.View.{newSession, keeping}
 
 unfoldable pub refusedWith : ℕ → Opened
 refusedWith n = record { refusal = n; session = newSession 39 [] }
@@ -41,19 +39,11 @@ declinedWith n s = record { refusal = n; session = s }
 unfoldable pub deniedWith : ℕ → Session → Withdrawn
 deniedWith n s = record { refusal = n; session = s }
 
-pub record Opening (o : Outcome) (r : Opened) : Type 0 where
-  pub number : r .refusal ≡ o .number
-  pub book : Agree (bookOf (r .session)) (o .book)
-  pub good : Good (r .session)
+abbrev pub Opening : Outcome → Opened → Type 0
+Opening o r = promises.Opening modem64 keeping o (r .refusal) (r .session)
 
-pub record Delivery (s : Session) (p : ℕ) (column : List ℕ) (r : Delivered) : Type 0 where
-  pub number : Good s → r .refusal ≡ deliverOf (bookOf s) p column .number
-  pub book : Good s → Agree (bookOf (r .session)) (deliverOf (bookOf s) p column .book)
-  pub good : Good s → Good (r .session)
-  pub kept : (r .refusal ≡ accepted → ⊥) → r .session ≡ s
+abbrev pub Delivery : Session → ℕ → List ℕ → Delivered → Type 0
+Delivery s p column r = promises.Delivery modem64 keeping s p column (r .refusal) (r .session)
 
-pub record Withdrawal (s : Session) (p : ℕ) (r : Withdrawn) : Type 0 where
-  pub number : Good s → r .refusal ≡ withdrawOf (bookOf s) p .number
-  pub book : Good s → Agree (bookOf (r .session)) (withdrawOf (bookOf s) p .book)
-  pub good : Good s → Good (r .session)
-  pub kept : (r .refusal ≡ accepted → ⊥) → r .session ≡ s
+abbrev pub Withdrawal : Session → ℕ → Withdrawn → Type 0
+Withdrawal s p r = promises.Withdrawal modem64 keeping s p (r .refusal) (r .session)

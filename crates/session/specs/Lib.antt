@@ -1,11 +1,7 @@
-pub mod Held
-pub mod HeldLaws
 pub mod View
 pub mod Calls
 pub mod Laws
 pub mod Answering
 pub mod Table
 pub mod AnsweringLaws
-pub mod Scan
-pub mod Flags
 pub mod Numbers

@@ -19,21 +19,19 @@ use Rattle.book.specs.Here.{someMissing, columnsOf}
 use Rattle.session.specs.declared.Session.{Session}
 use Rattle.session.specs.View.{held, allTaken, bookOf, Good}
 use Rattle.session.specs.Laws.{book-taken}
-use Rattle.session.specs.Held as Fields
-use Rattle.session.specs.HeldLaws as laws
+use Rattle.calls.specs.Held as Fields
+use Rattle.calls.specs.HeldLaws as laws
 
 module _ (s : Session) (good : Good s) where
   pub columns-table : columnsOf (bookOf s .row) ≡ columnOf symbols (s .costs)
-  unfolding bookOf Fields.bookOf
   columns-table = laws.columns-table modem64 (held s) good
 
   pub missing-taken : someMissing (bookOf s .row) ≡ not (allTaken (s .taken))
-  unfolding bookOf Fields.bookOf
   missing-taken = laws.missing-taken modem64 (held s) good
 
   pub settled-taken : (p : ℕ)
       → isSettled (bookOf s) p ≡ (getD (s .taken) p false && (not (among p (take (s .doubt) (s .doubtful))) && openAt (columnOf symbols (s .costs)) p))
-  unfolding isSettled bookOf
+  unfolding isSettled Fields.bookOf
   settled-taken p =
       ap₂ (λ (a : Bool) (f : ℕ → List ℕ). a && (not (among p (take (s .doubt) (s .doubtful))) && openAt f p)) (book-taken s good p) columns-table
 

@@ -26,6 +26,7 @@ use Rattle.book.specs.Closing.{Closed}
 use Rattle.book.specs.Sentences.{closing-alike}
 use Rattle.book.specs.Here.{reportLength, closeOf}
 use Rattle.session.specs.declared.Session.{Session}
+use Rattle.calls.specs.Held as Fields
 use Rattle.session.specs.View.{bookOf, Good}
 use Rattle.session.specs.Answering.{Closing}
 use Rattle.text.specs.Text.{headingOf, messageLine, refusedLine}
@@ -60,7 +61,7 @@ module _ (s : Session) (message report message′ report′ : List ℕ) (r : ℕ
   closed = closeOf (bookOf s) message report
 
   lines : closedLines (bookOf s) ≡ answerLines (bookOf s) closed
-  unfolding closedLines bookOf closed
+  unfolding closedLines Fields.bookOf closed
   lines = ap₂ (λ (m t : List ℕ). answerLines (bookOf s) (closeOf (bookOf s) m t)) (sym zeros) (sym blank)
 
   number : r ≡ closed .number
@@ -72,7 +73,7 @@ module _ (s : Session) (message report message′ report′ : List ℕ) (r : ℕ
       ap refusedLine number ∙ sym (closed-refused (bookOf s) closed (λ e. h (number ∙ e))) ∙ sym lines
 
   heading : headingOf (s .rate) (s .doubt) report′ ≡ headingOf (bookOf s .rate) (length (bookOf s .doubtful)) (closed .report)
-  unfolding bookOf closed
+  unfolding Fields.bookOf closed
   heading =
       ap₂ (headingOf (s .rate))
       (sym (length-take-le (s .doubt) (s .doubtful) (omega (arith, good .doubt-fits, good .list-room))))

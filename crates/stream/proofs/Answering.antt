@@ -15,7 +15,7 @@ use lib.Seq.{take-all}
 use borrow.Author.Tests.{eq-eqb, ne-eqb, lt-ltb, le-ltb}
 use Rattle.soft.specs.Column.{symbols, costsFrom}
 use Rattle.book.specs.CaptureOpening.{openCaptureOf}
-use Rattle.book.specs.Calls.{after}
+use Rattle.book.specs.AnyCalls.{after}
 use Rattle.book.specs.Here.{openOf}
 use Rattle.session.specs.declared.Session.{Session}
 use Rattle.runs.specs.declared.Kind.{Kind}

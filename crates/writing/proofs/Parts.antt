@@ -17,7 +17,7 @@ use Rattle.book.specs.CaptureLaws.{row-bytes-append, row-bytes-length}
 use Rattle.book.specs.Here.{places, width}
 use Rattle.session.specs.View.{entryAt}
 use Rattle.session.specs.Laws.{row-wide}
-use Rattle.session.specs.Held as Fields
+use Rattle.calls.specs.Held as Fields
 use Rattle.capture.specs.Calls.{recordBytes, rowOf}
 
 -- ---- cost bytes

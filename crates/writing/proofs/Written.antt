@@ -20,8 +20,8 @@ use Rattle.session.specs.declared.Session.{Session}
 use Rattle.session.specs.View.{entryAt, allTaken, bookOf, Good}
 use Rattle.session.specs.Laws.{list-length}
 use Rattle.session.specs.Table.{columns-table, missing-taken}
-use Rattle.session.specs.Held as Fields
-use Rattle.session.specs.HeldLaws.{table-column, column-fits}
+use Rattle.calls.specs.Held as Fields
+use Rattle.calls.specs.HeldLaws.{table-column, column-fits}
 use Rattle.capture.specs.Calls.{headBytes, rowOf, Writing}
 
 number : Filled → ℕ
@@ -83,7 +83,7 @@ module _ (s : Session) (before : List ℕ) where
 
     whole-capture : Good s
         → headBytes (s .rate) (take (s .doubt) (s .doubtful)) ++ rowBytes (rowOf (s .costs) places) ≡ captureOf (bookOf s)
-    unfolding headBytes captureOf bookOf
+    unfolding headBytes captureOf Fields.bookOf
     whole-capture good = ap (λ (r : List Entry). headBytes (s .rate) (take (s .doubt) (s .doubtful)) ++ rowBytes r) (same-row good)
 
     pub writing-accepted : (after : List ℕ) → length after ≡ length before → allTaken (s .taken) ≡ true

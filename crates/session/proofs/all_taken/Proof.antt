@@ -6,8 +6,8 @@ use mathlib.Core.Path.{_≡_}
 use Prim.Native.Nat.{_-_, _≤_}
 use native.Mathlib.Omega.{arith}
 use Rattle.book.specs.Model.{modem64}
-use Rattle.session.specs.Held.{takenBelow}
-use Rattle.session.specs.Flags.{taken-start, taken-next, taken-missed, taken-end}
+use Rattle.calls.specs.Held.{takenBelow}
+use Rattle.calls.specs.Flags.{taken-start, taken-next, taken-missed, taken-end}
 use Rattle.session.proofs.all_taken.Statement.{statement}
 use Rattle.session.proofs.all_taken.Tie as tie
 

@@ -6,7 +6,7 @@ use native.Mathlib.Omega.{arith}
 use lib.ListN.{length, drop}
 use Rattle.book.specs.Here.{fitPlaces}
 use Rattle.book.specs.Model.{modem64}
-use Rattle.session.specs.Scan.{fitsFrom, fits-start, fits-next, fits-above, fits-fallen, fits-end}
+use Rattle.calls.specs.Scan.{fitsFrom, fits-start, fits-next, fits-above, fits-fallen, fits-end}
 use Rattle.session.proofs.fit_places.Statement.{statement}
 use Rattle.session.proofs.fit_places.Tie as tie
 

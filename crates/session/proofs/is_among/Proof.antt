@@ -5,7 +5,7 @@ use Prim.Native.Nat.{_-_, _≤_}
 use native.Mathlib.Omega.{arith}
 use lib.ListN.{length, drop}
 use Rattle.lists.specs.Distinct.{among}
-use Rattle.session.specs.Scan.{among-start, among-here, among-next, among-end}
+use Rattle.calls.specs.Scan.{among-start, among-here, among-next, among-end}
 use Rattle.session.proofs.is_among.Statement.{statement}
 use Rattle.session.proofs.is_among.Tie as tie
 

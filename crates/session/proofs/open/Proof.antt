@@ -6,7 +6,7 @@ use borrow.Author.Tests.{not-true, not-false}
 use Rattle.code.specs.Rates.{known-bounds}
 use Rattle.session.specs.declared.Session.{Session}
 use Rattle.book.specs.Model.{modem64}
-use Rattle.session.specs.Scan.{long-unfit, short-fit}
+use Rattle.calls.specs.Scan.{long-unfit, short-fit}
 use Rattle.session.specs.Laws.{opened-rate, opened-list, opened-new}
 use Rattle.session.proofs.open.Statement.{statement}
 use Rattle.session.proofs.open.Tie as tie

@@ -11,7 +11,7 @@ use native.Mathlib.Numerals.{add-one}
 use lib.ListN.{getD}
 use Rattle.lists.specs.Every.{every, every-at, true-T, T-true}
 use Rattle.book.specs.Model.{Model, places}
-use Rattle.session.specs.Held.{takenBelow, allTaken}
+use Rattle.calls.specs.Held.{takenBelow, allTaken}
 
 module _ (flags : List Bool) where
   pub taken-start : takenBelow flags 0 ≡ true

@@ -49,7 +49,7 @@ use Rattle.book.specs.RowLaws.{wide, wide-append, Proper, snoc-here, snoc-other
 use Rattle.book.specs.Closing.{reportLength, refusedClosing, decodeOf, closeOf}
 use Rattle.book.specs.ClosingLaws.{fits-of, close-missing, close-decoded}
 use Rattle.book.specs.Table.{column-beyond}
-use Rattle.session.specs.Held.{Held, takenBelow, newHeld, allTaken, entryAt, entriesBelow, bookOf, withColumn, withoutColumn, Good}
+use Rattle.calls.specs.Held.{Held, takenBelow, newHeld, allTaken, entryAt, entriesBelow, bookOf, withColumn, withoutColumn, Good}
 
 -- ---- columns of a table
 
