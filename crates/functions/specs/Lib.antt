@@ -4,3 +4,8 @@ pub mod Leading
 pub mod Dividing
 pub mod Less
 pub mod Quotients
+pub mod Duals
+pub mod Gathering
+pub mod Recovery
+pub mod Horner
+pub mod Values
