@@ -9,3 +9,6 @@ pub mod Gathering
 pub mod Recovery
 pub mod Horner
 pub mod Values
+pub mod ByPowers
+pub mod Powers
+pub mod ReadByPowers
