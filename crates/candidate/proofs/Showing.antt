@@ -9,8 +9,8 @@ use Rattle.lists.specs.Listed.{listed, listed-at, listed-length}
 use Rattle.lists.specs.Padded.{padded}
 use Rattle.lists.specs.Words.{Word, allBelow, allBelow-from}
 use Rattle.planes.specs.Words.{wordOf}
-use Rattle.coefficients.specs.Duals as Duals
-use Rattle.coefficients.specs.Duals.{coefficientAt, coefficientAt-lt}
+use Rattle.functions.specs.Duals as Duals
+use Rattle.functions.specs.Duals.{coefficientAt, coefficientAt-lt}
 use Rattle.coefficients.specs.Reading.{coefficientsOf}
 use Rattle.code.specs.Encoding.{encodeOf, mostRate}
 use Rattle.soft.specs.Column.{places, symbols}

@@ -1,32 +1,23 @@
--- The mask of the first lane of each four repeats four lanes, by a computed test, and what one plane's shifts and products come to in the lanes of four.
-use mathlib.Core.Bool.{Bool}
+-- What one plane's shifts and products come to in the lanes of four.
 use mathlib.Core.Path.{_≡_, ap, _∙_}
 use mathlib.Core.List.{List, [], _∷_}
 use Prim.Native.Nat.{ℕ, _+_, _*_, _%_, _<_}
 use native.Mathlib.Omega.{arith}
-use lib.Dec.{eqb, eqb→eq, lit<}
+use lib.Dec.{lit<}
 use lib.ListN.{getD}
-use Rattle.lists.specs.Every.{every, every-at}
 use Rattle.algebra.specs.Field.{Field}
 use Rattle.algebra.specs.Sum.{sum-ext}
 use Rattle.algebra.specs.Coefficients.{unit}
 use Rattle.galois.specs.Gf16.{gf16}
 use Rattle.galois.specs.Field16.{K16}
-use Rattle.packing.specs.Bits.{bitAt, fromBits}
+use Rattle.packing.specs.Bits.{fromBits}
 use Rattle.planes.specs.Lanes.{lane}
 use Rattle.planes.specs.Elements.{element}
 use Rattle.planes.specs.Arrays.{planesIn, elementAt, productOf, product-element}
-use Rattle.coefficients.specs.Moved.{Repeats, folded, element-folded, placedAt, element-placed, repeatedAt, element-repeated}
-use Rattle.coefficients.specs.Fourths.{marks-16}
+use Rattle.coefficients.specs.Moved.{folded, element-folded, placedAt, element-placed, repeatedAt, element-repeated}
+use Rattle.coefficients.specs.Fourths.{marks-16, repeats-16}
 use Rattle.coefficients.specs.Reading.{marks, metOf, repeatOf, Fibre, Entry}
 open Field K16 using (_⊗_)
-
-again : ℕ → ℕ → Bool
-again a p = eqb (bitAt (a * marks) p) (bitAt a (p % 4))
-
-repeats-16 : Repeats 4 64 marks
-unfolding every again bitAt
-repeats-16 = record { repeated = λ a p l h. eqb→eq _ _ (every-at 64 (again a) (every-at 16 (λ a. every 64 (again a)) tt a l) p h) }
 
 -- four planes, each by the same rule
 four : {a b c d e f g h : ℕ} → a ≡ e → b ≡ f → c ≡ g → d ≡ h → a ∷ b ∷ c ∷ d ∷ [] ≡ e ∷ f ∷ g ∷ h ∷ []

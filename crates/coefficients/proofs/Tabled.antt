@@ -12,7 +12,7 @@ use Rattle.family.specs.Member.{m16}
 use Rattle.planes.specs.Lanes.{lane}
 use Rattle.planes.specs.Elements.{carries-tested}
 use Rattle.planes.specs.Arrays.{planesIn}
-use Rattle.coefficients.specs.Duals.{dualNumber, toF-dual, xDual}
+use Rattle.functions.specs.Duals.{dualNumber, toF-dual, xDual}
 use Rattle.coefficients.specs.Reading.{YDuals, XDuals}
 
 module _ (t : List (List ℕ)) where

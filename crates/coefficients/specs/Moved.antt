@@ -3,23 +3,30 @@
 --   folded s f            planes whose lane p is the sum of the 2 ^ s lanes from p on (element-folded)
 --   Marks w n m           m has the bits 0, w, 2w, … below n, and no other there
 --   placedAt m j n f      what m keeps, moved up by j within the width n; element-placed: lane x·w at x·w + j, and 0 between
+--   element-spread        what is placed last of each w = 2 ^ s and then folded stands at all of them: lane x·w at each lane with this x
 --   Repeats w n m         a number below 2 ^ w times m has its bits again and again, below n
+--   marks-tested, repeats-tested    both by tests that are computed
 --   repeatedAt w m x f    the w lanes from x·w on, repeated; element-repeated: lane p has that of x·w + p % w
+use mathlib.Core.Bool.{Bool}
 use mathlib.Core.Logic.{_≢_}
 use mathlib.Core.Path.{_≡_, sym, ap, ap₂, _∙_}
-use Prim.Native.Nat.{ℕ, zero, suc, _+_, _-_, _*_, _/_, _%_, _^_, _<_}
-use native.Mathlib.Nat.{pow-suc, mod-lt}
+use Prim.Native.Nat.{ℕ, zero, suc, _+_, _-_, _*_, _/_, _%_, _^_, _<_, _≤_}
+use native.Mathlib.Nat.{pow-suc, mod-lt, mod-eq-of-lt, mul-add-mod-self-right, lt-of-lt-of-le}
 use native.Mathlib.Nat as Nat
 use native.Mathlib.Decide.{decLt}
 use native.Mathlib.Omega.{arith}
 use lib.Bits.{bitAnd, bitXor}
-use lib.Pow.{pow-pos}
+use lib.Dec.{T, eqb, eqb→eq}
+use lib.Pow.{pow-pos, pow-mono}
+use borrow.Author.Tests.{eq-eqb, ne-eqb}
+use Rattle.lists.specs.Count.{bit}
+use Rattle.lists.specs.Every.{every, every-at}
 use Rattle.algebra.specs.Field.{Field, zero-add, zero-mul, one-mul}
-use Rattle.algebra.specs.Sum.{sum, sum-nil, sum-suc, sum-ext, sum-append}
+use Rattle.algebra.specs.Sum.{sum, sum-nil, sum-suc, sum-ext, sum-append, sum-single}
 use Rattle.algebra.specs.Coefficients.{unit, unit-at, unit-off}
 use Rattle.galois.specs.BinaryField.{Gf, K, toF, toF-zero}
-use Rattle.packing.specs.Bits.{bitAt, bitAt-down, bitAt-kept}
-use Rattle.planes.specs.Lanes.{Planes, lane, lane-like, lane-down, lane-up, lane-under, lane-kept, lane-emptied}
+use Rattle.packing.specs.Bits.{bitAt, bitAt-zero, bitAt-above, bitAt-down, bitAt-kept}
+use Rattle.planes.specs.Lanes.{Planes, lane, lane-like, lane-zero, lane-down, lane-up, lane-under, lane-kept, lane-emptied}
 use Rattle.planes.specs.Elements.{element, element-like, element-lane, element-xor}
 
 pub record Marks (w n m : ℕ) : Type 0 where
@@ -34,6 +41,34 @@ pub record Repeats (w n m : ℕ) : Type 0 where
 
 unfoldable pub repeatedAt : ℕ → ℕ → ℕ → Planes → Planes
 repeatedAt w m x f b = f b / 2 ^ (x * w) % 2 ^ w * m
+
+-- ---- masks by their tests
+unfoldable pub marksAt : ℕ → ℕ → ℕ → Bool
+marksAt w m p = eqb (bitAt m p) (bit (eqb (p % w) 0))
+
+pub marks-tested : (w n m : ℕ) → 0 < w → T (every n (marksAt w m)) → Marks w n m
+unfolding marksAt
+marks-tested w n m pos t =
+    record {
+      at-blocks = λ x h.
+          let e : x * w + 0 ≡ x * w = omega arith in
+          at (x * w) h ∙ ap bit (eq-eqb _ _ (ap (λ p. p % w) (sym e) ∙ rest x 0 pos));
+      between = λ x k a b h. at (x * w + k) h ∙ ap bit (ne-eqb _ _ (λ z. let q : k ≡ 0 = sym (rest x k b) ∙ z in absurd (omega arith)));
+    }
+  where
+    at : (p : ℕ) → p < n → bitAt m p ≡ bit (eqb (p % w) 0)
+    at p h = eqb→eq _ _ (every-at n (marksAt w m) t p h)
+
+    rest : (x k : ℕ) → k < w → (x * w + k) % w ≡ k
+    rest x k l = mul-add-mod-self-right x w k ∙ mod-eq-of-lt l
+
+unfoldable pub repeatsAt : ℕ → ℕ → ℕ → ℕ → Bool
+repeatsAt w m a p = eqb (bitAt (a * m) p) (bitAt a (p % w))
+
+pub repeats-tested : (w n m : ℕ) → T (every (2 ^ w) (λ a. every n (repeatsAt w m a))) → Repeats w n m
+unfolding repeatsAt
+repeats-tested w n m t =
+    record { repeated = λ a p l h. eqb→eq _ _ (every-at n (repeatsAt w m a) (every-at (2 ^ w) (λ a. every n (repeatsAt w m a)) t a l) p h) }
 
 module _ (𝓕 : Gf) where
   open Field (K 𝓕) using (_⊕_, _⊗_, 𝟘)
@@ -99,6 +134,54 @@ module _ (𝓕 : Gf) where
             placed-up (x * w) (x * w + k) (omega arith) b
             ∙ element-like 𝓕 (λ b. bitAnd (f b) m) f (x * w) (x * w) (lane-kept (𝓕 .bits) f m (x * w) (at-blocks x (omega arith)))
             ∙ sym (ap (λ u. u ⊗ element 𝓕 f (x * w)) (ap (unit (K 𝓕) j) e ∙ unit-at (K 𝓕) j) ∙ one-mul (K 𝓕) _)
+
+  -- nothing is placed beyond the width
+  placed-beyond : (m j n : ℕ) (f : Planes) (p : ℕ) → n ≤ p → element 𝓕 (placedAt m j n f) p ≡ 𝟘
+  unfolding placedAt
+  placed-beyond m j n f p h =
+      element-zero (placedAt m j n f) p
+      (lane-like (𝓕 .bits) (placedAt m j n f) (λ b. 0) p p (λ b l.
+      bitAt-above (bitAnd (f b) m * 2 ^ j % 2 ^ n) p (lt-of-lt-of-le (mod-lt (bitAnd (f b) m * 2 ^ j) (pow-pos n)) (pow-mono h)) ∙ sym (bitAt-zero p))
+      ∙ lane-zero (𝓕 .bits) p)
+
+  -- ---- one lane of each w at all of them
+  module _ (s n m : ℕ) (marks : Marks (2 ^ s) n m) (f : Planes) where
+    w : ℕ
+    w = 2 ^ s
+
+    last : ℕ
+    last = w - 1
+
+    placed : (x k : ℕ) → k < w → x * w + k < n → element 𝓕 (placedAt m last n f) (x * w + k) ≡ unit (K 𝓕) last k ⊗ element 𝓕 f (x * w)
+    unfolding w last
+    placed x k l h = element-placed w n m marks f last (omega (arith, pow-pos s)) x k l h
+
+    off : (x k : ℕ) → k < w → k ≢ last → element 𝓕 (placedAt m last n f) (x * w + k) ≡ 𝟘
+    off x k l d = go (decLt (x * w + k) n)
+      where
+        go : Dec (x * w + k < n) → element 𝓕 (placedAt m last n f) (x * w + k) ≡ 𝟘
+        go (yes h) = placed x k l h ∙ ap (λ u. u ⊗ element 𝓕 f (x * w)) (unit-off (K 𝓕) last k d) ∙ zero-mul (K 𝓕) _
+        go (no h) = placed-beyond m last n f (x * w + k) (omega arith)
+
+    pub element-spread : (x k : ℕ) → k < 2 ^ s → x * 2 ^ s + 2 ^ s ≤ n → element 𝓕 (folded s (placedAt m (2 ^ s - 1) n f)) (x * 2 ^ s + k) ≡ element 𝓕 f (x * 2 ^ s)
+    unfolding w last
+    element-spread x k l h =
+        let e : x * w + k + (last - k) ≡ x * w + last = omega arith in
+        element-folded s (placedAt m last n f) (x * w + k)
+        ∙ sum-single (K 𝓕) w (last - k) _ (omega arith) (λ r b d. others r b d)
+        ∙ ap (element 𝓕 (placedAt m last n f)) e ∙ placed x last (omega arith) (omega arith)
+        ∙ ap (λ u. u ⊗ element 𝓕 f (x * w)) (unit-at (K 𝓕) last) ∙ one-mul (K 𝓕) _
+      where
+        others : (r : ℕ) → r < w → r ≢ last - k → element 𝓕 (placedAt m last n f) (x * w + k + r) ≡ 𝟘
+        others r b d = go (decLt (k + r) w)
+          where
+            go : Dec (k + r < w) → element 𝓕 (placedAt m last n f) (x * w + k + r) ≡ 𝟘
+            go (yes i) =
+                let e : x * w + k + r ≡ x * w + (k + r) = omega arith in
+                ap (element 𝓕 (placedAt m last n f)) e ∙ off x (k + r) i (λ (q : k + r ≡ last). d (omega arith))
+            go (no i) =
+                let e : x * w + k + r ≡ suc x * w + (k + r - w) = omega (arith, Nat.suc-mul x w) in
+                ap (element 𝓕 (placedAt m last n f)) e ∙ off (suc x) (k + r - w) (omega arith) (λ (q : k + r - w ≡ last). absurd (omega arith))
 
   -- ---- w lanes, repeated
   pub element-repeated : (w n m : ℕ) → 0 < w → Repeats w n m → (f : Planes) (x p : ℕ) → p < n

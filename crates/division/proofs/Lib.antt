@@ -1,4 +1,1 @@
-pub mod Leading
-pub mod Less
-pub mod Turns
-pub mod Folding
+pub mod Powers

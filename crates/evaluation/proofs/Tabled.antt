@@ -11,7 +11,7 @@ use Rattle.family.specs.Member.{m16, places, symbols}
 use Rattle.planes.specs.Lanes.{lane}
 use Rattle.planes.specs.Elements.{carries-tested}
 use Rattle.planes.specs.Arrays.{planesIn}
-use Rattle.evaluation.specs.Values as Values
+use Rattle.functions.specs.Values as Values
 use Rattle.evaluation.specs.Evaluating.{XPowers}
 
 module _ (t : List (List ℕ)) where

@@ -1,114 +1,64 @@
--- The sum over the powers of x, four orders a turn, Horner's rule in y, and what both come to.
-use mathlib.Core.Path.{_≡_, sym, ap, ap₂, _∙_, subst}
+-- The sum over the powers of x, four orders a turn, and Horner's rule in y, on arrays of four planes: the family's loops, and what both come to.
+use mathlib.Core.Path.{_≡_, sym, ap, _∙_, subst}
 use mathlib.Core.List.{List, [], _∷_}
-use Prim.Native.Nat.{ℕ, suc, _+_, _*_, _%_, _<_}
-use native.Mathlib.Omega.{arith}
-use Rattle.lists.specs.Listed.{listed, listed-ext}
-use Rattle.algebra.specs.Field.{Field, add-comm, zero-add, mul-one, mul-assoc}
-use Rattle.algebra.specs.Sum.{sum, sum-nil, sum-suc, sum-ext, sum-append, sum-scale-right}
-use Rattle.algebra.specs.Power.{pow, pow-nil, pow-suc}
-use Rattle.galois.specs.Field16.{GF, K16, toF-injective}
+use Prim.Native.Nat.{ℕ, suc, _<_}
+use Rattle.lists.specs.Listed.{listed}
+use Rattle.algebra.specs.Field.{Field}
+use Rattle.galois.specs.Field16.{K16}
 use Rattle.family.specs.Member.{m16, places, symbols, py}
-use Rattle.family.specs.Curve.{xOf}
 use Rattle.family.specs.Evaluation as Evaluation
-use Rattle.planes.specs.Arrays.{planesIn, elementAt, none-element, Carries, symbolsOf, sumOf, sum-element, productOf, product-element, symbolAt, symbol-lt, element-symbol}
+use Rattle.planes.specs.Arrays.{elementAt, none-element, Carries, symbolsOf, sumOf, sum-element, productOf, product-element, symbolAt, symbol-lt, element-symbol}
 use Rattle.planes.specs.Words.{wordOf}
+use Rattle.functions.specs.Values as Values
 use Rattle.coefficients.specs.Reading.{Entry}
-use Rattle.evaluation.specs.Values as Values
 use Rattle.evaluation.specs.Broad.{Broad}
 use Rattle.evaluation.specs.Evaluating.{xPowerAt, PowerSums, FibreValues, Evaluated}
 open Field K16 using (_⊕_, _⊗_)
 
+-- the lanes of a sum
+summed : (out add : List ℕ) {next : List ℕ} → next ≡ sumOf out add → (p : ℕ) → p < places m16 → elementAt next p ≡ elementAt out p ⊕ elementAt add p
+summed out add e p h = ap (λ l. elementAt l p) e ∙ sum-element out add p
+
 -- ---- over the powers of x
 module _ (function : List ℕ) where
-  pub record PowersTo (n : ℕ) (out : List ℕ) : Type 0 where
-    pub lanes : (p : ℕ) → p < places m16 → elementAt out p ≡ sum K16 n (λ q. elementAt function (q * m16 .w + p % m16 .w) ⊗ xPowerAt q p)
+  abbrev pub PowersTo : ℕ → List ℕ → Type 0
+  PowersTo n out = Values.PowersTo m16 (elementAt function) n (elementAt out)
 
   pub powers-start : PowersTo 0 (0 ∷ 0 ∷ 0 ∷ 0 ∷ [])
-  powers-start = record { lanes = λ p h. none-element p ∙ sym (sum-nil K16 _) }
+  powers-start = Values.powers-start m16 (elementAt function) _ (λ p h. none-element p)
 
   pub powers-turn : (q n : ℕ) (out power add : List ℕ) {next : List ℕ} → n ≡ suc q → PowersTo q out → Carries (xPowerAt q) power → Entry function power q add
       → next ≡ sumOf out add → PowersTo n next
-  powers-turn q n out power add e t d f s =
-      record {
-        lanes = λ p h.
-            ap (λ l. elementAt l p) s ∙ sum-element out add p
-            ∙ ap₂ (λ u v. u ⊕ v) (t .lanes p h) (f .lanes p h ∙ ap (λ v. elementAt function (q * m16 .w + p % m16 .w) ⊗ v) (d .lanes p h))
-            ∙ sym (sum-suc K16 q _)
-            ∙ ap (λ k. sum K16 k (λ q. elementAt function (q * m16 .w + p % m16 .w) ⊗ xPowerAt q p)) (sym e);
-      }
+  powers-turn q n out power add {next} e t d f s =
+      subst (λ k. PowersTo k next) (sym e)
+      (Values.powers-turn m16 (elementAt function) q (elementAt out) (elementAt power) (elementAt add) _ t (d .lanes) f (summed out add s))
 
   pub powers-end : (n : ℕ) (out : List ℕ) → n ≡ symbols m16 → PowersTo n out → PowerSums function out
-  powers-end n out e t = record { lanes = λ p h. subst (λ n. PowersTo n out) e t .lanes p h }
+  powers-end n out e t = Values.powers-end m16 (elementAt function) (elementAt out) (subst (λ n. PowersTo n out) e t)
 
 -- ---- over those of y, from the highest down
 module _ (a : List ℕ) where
-  -- the coefficient of y^j with the x of a place
-  abbrev pub coefficient : ℕ → ℕ → GF
-  coefficient p j = elementAt a (xOf (m16 .w) p * m16 .w + j)
+  abbrev pub FibreTo : ℕ → List ℕ → Type 0
+  FibreTo j b = Values.FibreTo m16 (elementAt a) j (elementAt b)
 
-  -- b holds the sum of n coefficients from j on, times 1, y, y^2 and so on
-  pub record HornerTo (j n : ℕ) (b : List ℕ) : Type 0 where
-    pub lanes : (p : ℕ) → p < places m16 → elementAt b p ≡ sum K16 n (λ i. coefficient p (j + i) ⊗ pow K16 (py m16 p) i)
+  pub fibre-last : (j : ℕ) (b : List ℕ) → suc j ≡ m16 .w → Broad a j b → FibreTo j b
+  fibre-last j b last f = Values.fibre-last m16 (elementAt a) j (elementAt b) last f
 
-  -- times y, and one coefficient more
-  one-more : (e : ℕ → GF) (y : GF) (n j : ℕ) → sum K16 n (λ i. e (suc j + i) ⊗ pow K16 y i) ⊗ y ⊕ e j ≡ sum K16 (suc n) (λ i. e (j + i) ⊗ pow K16 y i)
-  one-more e y n j =
-      let first : j + 0 ≡ j = omega arith in
-      let more : 1 + n ≡ suc n = omega arith in
-      ap (λ u. u ⊕ e j) (sym (sum-scale-right K16 n y _) ∙ sum-ext K16 n _ _ (λ i l. moved i)) ∙ add-comm K16 _ _
-      ∙ ap (λ u. u ⊕ sum K16 n (λ i. e (j + (1 + i)) ⊗ pow K16 y (1 + i)))
-      (sym (sum-suc K16 0 _ ∙ ap₂ (λ u v. u ⊕ v) (sum-nil K16 _) (ap₂ (λ u v. u ⊗ v) (ap e first) (pow-nil K16 y) ∙ mul-one K16 _) ∙ zero-add K16 _))
-      ∙ sym (sum-append K16 1 n (λ i. e (j + i) ⊗ pow K16 y i))
-      ∙ ap (λ k. sum K16 k (λ i. e (j + i) ⊗ pow K16 y i)) more
-    where
-      moved : (i : ℕ) → e (suc j + i) ⊗ pow K16 y i ⊗ y ≡ e (j + (1 + i)) ⊗ pow K16 y (1 + i)
-      moved i =
-          let s : suc j + i ≡ j + (1 + i) = omega arith in
-          let t : suc i ≡ 1 + i = omega arith in
-          mul-assoc K16 _ _ _ ∙ ap₂ (λ u v. u ⊗ v) (ap e s) (sym (pow-suc K16 y i) ∙ ap (pow K16 y) t)
+  pub fibre-turn : (j : ℕ) (b product broad y : List ℕ) {next : List ℕ} → j < m16 .w → Carries (py m16) y → FibreTo (suc j) b → product ≡ productOf b y → Broad a j broad
+      → next ≡ sumOf product broad → FibreTo j next
+  fibre-turn j b product broad y l points t e f s =
+      Values.fibre-turn m16 (elementAt a) j (elementAt b) (elementAt y) (elementAt broad) _ l t (points .lanes) f (λ p h.
+      summed product broad s p h ∙ ap (λ u. u ⊕ elementAt broad p) (ap (λ l. elementAt l p) e ∙ product-element b y p))
 
-  pub horner-start : (j : ℕ) {b : List ℕ} → Broad a j b → HornerTo j 1 b
-  horner-start j f =
-      record {
-        lanes = λ p h.
-            let first : j + 0 ≡ j = omega arith in
-            f .lanes p h
-            ∙ sym (sum-suc K16 0 _ ∙ ap₂ (λ u v. u ⊕ v) (sum-nil K16 _) (ap₂ (λ u v. u ⊗ v) (ap (coefficient p) first) (pow-nil K16 _) ∙ mul-one K16 _) ∙ zero-add K16 _);
-      }
-
-  pub horner-turn : (j n : ℕ) (b product broad y : List ℕ) {next : List ℕ} → Carries (py m16) y → HornerTo (suc j) n b → product ≡ productOf b y → Broad a j broad
-      → next ≡ sumOf product broad → HornerTo j (suc n) next
-  horner-turn j n b product broad y points t e f s =
-      record {
-        lanes = λ p h.
-            ap (λ l. elementAt l p) s ∙ sum-element product broad p
-            ∙ ap₂ (λ u v. u ⊕ v)
-            (ap (λ l. elementAt l p) e ∙ product-element b y p ∙ ap₂ (λ u v. u ⊗ v) (t .lanes p h) (points .lanes p h))
-            (f .lanes p h)
-            ∙ one-more (coefficient p) (py m16 p) n j;
-      }
-
-  pub horner-end : (b : List ℕ) → HornerTo 0 (m16 .w) b → FibreValues a b
-  horner-end b t =
-      record {
-        lanes = λ p h. t .lanes p h
-            ∙ sum-ext K16 (m16 .w) _ _ (λ j l. let own : 0 + j ≡ j = omega arith in ap (λ k. coefficient p k ⊗ pow K16 (py m16 p) j) own);
-      }
+  pub fibre-end : (b : List ℕ) → FibreTo 0 b → FibreValues a b
+  fibre-end b t = Values.fibre-end m16 (elementAt a) (elementAt b) t
 
 -- ---- the whole
 pub evaluated-by : (function sums values : List ℕ) → PowerSums function sums → FibreValues sums values → Evaluated function values
-evaluated-by function sums values s v =
-    record {
-      values = λ c held. record {
-        lanes = λ p h. Values.values-read m16 (planesIn function) (planesIn sums) (planesIn values) s v c (held .lanes) p h;
-      };
-    }
+evaluated-by function sums values s v = Values.evaluated-by m16 (elementAt function) (elementAt sums) (elementAt values) s v
 
 pub codeword-by : (c function values : List ℕ) {r : List ℕ} → Carries (symbolsOf c) function → Evaluated function values → r ≡ wordOf values
     → r ≡ listed (places m16) (Evaluation.valueOf m16 c)
-unfolding wordOf Evaluation.valueOf
+unfolding wordOf
 codeword-by c function values held v e =
-    e
-    ∙ listed-ext (places m16) (symbolAt values) (Evaluation.valueOf m16 c) (λ p h.
-    toF-injective _ _ (symbol-lt values p) (Evaluation.valueBy-below m16 c _) (sym (element-symbol values p) ∙ v .values c held .lanes p h))
+    e ∙ Values.codeword-by m16 c (elementAt function) (elementAt values) (symbolAt values) (held .lanes) v (λ p h. element-symbol values p) (symbol-lt values)

@@ -1,7 +1,7 @@
 -- One lane of each four at all of them: what a mask keeps of a plane, and that moved up by 1, 2 and 3.
 --
 --   broadOf j a     what is done to each plane
---   Broad a j r     r holds at each lane lane j of its four
+--   Broad a j r     the family's, at this member: r holds at each lane lane j of its four
 --   broad-by        so it does if each of its planes is so made
 use mathlib.Core.Path.{_≡_, sym, ap, ap₂, _∙_}
 use mathlib.Core.List.{List, [], _∷_}
@@ -22,8 +22,8 @@ use Rattle.planes.specs.Arrays.{planesIn, elementAt}
 use Rattle.coefficients.specs.Moved.{placedAt, element-placed}
 use Rattle.coefficients.specs.Fourths.{marks-16}
 use Rattle.coefficients.specs.Reading.{marks}
-use Rattle.family.specs.Curve.{xOf}
 use Rattle.family.specs.Member.{m16, places}
+use Rattle.functions.specs.Values as Values
 open Field K16 using (_⊕_, _⊗_)
 
 -- the lanes that are kept, and moved up by 1, 2 and 3
@@ -36,8 +36,8 @@ upOf k a = a * 2 ^ k % 2 ^ places m16
 abbrev pub broadOf : ℕ → ℕ → ℕ
 broadOf j a = bitXor (bitXor (bitXor (firstOf j a) (upOf 1 (firstOf j a))) (upOf 2 (firstOf j a))) (upOf 3 (firstOf j a))
 
-pub record Broad (a : List ℕ) (j : ℕ) (r : List ℕ) : Type 0 where
-  pub lanes : (p : ℕ) → p < places m16 → elementAt r p ≡ elementAt a (xOf (m16 .w) p * m16 .w + j)
+abbrev pub Broad : List ℕ → ℕ → List ℕ → Type 0
+Broad a j r = Values.Broad m16 (elementAt a) j (elementAt r)
 
 -- a sum of four in which one counts
 four-units : (k : ℕ) → k < 4 → (u : GF)

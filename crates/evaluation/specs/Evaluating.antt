@@ -1,17 +1,15 @@
 -- Values of functions at GF(16) with w = 4, on arrays of four planes.
 --
 --   XPowers t             the constant table: entry q holds at place p the power of its x in the monomial of order 4q + p % 4
---   PowerSums, FibreValues    the family's, at this member
---   Evaluated f h         whatever function's coefficients f holds by order, h holds its values by place
+--   PowerSums, FibreValues, Evaluated    the family's, at this member
 use mathlib.Core.List.{List, []}
 use Prim.Native.Nat.{ℕ, _+_, _*_, _%_, _<_}
 use lib.ListN.{getD}
 use Rattle.galois.specs.Field16.{GF, toF}
 use Rattle.family.specs.Curve.{xOf}
 use Rattle.family.specs.Member.{m16, symbols}
-use Rattle.family.specs.Evaluation.{valueOf}
-use Rattle.planes.specs.Arrays.{planesIn, Carries, symbolsOf}
-use Rattle.evaluation.specs.Values as Values
+use Rattle.planes.specs.Arrays.{elementAt, Carries}
+use Rattle.functions.specs.Values as Values
 
 abbrev pub xPowerAt : ℕ → ℕ → GF
 xPowerAt q p = toF (Values.xPowerAt m16 (q * m16 .w + p % m16 .w) (xOf (m16 .w) p))
@@ -20,13 +18,10 @@ pub record XPowers (t : List (List ℕ)) : Type 0 where
   pub entries : (q : ℕ) → q < symbols m16 → Carries (xPowerAt q) (getD t q [])
 
 abbrev pub PowerSums : List ℕ → List ℕ → Type 0
-PowerSums a b = Values.PowerSums m16 (planesIn a) (planesIn b)
+PowerSums a b = Values.PowerSums m16 (elementAt a) (elementAt b)
 
 abbrev pub FibreValues : List ℕ → List ℕ → Type 0
-FibreValues a b = Values.FibreValues m16 (planesIn a) (planesIn b)
+FibreValues a b = Values.FibreValues m16 (elementAt a) (elementAt b)
 
-abbrev pub valuesOf : List ℕ → ℕ → GF
-valuesOf c p = toF (valueOf m16 c p)
-
-pub record Evaluated (f h : List ℕ) : Type 0 where
-  pub values : (c : List ℕ) → Carries (symbolsOf c) f → Carries (valuesOf c) h
+abbrev pub Evaluated : List ℕ → List ℕ → Type 0
+Evaluated f h = Values.Evaluated m16 (elementAt f) (elementAt h)

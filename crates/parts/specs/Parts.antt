@@ -21,7 +21,7 @@ use Rattle.hermitian.specs.Interpolant.{Interpolant, withoutZ, withZ, joined, w
 use Rattle.family.specs.Member.{m16, places, px, py}
 use Rattle.planes.specs.Rows.{valueAt}
 use Rattle.coefficients.specs.Reading.{coefficientsOf}
-use Rattle.coefficients.specs.Recovery.{coefficients-recovered}
+use Rattle.functions.specs.Recovery.{coefficients-recovered}
 use Rattle.values.specs.Holds.{Holds, first-value}
 use Rattle.coefficients.specs.Bytes.{coef, coef-at}
 open Field K16 using (_⊕_, _⊗_)

@@ -18,8 +18,8 @@ use Rattle.code.specs.Extraction.{messageAt}
 use Rattle.code.specs.Rates.{longest, order-fits}
 use Rattle.planes.specs.Arrays.{Carries, symbolsOf, symbolAt, symbol-lt, element-symbol}
 use Rattle.planes.specs.Words.{wordOf}
-use Rattle.coefficients.specs.Duals.{coefficientAt}
-use Rattle.coefficients.specs.Duals as Duals
+use Rattle.functions.specs.Duals.{coefficientAt}
+use Rattle.functions.specs.Duals as Duals
 use Rattle.coefficients.specs.Reading.{coefficientsOf}
 
 pub shown-word : (word a : List ℕ) → length word ≡ places m16 → allBelow (symbols m16) word ≡ true → Carries (symbolsOf word) a → wordOf a ≡ word

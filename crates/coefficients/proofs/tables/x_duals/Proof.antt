@@ -4,7 +4,7 @@ use Rattle.galois.specs.Binary as Binary
 use Rattle.packing.specs.Bits.{bitAt, fromBits}
 use Rattle.planes.specs.Lanes.{lane}
 use Rattle.planes.specs.Arrays.{planesIn}
-use Rattle.coefficients.specs.Duals as Duals
+use Rattle.functions.specs.Duals as Duals
 use Rattle.hermitian.specs.Orders.{isPresent}
 use Rattle.coefficients.proofs.Tabled.{holds, x-duals}
 use Rattle.coefficients.proofs.tables.x_duals.Statement.{statement}

@@ -1,7 +1,7 @@
 -- `next_at` meets its contract: an absent order, one beyond the rest, or a quotient.
 use borrow.Author.Tests.{lt-ltb, le-ltb}
 use borrow.Author.Needs.{needs}
-use Rattle.division.specs.Dividing.{nextAt}
+use Rattle.functions.specs.Dividing.{nextAt}
 use Rattle.division.proofs.dividing.next_at.Statement.{statement}
 use Rattle.division.proofs.dividing.next_at.Tie as tie
 

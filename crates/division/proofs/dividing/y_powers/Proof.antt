@@ -1,6 +1,6 @@
 -- `y_powers` meets its contract, power by power.
 use borrow.Author.Needs.{needs}
-use Rattle.division.proofs.Turns.{powers-are}
+use Rattle.division.proofs.Powers.{powers-are}
 use Rattle.division.proofs.dividing.y_powers.Statement.{statement}
 use Rattle.division.proofs.dividing.y_powers.Tie as tie
 

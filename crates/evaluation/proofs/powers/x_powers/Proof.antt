@@ -5,7 +5,7 @@ use Rattle.hermitian.specs.Orders.{isPresent}
 use Rattle.packing.specs.Bits.{bitAt, fromBits}
 use Rattle.planes.specs.Lanes.{lane}
 use Rattle.planes.specs.Arrays.{planesIn}
-use Rattle.evaluation.specs.Values as Values
+use Rattle.functions.specs.Values as Values
 use Rattle.evaluation.proofs.Tabled.{holds, x-powers}
 use Rattle.evaluation.proofs.powers.x_powers.Statement.{statement}
 use Rattle.evaluation.proofs.powers.x_powers.Tie as tie

@@ -1,5 +1,5 @@
--- The coefficients of a function by order, from its values in planes, for every member: sums over the fibres against the duals of the powers
--- of y, then over all x against those of the powers of x.
+-- The coefficients of a function by order, from its values by place, for every member: sums over the fibres against the duals of the powers
+-- of y, then over all x against those of the powers of x. Values and sums are functions of a place or a lane, however they are kept.
 --
 --   fibreAt f j x        the sum over the places with this x of the value times the dual of y^j
 --   FibreSums f g        g holds that of x and j at lane x·w + j
@@ -7,6 +7,7 @@
 --   Gathered g h         h holds at lane o the sum over all x of lane x·w + o % w times that
 --   coefficientAt v o    the coefficient of order o of the function whose values are v, and 0 for a missing order
 --   coefficientsOf v     all of them, by order
+--   coefficient-sum      that of a present order is the sum over all x of lane x·w + o % w times the dual of its power of x
 --   coefficients-read    so h holds the coefficients by order of the function whose values f holds
 use mathlib.Core.Bool.{Bool, true, false}
 use mathlib.Core.Path.{_≡_, sym, ap, ap₂, _∙_}
@@ -28,18 +29,16 @@ use Rattle.family.specs.Member.{Member, places, py}
 use Rattle.family.specs.Points.{place-of, place-below}
 use Rattle.family.specs.Evaluation.{ifPresent, present-yes, present-no}
 use Rattle.family.specs.Extraction.{atZero, dualAt, extractedAt, extractedAt-lt, toF-symbolOf}
-use Rattle.planes.specs.Lanes.{Planes}
-use Rattle.planes.specs.Elements.{element}
 
 module _ (𝓜 : Member) where
   open Member 𝓜 using (gf, w, wide)
   open Field (K gf) using (_⊕_, _⊗_, 𝟘)
 
-  unfoldable pub fibreAt : Planes → ℕ → ℕ → GF gf
-  fibreAt f j x = sum (K gf) w (λ r. element gf f (x * w + r) ⊗ dual (K gf) (w - 1) j (py 𝓜 (x * w + r)))
+  unfoldable pub fibreAt : (ℕ → GF gf) → ℕ → ℕ → GF gf
+  fibreAt f j x = sum (K gf) w (λ r. f (x * w + r) ⊗ dual (K gf) (w - 1) j (py 𝓜 (x * w + r)))
 
-  pub record FibreSums (f g : Planes) : Type 0 where
-    pub lanes : (x j : ℕ) → x < size gf → j < w → element gf g (x * w + j) ≡ fibreAt f j x
+  pub record FibreSums (f g : ℕ → GF gf) : Type 0 where
+    pub lanes : (x j : ℕ) → x < size gf → j < w → g (x * w + j) ≡ fibreAt f j x
 
   -- a dual on numbers
   unfoldable pub dualNumber : ℕ → ℕ → ℕ → ℕ
@@ -56,8 +55,8 @@ module _ (𝓜 : Member) where
   unfoldable pub xDual : ℕ → ℕ → ℕ
   xDual o x = ifPresent (isPresent w o) (dualNumber (size gf - 1) (xPower w o) x)
 
-  pub record Gathered (g h : Planes) : Type 0 where
-    pub lanes : (o : ℕ) → o < places 𝓜 → element gf h o ≡ sum (K gf) (size gf) (λ x. element gf g (x * w + o % w) ⊗ toF gf (xDual o x))
+  pub record Gathered (g h : ℕ → GF gf) : Type 0 where
+    pub lanes : (o : ℕ) → o < places 𝓜 → h o ≡ sum (K gf) (size gf) (λ x. g (x * w + o % w) ⊗ toF gf (xDual o x))
 
   unfoldable pub coefficientAt : List ℕ → ℕ → ℕ
   coefficientAt v o = ifPresent (isPresent w o) (extractedAt 𝓜 v o)
@@ -73,11 +72,11 @@ module _ (𝓜 : Member) where
       go true = extractedAt-lt 𝓜 v o
       go false = omega (arith, one-lt gf)
 
-  module _ (f g h : Planes) (fibres : FibreSums f g) (gathered : Gathered g h) (v : List ℕ)
-      (values : (p : ℕ) → p < places 𝓜 → element gf f p ≡ toF gf (getD v p 0)) where
+  module _ (f g : ℕ → GF gf) (fibres : FibreSums f g) (v : List ℕ)
+      (values : (p : ℕ) → p < places 𝓜 → f p ≡ toF gf (getD v p 0)) where
     -- x's part of the sum, place by place
     part : (i j x : ℕ) → x < size gf → j < w
-        → element gf g (x * w + j) ⊗ dual (K gf) (size gf - 1) i (toF gf x) ≡ sum (K gf) w (λ r. toF gf (getD v (x * w + r) 0) ⊗ dualAt 𝓜 i j (x * w + r))
+        → g (x * w + j) ⊗ dual (K gf) (size gf - 1) i (toF gf x) ≡ sum (K gf) w (λ r. toF gf (getD v (x * w + r) 0) ⊗ dualAt 𝓜 i j (x * w + r))
     unfolding fibreAt dualAt
     part i j x hx hj =
         ap (λ s. s ⊗ dual (K gf) (size gf - 1) i (toF gf x)) (fibres .lanes x j hx hj)
@@ -87,19 +86,25 @@ module _ (𝓜 : Member) where
         ∙ ap₂ (λ a b. a ⊗ b) (values (x * w + r) (place-below 𝓜 x r hx hr))
         (mul-comm (K gf) _ _ ∙ ap (λ u. dual (K gf) (size gf - 1) i (toF gf u) ⊗ dual (K gf) (w - 1) j (py 𝓜 (x * w + r))) (sym (place-of 𝓜 x r hr .0))))
 
-    pub coefficients-read : (o : ℕ) → o < places 𝓜 → element gf h o ≡ toF gf (coefficientAt v o)
-    unfolding coefficientAt xDual extractedAt
-    coefficients-read o l = gathered .lanes o l ∙ go (decPresent w o)
+    pub coefficient-sum : (o : ℕ) → Present w o
+        → sum (K gf) (size gf) (λ x. g (x * w + o % w) ⊗ dual (K gf) (size gf - 1) (xPower w o) (toF gf x)) ≡ toF gf (coefficientAt v o)
+    unfolding coefficientAt extractedAt
+    coefficient-sum o a =
+        sum-ext (K gf) (size gf) _ _ (λ x hx. part (xPower w o) (o % w) x hx (mod-lt o (omega arith)))
+        ∙ sym (sum-blocks (K gf) (size gf) w (λ p. toF gf (getD v p 0) ⊗ dualAt 𝓜 (xPower w o) (o % w) p))
+        ∙ sym (toF-symbolOf 𝓜 v (xPower w o) (o % w))
+        ∙ ap (toF gf) (sym (present-yes 𝓜 o _ a))
+
+    pub coefficients-read : (h : ℕ → GF gf) → Gathered g h → (o : ℕ) → o < places 𝓜 → h o ≡ toF gf (coefficientAt v o)
+    unfolding coefficientAt xDual
+    coefficients-read h gathered o l = gathered .lanes o l ∙ go (decPresent w o)
       where
-        go : Dec (Present w o) → sum (K gf) (size gf) (λ x. element gf g (x * w + o % w) ⊗ toF gf (xDual o x)) ≡ toF gf (coefficientAt v o)
+        go : Dec (Present w o) → sum (K gf) (size gf) (λ x. g (x * w + o % w) ⊗ toF gf (xDual o x)) ≡ toF gf (coefficientAt v o)
         go (yes a) =
             sum-ext (K gf) (size gf) _ _ (λ x hx.
-            ap (λ s. element gf g (x * w + o % w) ⊗ s) (ap (toF gf) (present-yes 𝓜 o _ a) ∙ toF-dual (size gf - 1) (xPower w o) x)
-            ∙ part (xPower w o) (o % w) x hx (mod-lt o (omega arith)))
-            ∙ sym (sum-blocks (K gf) (size gf) w (λ p. toF gf (getD v p 0) ⊗ dualAt 𝓜 (xPower w o) (o % w) p))
-            ∙ sym (toF-symbolOf 𝓜 v (xPower w o) (o % w))
-            ∙ ap (toF gf) (sym (present-yes 𝓜 o _ a))
+            ap (λ s. g (x * w + o % w) ⊗ s) (ap (toF gf) (present-yes 𝓜 o _ a) ∙ toF-dual (size gf - 1) (xPower w o) x))
+            ∙ coefficient-sum o a
         go (no a) =
             sum-zero (K gf) (size gf) _ (λ x hx.
-            ap (λ s. element gf g (x * w + o % w) ⊗ s) (ap (toF gf) (present-no 𝓜 o _ a) ∙ toF-zero gf) ∙ mul-zero (K gf) _)
+            ap (λ s. g (x * w + o % w) ⊗ s) (ap (toF gf) (present-no 𝓜 o _ a) ∙ toF-zero gf) ∙ mul-zero (K gf) _)
             ∙ sym (ap (toF gf) (present-no 𝓜 o _ a) ∙ toF-zero gf)

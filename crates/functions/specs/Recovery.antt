@@ -22,7 +22,7 @@ use Rattle.family.specs.Member.{Member, places, px, py}
 use Rattle.family.specs.Points.{x-below, rest-below}
 use Rattle.family.specs.Evaluation.{present-yes, present-no}
 use Rattle.family.specs.Extraction.{extractedAt, dualAt, powersAt, dual-powers, toF-symbolOf}
-use Rattle.coefficients.specs.Duals.{coefficientAt, coefficientsOf}
+use Rattle.functions.specs.Duals.{coefficientAt, coefficientsOf}
 
 module _ (𝓜 : Member) {f : ℕ → GF (𝓜 .gf)} (fn : Fn (K (𝓜 .gf)) (𝓜 .w) f) (ends : Below (K (𝓜 .gf)) f (places 𝓜)) (v : List ℕ)
     (values : (p : ℕ) → p < places 𝓜 → Val (K (𝓜 .gf)) (𝓜 .w) (px 𝓜 p) (py 𝓜 p) f (toF (𝓜 .gf) (getD v p 0))) where

@@ -1,0 +1,14 @@
+pub mod Bytes
+pub mod TimesY
+pub mod Leading
+pub mod Dividing
+pub mod Less
+pub mod Quotients
+pub mod Duals
+pub mod Gathering
+pub mod Recovery
+pub mod Horner
+pub mod Values
+pub mod ByPowers
+pub mod Powers
+pub mod ReadByPowers
