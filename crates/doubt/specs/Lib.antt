@@ -1,4 +1,2 @@
 pub mod Keys
-pub mod Bound
-pub mod Summed
 pub mod Picked

@@ -15,9 +15,10 @@ ghost use Rattle.lists.specs.Least.{leastOf};
 ghost use Rattle.soft.specs.Column.{places, symbols, columnOf, countedGap};
 ghost use Rattle.soft.specs.Doubt.{mostDoubt, doubtfulOf};
 ghost use Rattle.soft.specs.Threshold.{closestOf, clampOf};
-ghost use Rattle.doubt.specs.Keys.{far, Apart, chosenOf, belowBy};
-ghost use Rattle.doubt.specs.Summed.{KeyBy, KeyedBy};
-ghost use Rattle.doubt.specs.Bound.{fromBound, keyFrom, pastOf, Bound};
+ghost use Rattle.weighing.specs.Keys.{Apart, chosenOf, belowBy};
+ghost use Rattle.weighing.specs.Summed.{KeyBy, KeyedBy};
+ghost use Rattle.weighing.specs.Bound.{fromBound, keyFrom, pastOf, Bound};
+ghost use Rattle.doubt.specs.Keys.{far};
 ghost use Rattle.doubt.specs.Picked.{PickedOf};
 ghost use Rattle.summary.specs.Summary.{SummaryOf};
 

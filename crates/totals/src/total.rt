@@ -13,7 +13,7 @@ ghost use Rattle.soft.specs.Blank.{flagAt, flagsOf};
 ghost use Rattle.soft.specs.TestWord.{bestWord};
 ghost use Rattle.lists.specs.Count.{count};
 ghost use Rattle.soft.specs.Total.{totalOf, pinnedOf, changedFlags, agree, differingIn};
-ghost use Rattle.totals.specs.Changed.{changedBy};
+ghost use Rattle.weighing.specs.Changed.{changedBy};
 
 // A cost at the ceiling is summed as it stands.
 pub fn total(costs: &[u16], word: &[u8]) -> u32

@@ -6,28 +6,30 @@ use Rattle.soft.specs.Bits.{bits}
 use Rattle.book.specs.Model.{modem64}
 use Rattle.book.specs.Closing.{refusedClosing}
 use Rattle.book.specs.Bits.{bits-refused, bits-doubt}
-use Rattle.checking.specs.Checks.{passed, refused}
-use Rattle.bit_decoding.proofs.Made.{bits-askable, bits-answers}
+use Rattle.book.specs.Here.{power}
+use Rattle.answering.specs.Checks.{passed, refused}
+use Rattle.doubt.specs.Picked.{picked-in}
+use Rattle.answering.specs.Made.{bits-askable, bits-answers}
 use Rattle.bit_decoding.proofs.decode_bits.Statement.{statement}
 use Rattle.bit_decoding.proofs.decode_bits.Tie as tie
 
 returns : tie.Need-returns
-returns c = refused _ _ _ _ _ (c .before .checks .ensures) (λ a. omega arith) (bits-refused modem64 bits _ _ _ _ _)
+returns c = refused modem64 _ _ _ _ _ (c .before .checks .ensures) (λ a. omega arith) (bits-refused modem64 bits _ _ _ _ _)
 
 returns-2 : tie.Need-returns-2
 unfolding refusedClosing
 returns-2 c =
-    let k = passed _ _ _ _ _ (c .before .before .checks .ensures) (omega arith) in
+    let k = passed modem64 _ _ _ _ _ (c .before .before .checks .ensures) (omega arith) in
     sym (bits-doubt modem64 bits _ _ _ _ _ (k .rated) (k .whole) (k .long) (k .whole-report) (c .if2 .taken))
 
 decode-requires : tie.Need-decode-requires
 decode-requires c κs =
     let past = c .before .before .before .before .before .before .before .before in
-    let k = passed _ _ _ _ _ (past .before .before .checks .ensures) (omega arith) in (
+    let k = passed modem64 _ _ _ _ _ (past .before .before .checks .ensures) (omega arith) in (
       record {
         askable =
-            bits-askable _ _ (past .if2 .left) (c .before .before .before .before .before .before .before .costs-from-bits .ensures)
-            (c .before .before .before .before .doubtful-by .ensures _ (c .before .before .before .before .before .summary-of .ensures)) _ (k .rated);
+            bits-askable modem64 bits power _ _ (past .if2 .left) (c .before .before .before .before .before .before .before .costs-from-bits .ensures)
+            (picked-in (c .before .before .before .before .doubtful-by .ensures _ (c .before .before .before .before .before .summary-of .ensures))) _ (k .rated);
         message-long = k .long;
         report-long = k .whole-report;
       },
@@ -37,9 +39,9 @@ decode-requires c κs =
 returns-3 : tie.Need-returns-3
 returns-3 c =
     let past = c .before .before .before .before .before .before .before .before .before .before .before .before .before in
-    let k = passed _ _ _ _ _ (past .before .before .checks .ensures) (omega arith) in
-    bits-answers _ _ (past .if2 .left) (c .before .before .before .before .before .before .before .before .before .before .before .before .costs-from-bits .ensures)
-    (c .before .before .before .before .before .before .before .before .before .doubtful-by .ensures _ (c .before .before .before .before .before .before .before .before .before .before .summary-of .ensures)) _ (k .rated) _ _ (k .whole) (k .long)
+    let k = passed modem64 _ _ _ _ _ (past .before .before .checks .ensures) (omega arith) in
+    bits-answers modem64 bits power _ _ (past .if2 .left) (c .before .before .before .before .before .before .before .before .before .before .before .before .costs-from-bits .ensures)
+    (picked-in (c .before .before .before .before .before .before .before .before .before .doubtful-by .ensures _ (c .before .before .before .before .before .before .before .before .before .before .summary-of .ensures))) _ (k .rated) _ _ (k .whole) (k .long)
     (k .whole-report) (c .before .before .before .before .decode .ensures)
 
 pub decode-bits-spec : {M : Type 1} → statement M

@@ -5,11 +5,13 @@ use native.Mathlib.Omega.{arith}
 use lib.ListN.{length, take}
 use lib.Seq.{length-take-le}
 use Rattle.soft.specs.Doubt.{mostDoubt}
+use Rattle.book.specs.Model.{modem64}
 use Rattle.session.specs.declared.Session.{Session}
 use Rattle.session.specs.declared.Opened.{Opened}
 use Rattle.session.specs.AnsweringLaws.{closing-by-hand, closing-wrong-size, closing-early, closing-decoded}
-use Rattle.decoding.specs.Asked.{askable-fit}
-use Rattle.closing.proofs.Opened.{fit-opened, opened-fit}
+use Rattle.session.specs.Laws.{opens}
+use Rattle.answering.specs.Asked.{askable-fit}
+use Rattle.answering.specs.Opened.{fit-opened, opened-fit}
 use borrow.Author.Needs.{needs}
 use borrow.Author.Tests.{not-true, not-false}
 use Rattle.closing.proofs.close.Statement.{statement}
@@ -47,7 +49,7 @@ slice-aggregate-open c =
 returns-5 : tie.Need-returns-5
 returns-5 c =
     closing-by-hand _ _ _ _
-    (λ good. c .if5 .taken (ap (λ (o : Opened). o .refusal) (c .before .before .«open» .ensures) ∙ fit-opened _ _ (good .rate-known) (good .list-fit)))
+    (λ good. c .if5 .taken (fit-opened modem64 _ _ (ap (λ (o : Opened). o .refusal) (c .before .before .«open» .ensures) ∙ opens _ _ .number) (good .rate-known) (good .list-fit)))
 
 slice-aggregate-summary-of : tie.Need-slice-aggregate-summary-of
 slice-aggregate-summary-of c =
@@ -60,9 +62,9 @@ slice-aggregate-decode c =
 decode-requires : tie.Need-decode-requires
 decode-requires c κs =
     let s : Session = c .before .before .before .before .before .before .before .before .before .before .before .before .before .before .before .before .before .before .before .before .args .session in
-    let f = opened-fit (s .rate) (take (s .doubt) (s .doubtful)) (sym (ap (λ (o : Opened). o .refusal) (c .before .before .before .before .before .before .before .before .«open» .ensures)) ∙ c .before .before .before .before .before .before .if5 .left) in (
+    let f = opened-fit modem64 (s .rate) (take (s .doubt) (s .doubtful)) (ap (λ (o : Opened). o .refusal) (c .before .before .before .before .before .before .before .before .«open» .ensures) ∙ opens _ _ .number) (c .before .before .before .before .before .before .if5 .left) in (
       record {
-        askable = askable-fit (s .rate) (s .costs) (s .doubtful) (s .doubt) (f .0) (f .1) (table-room (c .before .before .before .before .before .before .before .before .before .before .before .before .before .before .before .before .before .before .before .before)) (c .before .before .before .before .before .before .before .before .before .before .if4 .left);
+        askable = askable-fit modem64 (s .rate) (s .costs) (s .doubtful) (s .doubt) (f .0) (f .1) (table-room (c .before .before .before .before .before .before .before .before .before .before .before .before .before .before .before .before .before .before .before .before)) (c .before .before .before .before .before .before .before .before .before .before .if4 .left);
         message-long = c .before .before .before .before .before .before .before .before .before .before .before .before .before .before .before .before .if1 .left;
         report-long = c .before .before .before .before .before .before .before .before .before .before .before .before .before .before .before .if2 .left;
       },

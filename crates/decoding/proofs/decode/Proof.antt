@@ -8,7 +8,9 @@ use Rattle.code.specs.Rates.{known-bounds}
 use Rattle.book.specs.Here.{reportLength}
 use Rattle.answers.specs.Result.{total-near}
 use Rattle.chase.specs.Laws.{nearest-call}
-use Rattle.decoding.proofs.Answered.{markable, tests-few, answered-none, decoded-near}
+use Rattle.book.specs.Model.{modem64}
+use Rattle.answering.specs.Answered.{markable}
+use Rattle.decoding.proofs.Answered.{tests-few, answered-none, decoded-near}
 use borrow.Author.Needs.{needs}
 use Rattle.decoding.proofs.decode.Statement.{statement}
 use Rattle.decoding.proofs.decode.Tie as tie
@@ -48,7 +50,7 @@ mark-requires : tie.Need-mark-requires
 mark-requires c κs =
     let near = nearest-call _ _ _ _ _ (c .before .before .before .before .before .before .before .before .before .before .before .before .before .before .before .before .before .nearest-by .ensures) in
     let summed = c .before .before .before .before .before .before .before .before .before .before .before .before .before .before .before .before .before .before .before .before .before .before .before .pre .1 in
-    (markable _ _ _ (near .encoded _ (total-near (c .before .before .before .before .before .before .before .before .before .before .before .before .before .before .before .answer .given .1))) (c .before .before .before .changed-places .ensures _ (summed .best) (summed .counts)) (c .least-distance .ensures), summed)
+    (markable modem64 _ _ _ (near .encoded _ (total-near (c .before .before .before .before .before .before .before .before .before .before .before .before .before .before .before .answer .given .1))) (c .before .before .before .changed-places .ensures _ (summed .best) (summed .counts)) (c .least-distance .ensures), summed)
 
 cast-report : tie.Need-cast-report
 cast-report c =

@@ -4,7 +4,7 @@ use Prim.Native.Nat.{_≤_, _-_}
 use native.Mathlib.Omega.{arith}
 use borrow.Author.Needs.{needs}
 use Rattle.doubt.specs.Keys.{far}
-use Rattle.doubt.specs.Bound.{Bound, bound-start, bound-next, bound-far}
+use Rattle.weighing.specs.Bound.{Bound, bound-start, bound-next, bound-far}
 use Rattle.doubt.proofs.bound_of.Statement.{statement}
 use Rattle.doubt.proofs.bound_of.Tie as tie
 

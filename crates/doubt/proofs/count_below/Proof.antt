@@ -5,7 +5,7 @@ use native.Mathlib.Omega.{arith}
 use lib.Dec.{ltb}
 use borrow.Author.Needs.{needs}
 use Rattle.lists.specs.Count.{count, count-nil, count-turn}
-use Rattle.doubt.specs.Keys.{entryOf, belowBy}
+use Rattle.weighing.specs.Keys.{entryOf, belowBy}
 use Rattle.doubt.proofs.count_below.Statement.{statement}
 use Rattle.doubt.proofs.count_below.Tie as tie
 

@@ -1,6 +1,6 @@
 -- `doubt::counted` meets its contract: one equation for each return.
 use borrow.Author.Needs.{needs}
-use Rattle.doubt.proofs.Turns.{counted-none, counted-full, counted-plain}
+use Rattle.weighing.specs.Doubting.{counted-none, counted-full, counted-plain}
 use Rattle.doubt.proofs.counted.Statement.{statement}
 use Rattle.doubt.proofs.counted.Tie as tie
 

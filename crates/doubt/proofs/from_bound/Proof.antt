@@ -2,7 +2,7 @@
 use mathlib.Core.Path.{sym}
 use native.Mathlib.Omega.{arith}
 use Rattle.doubt.specs.Keys.{far}
-use Rattle.doubt.specs.Bound.{from-below, from-above}
+use Rattle.weighing.specs.Bound.{from-below, from-above}
 use Rattle.doubt.proofs.from_bound.Statement.{statement}
 use Rattle.doubt.proofs.from_bound.Tie as tie
 

@@ -3,7 +3,7 @@ use mathlib.Core.Path.{ap}
 use Prim.Native.Nat.{_+_, _*_}
 use native.Mathlib.Omega.{arith}
 use borrow.Author.Needs.{needs}
-use Rattle.doubt.proofs.Turns.{key-open, key-blank}
+use Rattle.weighing.specs.Doubting.{key-open, key-blank}
 use Rattle.doubt.proofs.key_of.Statement.{statement}
 use Rattle.doubt.proofs.key_of.Tie as tie
 

@@ -4,7 +4,7 @@ use native.Mathlib.Omega.{arith}
 use borrow.Author.Needs.{needs}
 use Rattle.lists.specs.Passed.{Passed, passed-start, passed-turn}
 use Rattle.doubt.specs.Keys.{far}
-use Rattle.doubt.specs.Summed.{keyRule}
+use Rattle.weighing.specs.Summed.{keyRule}
 use Rattle.doubt.proofs.keys_of.Statement.{statement}
 use Rattle.doubt.proofs.keys_of.Tie as tie
 

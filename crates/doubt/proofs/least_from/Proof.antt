@@ -5,7 +5,7 @@ use native.Mathlib.Omega.{arith}
 use borrow.Author.Needs.{needs}
 use Rattle.lists.specs.Least.{leastOf, least-nil, least-turn}
 use Rattle.doubt.specs.Keys.{far}
-use Rattle.doubt.specs.Bound.{keyFrom}
+use Rattle.weighing.specs.Bound.{keyFrom}
 use Rattle.doubt.proofs.least_from.Statement.{statement}
 use Rattle.doubt.proofs.least_from.Tie as tie
 

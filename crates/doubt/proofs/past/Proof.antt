@@ -3,7 +3,7 @@ use mathlib.Core.Path.{sym}
 use native.Mathlib.Omega.{arith}
 use borrow.Author.Needs.{needs}
 use Rattle.doubt.specs.Keys.{far}
-use Rattle.doubt.specs.Bound.{past-key, past-far}
+use Rattle.weighing.specs.Bound.{past-key, past-far}
 use Rattle.doubt.proofs.past.Statement.{statement}
 use Rattle.doubt.proofs.past.Tie as tie
 

@@ -8,9 +8,9 @@ use Rattle.lists.specs.Count.{count, count-nil, count-turn, kept, kept-length}
 use Rattle.lists.specs.Padded.{padded, padded-length}
 use Rattle.soft.specs.Doubt.{mostDoubt}
 use Rattle.doubt.specs.Keys.{far}
-use Rattle.doubt.specs.Bound.{belowAt, chosen-below}
+use Rattle.weighing.specs.Bound.{belowAt, chosen-below}
 use Rattle.doubt.specs.Picked.{picked-same}
-use Rattle.doubt.proofs.Turns.{places-start, places-turn}
+use Rattle.weighing.specs.Doubting.{places-start, places-turn}
 use Rattle.doubt.proofs.picked_by.Statement.{statement}
 use Rattle.doubt.proofs.picked_by.Tie as tie
 

@@ -6,7 +6,7 @@ use native.Mathlib.Omega.{arith}
 use lib.Dec.{ltb}
 use lib.ListN.{getD}
 use Rattle.lists.specs.Count.{count, count-nil, count-turn}
-use Rattle.marks.specs.Low.{belowBy}
+use Rattle.weighing.specs.Low.{belowBy}
 use Rattle.marks.proofs.count_below.Statement.{statement}
 use Rattle.marks.proofs.count_below.Tie as tie
 

@@ -10,7 +10,7 @@ use Rattle.soft.specs.Column.{columnOf}
 use Rattle.soft.specs.Blank.{flagAt}
 use Rattle.soft.specs.Total.{costIn}
 use Rattle.soft.specs.Mark.{sumIn}
-use Rattle.marks.specs.Low.{excessBy}
+use Rattle.weighing.specs.Low.{excessBy}
 use Rattle.marks.proofs.excess.Statement.{statement}
 use Rattle.marks.proofs.excess.Tie as tie
 

@@ -1,6 +1,6 @@
 -- A changed place, and another.
 use native.Mathlib.Omega.{arith}
-use Rattle.marks.proofs.Marking.{gap-changed, gap-unchanged}
+use Rattle.weighing.specs.Marking.{gap-changed, gap-unchanged}
 use Rattle.marks.proofs.gap_at.Statement.{statement}
 use Rattle.marks.proofs.gap_at.Tie as tie
 

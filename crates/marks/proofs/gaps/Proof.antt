@@ -3,8 +3,8 @@ use borrow.Author.Needs.{needs}
 use Prim.Native.Nat.{_≤_, _-_}
 use native.Mathlib.Omega.{arith}
 use Rattle.lists.specs.Passed.{Passed, passed-start, passed-turn}
-use Rattle.marks.specs.Low.{gapRule}
-use Rattle.marks.proofs.Marking.{gaps-made}
+use Rattle.weighing.specs.Low.{gapRule}
+use Rattle.weighing.specs.Marking.{gaps-made}
 use Rattle.marks.proofs.gaps.Statement.{statement}
 use Rattle.marks.proofs.gaps.Tie as tie
 

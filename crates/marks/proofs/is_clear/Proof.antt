@@ -6,7 +6,7 @@ use native.Mathlib.Omega.{arith}
 use lib.Dec.{ltb}
 use borrow.Author.Tests.{le-ltb, lt-ltb}
 use Rattle.soft.specs.Column.{places}
-use Rattle.marks.specs.Low.{above, belowBy, clearOf}
+use Rattle.weighing.specs.Low.{above, belowBy, clearOf}
 use Rattle.marks.proofs.is_clear.Statement.{statement}
 use Rattle.marks.proofs.is_clear.Tie as tie
 

@@ -3,7 +3,8 @@ use borrow.Author.Needs.{needs}
 use mathlib.Core.Path.{ap₂}
 use Prim.Native.Nat.{_+_, _-_, _*_}
 use native.Mathlib.Omega.{arith}
-use Rattle.marks.proofs.Marking.{product-small}
+use Rattle.soft.specs.Column.{places}
+use Rattle.weighing.specs.Marking.{product-small}
 use Rattle.marks.proofs.low_sum.Statement.{statement}
 use Rattle.marks.proofs.low_sum.Tie as tie
 
@@ -14,10 +15,10 @@ sum-below-requires : tie.Need-sum-below-requires
 sum-below-requires c κs = omega (arith, c .before .threshold .ensures .within)
 
 mul-result : tie.Need-mul-result
-mul-result c = omega (arith, product-small {r = c .before .before .before .args .few - c .before .count-below .result} (omega (arith, c .before .before .before .pre .0)) (c .before .before .threshold .ensures .within))
+mul-result c = omega (arith, product-small places {r = c .before .before .before .args .few - c .before .count-below .result} (omega (arith, c .before .before .before .pre .0)) (c .before .before .threshold .ensures .within))
 
 add-result : tie.Need-add-result
-add-result c = omega (arith, c .sum-below .ensures .1, product-small {r = c .before .before .before .args .few - c .before .count-below .result} (omega (arith, c .before .before .before .pre .0)) (c .before .before .threshold .ensures .within))
+add-result c = omega (arith, c .sum-below .ensures .1, product-small places {r = c .before .before .before .args .few - c .before .count-below .result} (omega (arith, c .before .before .before .pre .0)) (c .before .before .threshold .ensures .within))
 
 returns : tie.Need-returns
 returns c =

@@ -4,7 +4,7 @@ use native.Mathlib.Omega.{arith}
 use borrow.Author.Tests.{ne-eqb}
 use Rattle.soft.specs.Column.{columnOf}
 use Rattle.soft.specs.Total.{costIn}
-use Rattle.marks.proofs.Marking.{over-none, over-made}
+use Rattle.weighing.specs.Marking.{over-none, over-made}
 use Rattle.marks.proofs.over.Statement.{statement}
 use Rattle.marks.proofs.over.Tie as tie
 

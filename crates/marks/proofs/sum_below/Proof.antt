@@ -8,7 +8,7 @@ use lib.Dec.{ltb}
 use lib.ListN.{getD}
 use Rattle.lists.specs.Count.{sumOf, sumOf-nil, sumOf-turn}
 use Rattle.soft.specs.Mark.{sumIn}
-use Rattle.marks.specs.Low.{above, sumBelow}
+use Rattle.weighing.specs.Low.{above, sumBelow}
 use Rattle.marks.proofs.sum_below.Statement.{statement}
 use Rattle.marks.proofs.sum_below.Tie as tie
 

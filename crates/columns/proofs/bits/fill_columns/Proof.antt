@@ -6,7 +6,7 @@ use native.Mathlib.Omega.{arith}
 use lib.ListN.{length, drop}
 use borrow.Author.Needs.{needs}
 use Rattle.soft.specs.Bits.{bitCosts}
-use Rattle.columns.proofs.Turns.{columns-start, columns-turn, columns-end}
+use Rattle.weighing.specs.Columns.{columns-start, columns-turn, columns-end}
 use Rattle.columns.proofs.bits.fill_columns.Statement.{statement}
 use Rattle.columns.proofs.bits.fill_columns.Tie as tie
 

@@ -5,7 +5,7 @@ use native.Mathlib.Omega.{arith}
 use borrow.Author.Count.{below-more}
 use borrow.Author.Needs.{needs}
 use Rattle.soft.specs.Column.{costAt}
-use Rattle.columns.proofs.Turns.{open-missing, open-start, open-differs, open-none}
+use Rattle.weighing.specs.Columns.{open-missing, open-start, open-differs, open-none}
 use Rattle.columns.proofs.blank.is_open.Statement.{statement}
 use Rattle.columns.proofs.blank.is_open.Tie as tie
 

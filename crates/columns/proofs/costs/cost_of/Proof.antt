@@ -3,7 +3,7 @@ use mathlib.Core.Path.{sym, _∙_}
 use native.Mathlib.Omega.{arith}
 use borrow.Author.Needs.{needs}
 use Rattle.soft.specs.ColumnLaws.{cost-column, cost-none}
-use Rattle.columns.proofs.Turns.{cost-missing}
+use Rattle.weighing.specs.Columns.{cost-missing}
 use Rattle.columns.proofs.costs.cost_of.Statement.{statement}
 use Rattle.columns.proofs.costs.cost_of.Tie as tie
 

@@ -2,7 +2,7 @@
 use mathlib.Core.Path.{ap₂}
 use Prim.Native.Nat.{_+_, _*_}
 use borrow.Author.Needs.{needs}
-use Rattle.columns.proofs.Turns.{pair-missing}
+use Rattle.weighing.specs.Columns.{pair-missing}
 use Rattle.columns.proofs.costs.pair_at.Statement.{statement}
 use Rattle.columns.proofs.costs.pair_at.Tie as tie
 

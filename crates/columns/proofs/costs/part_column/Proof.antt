@@ -5,7 +5,7 @@ use native.Mathlib.Omega.{arith}
 use borrow.Author.Needs.{needs}
 use Rattle.lists.specs.Passed.{Passed, passed-start, passed-turn}
 use Rattle.soft.specs.Column.{costAt}
-use Rattle.columns.proofs.Turns.{column-part, column-missing}
+use Rattle.weighing.specs.Columns.{column-part, column-missing}
 use Rattle.columns.proofs.costs.part_column.Statement.{statement}
 use Rattle.columns.proofs.costs.part_column.Tie as tie
 

@@ -7,7 +7,7 @@ use lib.ListN.{drop}
 use borrow.Author.Needs.{needs}
 use Rattle.lists.specs.Count.{bit}
 use Rattle.lists.specs.Listed.{listed, listed-start, listed-store, listed-end}
-use Rattle.totals.specs.Changed.{changedIn, changed-flag, changed-listed}
+use Rattle.weighing.specs.Changed.{changedIn, changed-flag, changed-listed}
 use Rattle.totals.proofs.total.changed_places.Statement.{statement}
 use Rattle.totals.proofs.total.changed_places.Tie as tie
 

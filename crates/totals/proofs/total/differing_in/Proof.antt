@@ -7,7 +7,7 @@ use borrow.Author.Needs.{needs}
 use Rattle.lists.specs.Count.{bit, count, count-nil, count-turn}
 use Rattle.soft.specs.Blank.{flagAt}
 use Rattle.soft.specs.Total.{differAt, differingIn}
-use Rattle.totals.proofs.Turns.{both-bits, both-le}
+use Rattle.weighing.specs.Totals.{both-bits, both-le}
 use Rattle.totals.proofs.total.differing_in.Statement.{statement}
 use Rattle.totals.proofs.total.differing_in.Tie as tie
 

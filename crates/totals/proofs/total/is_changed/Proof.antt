@@ -1,5 +1,5 @@
 -- `totals::total::is_changed` meets its contract: one equation for each return.
-use Rattle.totals.proofs.Turns.{changed-best, changed-other}
+use Rattle.weighing.specs.Changed.{changed-best, changed-other}
 use Rattle.totals.proofs.total.is_changed.Statement.{statement}
 use Rattle.totals.proofs.total.is_changed.Tie as tie
 

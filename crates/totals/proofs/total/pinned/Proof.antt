@@ -7,7 +7,7 @@ use borrow.Author.Needs.{needs}
 use Rattle.lists.specs.Count.{bit, count, count-nil, count-turn}
 use Rattle.soft.specs.Column.{columnOf}
 use Rattle.soft.specs.Total.{pinnedAt, pinnedOf}
-use Rattle.totals.proofs.Turns.{cost-in}
+use Rattle.weighing.specs.Totals.{cost-in}
 use Rattle.totals.proofs.total.pinned.Statement.{statement}
 use Rattle.totals.proofs.total.pinned.Tie as tie
 
@@ -26,7 +26,7 @@ loop-again c = (
   omega arith,
   count-turn _ _ _ _ (c .before .before .before .before .loop .inv .2)
       (c .bit .ensures .0 ∙ ap (λ x. bit (eqb x 65535))
-      (cost-in _ (c .before .before .before .before .before .before .before .args .word .now) _ _ _ (c .before .before .byte-at .ensures) (c .before .cost-of .ensures))),
+      (cost-in _ _ (c .before .before .before .before .before .before .before .args .word .now) _ _ _ (c .before .before .byte-at .ensures) (c .before .cost-of .ensures))),
 )
 
 returns : tie.Need-returns Inv-loop μ-loop

@@ -6,7 +6,7 @@ use borrow.Author.Needs.{needs}
 use Rattle.lists.specs.Count.{sumOf, sumOf-nil, sumOf-turn}
 use Rattle.soft.specs.Column.{columnOf}
 use Rattle.soft.specs.Total.{costIn, totalOf}
-use Rattle.totals.proofs.Turns.{cost-in}
+use Rattle.weighing.specs.Totals.{cost-in}
 use Rattle.totals.proofs.total.total.Statement.{statement}
 use Rattle.totals.proofs.total.total.Tie as tie
 
@@ -25,7 +25,7 @@ loop-again c = (
   omega arith,
   omega arith,
   sumOf-turn _ _ _ _ (c .before .before .before .loop .inv .2)
-      (cost-in _ (c .before .before .before .before .before .before .args .word .now) _ _ _ (c .before .byte-at .ensures) (c .cost-of .ensures)),
+      (cost-in _ _ (c .before .before .before .before .before .before .args .word .now) _ _ _ (c .before .byte-at .ensures) (c .cost-of .ensures)),
 )
 
 returns : tie.Need-returns Inv-loop μ-loop

@@ -1,11 +1,11 @@
--- From the code's arrays to the mark: gaps below a threshold are those of unchanged places, and the mark by the excess.
+-- From a function's arrays to the mark, for any number of places and two symbols at least: gaps below a threshold are those of unchanged places, and the mark by the excess.
 --
 --   over-none, over-made   what a place costs over its best cost, case by case
 --   gap-changed, gap-unchanged, gaps-made   the gap at a place, and at all of them
 --   low-reach              where fewer gaps than j are below t, the sum of the j smallest is at least t
 --   below-is, sum-is       the entries below a threshold, and their sum, are those of the unchanged places
 --   enough-above           all unchanged places have an entry below `above`
---   low-is                 so the code's sum is that of the smallest gaps
+--   low-is                 so the sum by a threshold is that of the smallest gaps
 --   product-small          as many times a threshold as there are places fits a sum
 --   few-left               no more gaps are asked for than places are unchanged
 --   marked-clean, marked-none, marked-clear, marked-far, marked-near   the five ends of `mark`
@@ -25,7 +25,7 @@ use Rattle.lists.specs.Count.{bit, count, count-ext, count-mono, count-split, s
 use Rattle.lists.specs.Distinct.{and-left, and-right}
 use Rattle.lists.specs.Every.{both-intro, both-left, both-right}
 use Rattle.lists.specs.Listed.{listed, listed-at, listed-by}
-use Rattle.soft.specs.Column.{places, costOf, gapOf}
+use Rattle.soft.specs.Column.{costOf, gapOf}
 use Rattle.soft.specs.Blank.{flagAt}
 use Rattle.soft.specs.Total.{symbolAt, costIn, totalOf, changedAt, changedOf, changedFlags}
 use Rattle.soft.specs.TotalLaws.{changed-flag, changed-flags}
@@ -33,7 +33,7 @@ use Rattle.soft.specs.Doubt.{fewAhead}
 use Rattle.soft.specs.Threshold.{belowOf}
 use Rattle.soft.specs.Mark.{isBelow, sumIn, lowSum, bestTotal, plainGap, unchanged, slack, excessIn, isMarked}
 use Rattle.soft.specs.MarkLaws.{sumIn-same, low-count, lowSum-threshold, slack-none, unchanged-count, excess-total, excess-ext}
-use Rattle.marks.specs.Low.{above, GapBy, gapsOf, Gaps, belowBy, sumBelow, LowSum, clearOf, Markable}
+use Rattle.weighing.specs.Low.{above, GapBy, gapsOf, Gaps, belowBy, sumBelow, LowSum, clearOf, Markable}
 
 -- ---- one of the smallest gaps that makes up for an excess
 
@@ -91,11 +91,11 @@ module _ {gap flag : ℕ} (l : gap < above) where
   gap-unchanged n = record { is = sym (ap (λ b. cond b above gap) (ne-eqb flag 1 n)); small = l }
 
 -- all places
-pub gaps-made : (plain flags : List ℕ) {out : List ℕ} → length out ≡ places
+pub gaps-made : {places : ℕ} (plain flags : List ℕ) {out : List ℕ} → length out ≡ places
     → ((p : ℕ) → p < places → GapBy (getD plain p 0) (getD flags p 0) (getD out p 0)) → (columns : ℕ → List ℕ)
-    → plain ≡ listed places (plainGap columns) → Gaps columns flags out
+    → plain ≡ listed places (plainGap columns) → Gaps places columns flags out
 unfolding gapsOf
-gaps-made plain flags {out} long made columns e =
+gaps-made {places} plain flags {out} long made columns e =
     record {
       is =
           listed-by 0 places out (λ p. cond (flagAt flags p) above (gapOf (columns p))) long
@@ -108,7 +108,8 @@ gaps-made plain flags {out} long made columns e =
 
 -- ---- the entries of an array of gaps
 
-module _ (columns : ℕ → List ℕ) (word flags gaps : List ℕ) (made : Gaps columns flags gaps) (changed : flags ≡ changedFlags places columns word) where
+module _ {places : ℕ} (columns : ℕ → List ℕ) (word flags gaps : List ℕ) (made : Gaps places columns flags gaps)
+    (changed : flags ≡ changedFlags places columns word) where
   flag-is : (p : ℕ) → p < places → flagAt flags p ≡ changedAt columns word p
   flag-is p l = ap (λ f. flagAt f p) changed ∙ changed-flag places columns word p l
 
@@ -161,7 +162,7 @@ module _ (columns : ℕ → List ℕ) (word flags gaps : List ℕ) (made : Gaps 
       below-all : count places (unchanged columns word) ≤ belowOf places above (unchanged columns word) (plainGap columns)
       below-all = count-mono places (unchanged columns word) (λ p. unchanged columns word p && ltb (plainGap columns p) above) (λ p l u. small-there p l (changedAt columns word p) refl u)
 
-  pub low-is : {few r : ℕ} → LowSum gaps few r → r ≡ lowSum places few (unchanged columns word) (plainGap columns)
+  pub low-is : {few r : ℕ} → LowSum places gaps few r → r ≡ lowSum places few (unchanged columns word) (plainGap columns)
   low-is {few} s =
       let t = s .t in
       let l : t ≤ above = omega (arith, s .splits .within) in
@@ -171,63 +172,65 @@ module _ (columns : ℕ → List ℕ) (word flags gaps : List ℕ) (made : Gaps 
       ∙ sym (lowSum-threshold places few (unchanged columns word) (plainGap columns) t (omega (arith, b, s .splits .at-most)) (omega (arith, c, s .splits .at-least)))
 
 -- the rest of the sum fits
-pub product-small : {r t : ℕ} → r ≤ places → t < above → r * t ≤ places * above
-product-small {t = t} a b = let l : t ≤ above = omega arith in mul-le-mul a l
+pub product-small : (places : ℕ) {r t : ℕ} → r ≤ places → t < above → r * t ≤ places * above
+product-small places {t = t} a b = let l : t ≤ above = omega arith in mul-le-mul a l
 
 -- ---- the mark
 
-module _ {columns : ℕ → List ℕ} {word flags : List ℕ} {far : ℕ} (M : Markable columns word flags far) where
+module _ {places symbols : ℕ} {columns : ℕ → List ℕ} {word flags : List ℕ} {far : ℕ}
+    (M : Markable places symbols columns word flags far) where
   count-is : {count : ℕ} → count ≡ Count.count places (flagAt flags) → count ≡ changedOf places columns word
   count-is e = e ∙ ap (λ f. Count.count places (flagAt f)) (M .changed) ∙ changed-flags places columns word
-
-  due-is : {due : ℕ} → due ≡ excessIn places (flagAt flags) columns word → due ≡ totalOf places columns word - bestTotal places columns
-  due-is e =
-      e ∙ excess-ext places (flagAt flags) (changedAt columns word) columns word
-      (λ p l. ap (λ f. flagAt f p) (M .changed) ∙ changed-flag places columns word p l)
-      ∙ excess-total places columns word (λ p l. omega (arith, M .wide p l)) (λ p l. omega (arith, M .wide p l, M .symbol p l))
 
   pub few-left : {count : ℕ} → count ≡ Count.count places (flagAt flags) → far - count ≤ Count.count places (unchanged columns word)
   few-left e = omega (arith, count-is e, M .few, unchanged-count places columns word)
 
-  module _ {due : ℕ} (d : due ≡ excessIn places (flagAt flags) columns word) where
-    marked : (b : Bool) → leb due (slack places far columns word) ≡ b → bit b ≡ bit (isMarked places far columns word)
-    unfolding isMarked
-    marked b e = ap bit (sym e ∙ ap (λ x. leb x (slack places far columns word)) (due-is d))
+  module _ (two : 1 < symbols) where
+    due-is : {due : ℕ} → due ≡ excessIn places (flagAt flags) columns word → due ≡ totalOf places columns word - bestTotal places columns
+    due-is e =
+        e ∙ excess-ext places (flagAt flags) (changedAt columns word) columns word
+        (λ p l. ap (λ f. flagAt f p) (M .changed) ∙ changed-flag places columns word p l)
+        ∙ excess-total places columns word (λ p l. omega (arith, M .wide p l)) (λ p l. omega (arith, M .wide p l, M .symbol p l))
 
-    pub marked-clean : due ≡ 0 → 1 ≡ bit (isMarked places far columns word)
-    marked-clean z = marked true (le-leb due _ (omega arith))
+    module _ {due : ℕ} (d : due ≡ excessIn places (flagAt flags) columns word) where
+      marked : (b : Bool) → leb due (slack places far columns word) ≡ b → bit b ≡ bit (isMarked places far columns word)
+      unfolding isMarked
+      marked b e = ap bit (sym e ∙ ap (λ x. leb x (slack places far columns word)) (due-is d))
 
-    module _ {count : ℕ} (c : count ≡ Count.count places (flagAt flags)) where
-      pub marked-clear : {gaps : List ℕ} → Gaps columns flags gaps → {r : Bool} → r ≡ true → r ≡ clearOf gaps due (far - count)
-          → 1 ≡ bit (isMarked places far columns word)
-      unfolding clearOf slack
-      marked-clear {gaps} made t k =
-          let e = sym k ∙ t in
-          let small : due < above = ltb-true due above (and-left (ltb due above) (ltb (belowBy places due gaps) (far - count)) e) in
-          let few : belowBy places due gaps < far - count =
-          ltb-true (belowBy places due gaps) (far - count) (and-right (ltb due above) (ltb (belowBy places due gaps) (far - count)) e) in
-          let q = count-is c in
-          let b = below-is columns word flags gaps made (M .changed) due (omega arith) in
-          marked true
-          (le-leb due _
-          (omega (
-            arith,
-            low-reach places (far - count) (unchanged columns word) (plainGap columns) due (few-left c) (omega (arith, b)),
-            ap (λ n. lowSum places (far - n) (unchanged columns word) (plainGap columns)) q,
-          )))
+      pub marked-clean : due ≡ 0 → 1 ≡ bit (isMarked places far columns word)
+      marked-clean z = marked true (le-leb due _ (omega arith))
 
-      pub marked-none : due ≢ 0 → far ≤ count → 0 ≡ bit (isMarked places far columns word)
-      marked-none n h = marked false (lt-leb due _ (omega (arith, slack-none places far columns word (omega (arith, count-is c)))))
+      module _ {count : ℕ} (c : count ≡ Count.count places (flagAt flags)) where
+        pub marked-clear : {gaps : List ℕ} → Gaps places columns flags gaps → {r : Bool} → r ≡ true → r ≡ clearOf places gaps due (far - count)
+            → 1 ≡ bit (isMarked places far columns word)
+        unfolding clearOf slack
+        marked-clear {gaps} made t k =
+            let e = sym k ∙ t in
+            let small : due < above = ltb-true due above (and-left (ltb due above) (ltb (belowBy places due gaps) (far - count)) e) in
+            let few : belowBy places due gaps < far - count =
+            ltb-true (belowBy places due gaps) (far - count) (and-right (ltb due above) (ltb (belowBy places due gaps) (far - count)) e) in
+            let q = count-is c in
+            let b = below-is columns word flags gaps made (M .changed) due (omega arith) in
+            marked true
+            (le-leb due _
+            (omega (
+              arith,
+              low-reach places (far - count) (unchanged columns word) (plainGap columns) due (few-left c) (omega (arith, b)),
+              ap (λ n. lowSum places (far - n) (unchanged columns word) (plainGap columns)) q,
+            )))
 
-      module _ {gaps : List ℕ} (made : Gaps columns flags gaps) {low : ℕ} (s : LowSum gaps (far - count) low) where
-        low-slack : low ≡ slack places far columns word
-        unfolding slack
-        low-slack =
-            low-is columns word flags gaps made (M .changed) s
-            ∙ ap (λ n. lowSum places (far - n) (unchanged columns word) (plainGap columns)) (count-is c)
+        pub marked-none : due ≢ 0 → far ≤ count → 0 ≡ bit (isMarked places far columns word)
+        marked-none n h = marked false (lt-leb due _ (omega (arith, slack-none places far columns word (omega (arith, count-is c)))))
 
-        pub marked-far : low < due → 0 ≡ bit (isMarked places far columns word)
-        marked-far h = marked false (lt-leb due _ (omega (arith, low-slack)))
+        module _ {gaps : List ℕ} (made : Gaps places columns flags gaps) {low : ℕ} (s : LowSum places gaps (far - count) low) where
+          low-slack : low ≡ slack places far columns word
+          unfolding slack
+          low-slack =
+              low-is columns word flags gaps made (M .changed) s
+              ∙ ap (λ n. lowSum places (far - n) (unchanged columns word) (plainGap columns)) (count-is c)
 
-        pub marked-near : due ≤ low → 1 ≡ bit (isMarked places far columns word)
-        marked-near h = marked true (le-leb due _ (omega (arith, low-slack)))
+          pub marked-far : low < due → 0 ≡ bit (isMarked places far columns word)
+          marked-far h = marked false (lt-leb due _ (omega (arith, low-slack)))
+
+          pub marked-near : due ≤ low → 1 ≡ bit (isMarked places far columns word)
+          marked-near h = marked true (le-leb due _ (omega (arith, low-slack)))

@@ -23,7 +23,7 @@ use Rattle.lists.specs.Count.{bit, count, count-none, count-mono, count-strict,
 use Rattle.lists.specs.Distinct.{and-both}
 use Rattle.lists.specs.Least.{leastOf, least-le, least-at}
 use Rattle.lists.specs.Rank.{rankOf}
-use Rattle.doubt.specs.Keys.{entryOf, Apart, chosenBy, chosenOf}
+use Rattle.weighing.specs.Keys.{entryOf, Apart, chosenBy, chosenOf}
 
 abbrev pub belowAt : List ℕ → ℕ → ℕ → Bool
 belowAt keys b p = ltb (entryOf keys p) b

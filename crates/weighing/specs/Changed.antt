@@ -1,14 +1,18 @@
--- Changed places by the best symbols and the flags of the places that are not blank.
+-- Changed places by the best symbols and the flags of the places that are not blank, for any number of places.
 --
 --   changedBy symbol best flag   the symbol is not the best one, at a place whose flag is 1
+--   changed-best, changed-other   so it is where the symbol is not the best one, if the flag is 1
+--   changedIn word best counts p   the same at a place, by the arrays
 --   changed-flag           the flag of a place by its symbol
 --   changed-listed         over the arrays of columns it is what is changed at each place
-use mathlib.Core.Bool.{Bool, not, _&&_}
-use mathlib.Core.Path.{_≡_, ap, ap₂, _∙_}
+use mathlib.Core.Bool.{Bool, true, false, not, _&&_}
+use mathlib.Core.Path.{_≡_, refl, sym, ap, ap₂, _∙_}
 use mathlib.Core.List.{List}
+use mathlib.Core.Logic.{_≢_}
 use Prim.Native.Nat.{ℕ}
 use lib.Dec.{eqb}
 use lib.ListN.{getD}
+use borrow.Author.Tests.{eq-eqb, ne-eqb}
 use Rattle.lists.specs.Count.{bit}
 use Rattle.lists.specs.Listed.{listed, listed-at, listed-ext}
 use Rattle.soft.specs.Blank.{flagsOf, flagAt}
@@ -18,6 +22,23 @@ use Rattle.soft.specs.Total.{symbolAt, changedFlags}
 
 unfoldable pub changedBy : ℕ → ℕ → ℕ → Bool
 changedBy symbol best flag = eqb flag 1 && not (eqb symbol best)
+
+module _ (s best flag : ℕ) where
+  nothing : (a b : Bool) → b ≡ true → (a && not b) ≡ false
+  nothing true b h = ap not h
+  nothing false b h = refl
+
+  alone : (a b : Bool) → b ≡ false → (a && not b) ≡ a
+  alone true b h = ap not h
+  alone false b h = refl
+
+  pub changed-best : s ≡ best → false ≡ changedBy s best flag
+  unfolding changedBy
+  changed-best h = sym (nothing (eqb flag 1) _ (eq-eqb s best h))
+
+  pub changed-other : s ≢ best → eqb flag 1 ≡ changedBy s best flag
+  unfolding changedBy
+  changed-other h = sym (alone (eqb flag 1) _ (ne-eqb s best h))
 
 -- at a place, by the arrays
 unfoldable pub changedIn : List ℕ → List ℕ → List ℕ → ℕ → Bool

@@ -1,4 +1,4 @@
--- Keys by a summary of the columns: by the best cost, the plain gap and the flag of each place.
+-- Keys by a summary of the columns, for any number of places and two symbols at least: by the best cost, the plain gap and the flag of each place.
 --
 --   gapBy least gap        the gap as it counts for choosing, by the best cost and the plain gap
 --   KeyBy n far least gap flag p key   the key of place p, of n places: behind all with a flag other than 1
@@ -13,13 +13,12 @@ use native.Mathlib.Decide.{ℕ-discrete}
 use native.Mathlib.Omega.{arith}
 use lib.ListN.{getD}
 use borrow.Author.Tests.{eqb-true, eqb-false}
-use Rattle.soft.specs.Column.{places, countedGap, doubtGapOf}
+use Rattle.soft.specs.Column.{countedGap, doubtGapOf}
 use Rattle.soft.specs.Doubt.{gapAt}
 use Rattle.soft.specs.DoubtLaws.{key-injective}
 use Rattle.soft.specs.Mark.{bestCost}
-use Rattle.summary.specs.declared.Summary.{Summary}
-use Rattle.summary.specs.Summary.{SummaryOf, least-at, gap-at, counts-at, summary-second}
-use Rattle.doubt.specs.Keys.{entryOf, KeyOf, Keyed, Apart}
+use Rattle.weighing.specs.Summary.{SummaryBy, least-at, gap-at, counts-at, summary-second}
+use Rattle.weighing.specs.Keys.{entryOf, KeyOf, Keyed, Apart}
 
 abbrev pub gapBy : ℕ → ℕ → ℕ
 gapBy least gap = countedGap least (least + gap)
@@ -53,21 +52,22 @@ module _ {n far : ℕ} {least gaps counts keys : List ℕ} (K : KeyedBy n far le
         apart = λ p q lp lq h e. key-injective n gapIn p q lp lq (sym (key-below p lp h) ∙ e ∙ key-below q lq (omega arith));
       }
 
-module _ {columns : ℕ → List ℕ} {s : Summary} (S : SummaryOf columns s) where
+module _ {places symbols : ℕ} {columns : ℕ → List ℕ} {best least gaps counts : List ℕ} (S : SummaryBy places symbols columns best least gaps counts)
+    (two : 1 < symbols) where
   -- a place's gap, as it counts
-  gap-counted : (p : ℕ) → p < places → gapBy (getD (s .least) p 0) (getD (s .gaps) p 0) ≡ gapAt columns p
+  gap-counted : (p : ℕ) → p < places → gapBy (getD least p 0) (getD gaps p 0) ≡ gapAt columns p
   unfolding doubtGapOf
   gap-counted p l =
-      ap₂ gapBy (least-at S p l) (gap-at S p l) ∙ ap (countedGap (bestCost columns p)) (summary-second S p l)
+      ap₂ gapBy (least-at S p l) (gap-at S p l) ∙ ap (countedGap (bestCost columns p)) (summary-second S p l two)
 
-  pub keyed-summary : {far : ℕ} {keys : List ℕ} → KeyedBy places far (s .least) (s .gaps) (s .counts) keys → Keyed places far columns keys
+  pub keyed-summary : {far : ℕ} {keys : List ℕ} → KeyedBy places far least gaps counts keys → Keyed places far columns keys
   keyed-summary {far} {keys} K = record { at = λ p l. at p l }
     where
       at : (p : ℕ) → p < places → KeyOf places far columns p (entryOf keys p)
       at p l =
           record {
             ordered = λ o.
-                let k = K .at p l .ordered (eqb-true (getD (s .counts) p 0) 1 (counts-at S p l ∙ o)) in
+                let k = K .at p l .ordered (eqb-true (getD counts p 0) 1 (counts-at S p l ∙ o)) in
                 (k .0 ∙ ap (λ g. g * places + p) (gap-counted p l), k .1);
-            behind = λ b. K .at p l .behind (eqb-false (getD (s .counts) p 0) 1 (counts-at S p l ∙ b));
+            behind = λ b. K .at p l .behind (eqb-false (getD counts p 0) 1 (counts-at S p l ∙ b));
           }

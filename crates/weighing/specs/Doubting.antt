@@ -1,4 +1,4 @@
--- Single steps of the functions, over plain lists and numbers.
+-- Single steps of the functions that choose doubtful places, over plain lists and numbers, for any number of places.
 --
 --   counted-none, counted-full, counted-plain   the gap as it counts: without one, with the second cost at the ceiling, and elsewhere
 --   key-open, key-blank    the key of a place, from its gap
@@ -19,7 +19,7 @@ use Rattle.soft.specs.Column.{ceiling, countedGap}
 use Rattle.soft.specs.ColumnLaws.{counted-pinned, counted-open, counted-level}
 use Rattle.soft.specs.Doubt.{doubtfulOf}
 use Rattle.soft.specs.DoubtLaws.{doubtful-none}
-use Rattle.doubt.specs.Summed.{gapBy, KeyBy}
+use Rattle.weighing.specs.Summed.{gapBy, KeyBy}
 
 -- the gap as it counts, by the best cost and the plain gap
 pub counted-none : (least gap : ℕ) → gap ≡ 0 → 0 ≡ countedGap least (least + gap)

@@ -1,0 +1,13 @@
+pub mod Columns
+pub mod Changed
+pub mod Totals
+pub mod Report
+pub mod Low
+pub mod Halving
+pub mod Marking
+pub mod Keys
+pub mod Bound
+pub mod Summary
+pub mod Summed
+pub mod Doubting
+pub mod Picked
