@@ -48,7 +48,6 @@ pub mod AnyCallLaws
 pub mod AnyUndone
 pub mod WritingLaws
 pub mod Calls
-pub mod AlikeCalls
 pub mod CallLaws
 pub mod Undone
 pub mod Captured

@@ -3,13 +3,10 @@
 --
 --   Spares p calls       no call of the list withdraws the place p
 --   acceptedOf book calls   those of the calls that the book accepts, each of which finds the book that the call before it left
---   accepted-stays, refused-goes   a call that the book accepts is one of them, and one that it refuses is not
 --   undone-calls         a delivery that is accepted, calls that spare its place and the withdrawal of that place leave the book of the accepted ones alone
---   undone-then          so does every list of calls that goes on from there
 --   last-column          a place that is delivered, withdrawn and delivered again is held once, with the last column, as if it had been delivered then alone
 use mathlib.Core.Path.{_≡_}
 use mathlib.Core.List.{List, [], _∷_, _++_}
-use mathlib.Core.Logic.{_≢_}
 use mathlib.Core.Option.{some}
 use Prim.Native.Nat.{ℕ}
 use Rattle.refusals.specs.Refusal.{accepted}
@@ -23,22 +20,11 @@ Spares p calls = any.Spares p calls
 abbrev pub acceptedOf : Book → List Call → List Call
 acceptedOf book calls = any.acceptedOf others64 book calls
 
-module _ (book : Book) (call : Call) (calls : List Call) where
-  pub accepted-stays : answer book call .number ≡ accepted → acceptedOf book (call ∷ calls) ≡ call ∷ acceptedOf (after book call) calls
-  accepted-stays = any.accepted-stays others64 book call calls
-
-  pub refused-goes : answer book call .number ≢ accepted → acceptedOf book (call ∷ calls) ≡ acceptedOf book calls
-  refused-goes = any.refused-goes others64 book call calls
-
 module _ (book : Book) (p : ℕ) (column : List ℕ) (n : answer book (deliver p column) .number ≡ accepted) {calls : List Call}
     (spares : Spares p calls) where
   pub undone-calls : (answer (afterAll book (deliver p column ∷ calls)) (withdraw p) .number ≡ accepted)
       × (afterAll book (deliver p column ∷ (calls ++ (withdraw p ∷ []))) ≡ afterAll book (acceptedOf (after book (deliver p column)) calls))
   undone-calls = any.undone-calls others64 book p column n spares
-
-  pub undone-then : (later : List Call)
-      → afterAll book (deliver p column ∷ (calls ++ (withdraw p ∷ later))) ≡ afterAll book (acceptedOf (after book (deliver p column)) calls ++ later)
-  undone-then = any.undone-then others64 book p column n spares
 
   pub last-column : (last : List ℕ)
       → (afterAll book (deliver p column ∷ (calls ++ (withdraw p ∷ (deliver p last ∷ []))))

@@ -111,18 +111,18 @@ rates-512 k b T = (
   ),
 )
 
-reach-at : (k b T : ℕ) → Workable m64 k → b ≤ blankLimit m64 k → reachOf m64 k b ≡ T → Reach m64 k b T
-reach-at k b T rate few e = subst (Reach m64 k b) e (reach-is m64 rate few)
+reach-at : (k b : ℕ) {T : ℕ} → Workable m64 k → b ≤ blankLimit m64 k → reachOf m64 k b ≡ T → Reach m64 k b T
+reach-at k b rate few e = subst (Reach m64 k b) e (reach-is m64 rate few)
 
 pub reach-512 : (blankLimit m64 289 ≡ 167) × (blankLimit m64 409 ≡ 47) × Reach m64 289 0 83 × Reach m64 409 0 23 × Reach m64 289 167 0
     × Reach m64 409 47 0
 reach-512 = (
   limits-512 .0,
   limits-512 .2,
-  reach-at 289 0 83 (known-workable 289 known-289) (omega arith) (reaches-512 .1),
-  reach-at 409 0 23 (known-workable 409 known-409) (omega arith) (reaches-512 .3),
-  reach-at 289 167 0 (known-workable 289 known-289) (omega (arith, limits-512 .0)) (limits-512 .1),
-  reach-at 409 47 0 (known-workable 409 known-409) (omega (arith, limits-512 .2)) (limits-512 .3),
+  reach-at 289 0 (known-workable 289 known-289) (omega arith) (reaches-512 .1),
+  reach-at 409 0 (known-workable 409 known-409) (omega arith) (reaches-512 .3),
+  reach-at 289 167 (known-workable 289 known-289) (omega (arith, limits-512 .0)) (limits-512 .1),
+  reach-at 409 47 (known-workable 409 known-409) (omega (arith, limits-512 .2)) (limits-512 .3),
 )
 
 -- document 02: 'the 512-place report widens pinned and changed to two bytes each, 16 bytes in all with margin and mark'

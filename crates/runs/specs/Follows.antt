@@ -4,11 +4,8 @@
 --   Follows s book       in every run from the session s each answer and each lent buffer afterwards are those of the book; the session left is good
 --                        and its book agrees with the book after the calls, and the calls determine it; closing after the calls, into buffers of the right
 --                        sizes, is early, 'too many blank', 'none near' or the answer as documents 01 and 02 say; and every list of calls has a run
---   good-follows         a good session follows every book that agrees with its own
---   closes-as            so closing after a run answers what closing the book after the calls answers
 --   blanksAfter book calls   b, how many places are blank by the columns held after the calls
 --   ReachAfter book calls T  T is document 02's with so many blank places: the largest number with 2T + b < 64 − M − 6 (`near` t-is)
---   opening-accepted     an opening with a rate and a doubtful list accepts
 --   captureBook bytes    the book that opening with a capture's rate and list and then delivering its records in their order gives
 --   ByCapture bytes r    opening a capture, the bytes of which are bytes: what `open_capture` promises
 --   Start book s         an accepted opening returned the session s: by a rate and a doubtful list, with a new book, or by a capture, with its book
@@ -27,36 +24,26 @@ use Rattle.lists.specs.Distinct.{below}
 use Rattle.near.specs.Here.{IsReach}
 use Rattle.book.specs.Model.{modem64}
 use Rattle.book.specs.Book.{Book, newBook}
-use Rattle.book.specs.Columns.{Agree, agree-path, agree-trans}
+use Rattle.book.specs.Columns.{agree-path, agree-trans}
 use Rattle.book.specs.CaptureOpening.{rateIn, listIn, recordsIn, openCaptureOf}
 use Rattle.code.specs.Encoding.{knownRate}
 use Rattle.book.specs.OpeningLaws.{Rate, rate-known, known-rate}
 use Rattle.book.specs.AnyCalls.{Answer}
-use Rattle.book.specs.Calls.{Call, others64, closing, answers, afterAll}
+use Rattle.book.specs.Calls.{Call, others64, answers, afterAll}
 use Rattle.book.specs.Sentences.{opening-only}
-use Rattle.book.specs.Here.{openOf, DoubtfulList, closeOf, RowColumns}
+use Rattle.book.specs.Here.{openOf, DoubtfulList, RowColumns}
 use Rattle.book.specs.CallLaws.{rate-held}
 use Rattle.book.specs.Captured.{deliveries, capture-opens, capture-costs}
 use Rattle.session.specs.declared.Session.{Session}
 use Rattle.session.specs.declared.Opened.{Opened}
-use Rattle.session.specs.View.{keeping, bookOf, Good}
+use Rattle.session.specs.View.{keeping}
 use Rattle.session.specs.Calls.{Opening}
-use Rattle.runs.specs.Step.{Step}
-use Rattle.runs.specs.Runs.{Run}
 use Rattle.calls.specs.Follows as any
 use Rattle.calls.specs.Follows.{new-rate}
 pub use Rattle.calls.specs.Follows.{closedBy}
 
 abbrev pub Follows : Session → Book → Type 0
 Follows s book = any.Follows others64 keeping s book
-
-pub good-follows : {s : Session} {book : Book} → Good s → Agree (bookOf s) book → Follows s book
-good-follows good same = any.good-follows others64 keeping good same
-
-pub closes-as : {s : Session} {book : Book} → Follows s book → {calls : List Call} {given : List Answer} {t : Session} → Run s calls given t
-    → {message report : List ℕ} {a : Answer} {u : Session} → Step t (closing message report) a u
-    → closeOf (afterAll book calls) message report ≡ closedBy a
-closes-as follows run step = any.closes-as others64 keeping follows run step
 
 -- ---- blank places after the calls
 
@@ -67,10 +54,6 @@ abbrev pub ReachAfter : Book → List Call → ℕ → Type 0
 ReachAfter book calls T = IsReach (book .rate) (blanksAfter book calls) T
 
 -- ---- accepted openings
-
-pub opening-accepted : {rate : ℕ} {list : List ℕ} {r : Opened} → Rate rate → DoubtfulList list → Opening (openOf rate list) r
-    → r .refusal ≡ accepted
-opening-accepted known fit opened = any.opening-accepted modem64 keeping (rate-known known) fit opened
 
 abbrev pub captureBook : List ℕ → Book
 captureBook bytes = afterAll (newBook (rateIn bytes) (listIn bytes)) (deliveries (recordsIn bytes))

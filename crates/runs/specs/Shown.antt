@@ -26,7 +26,7 @@ use Rattle.book.specs.AnyCalls.{Answer}
 use Rattle.book.specs.Calls.{Call, others64, reading, writing, closing, afterAll}
 use Rattle.book.specs.AnyCalls as any
 use Rattle.calls.specs.Shown as shown
-use Rattle.book.specs.AlikeCalls.{answer-alike}
+use Rattle.book.specs.CallLaws.{answer-alike}
 use Rattle.book.specs.RoundTrip.{write-whole, write-accepted, written-order, written-columns, written-opened, open-then-write}
 use Rattle.book.specs.Here.{openOf, DoubtfulList, RowColumns, ReportedIn}
 use Rattle.book.specs.ReadingSentences.{Reads, reading-least}

@@ -1,37 +1,30 @@
--- What follows of sessions: a newly opened one is good, and a delivery and a withdrawal keep it so; a good session's book is proper, and no other good
--- session has one that agrees with it. It follows of their fields, in HeldLaws; what is left here is the struct's own.
+-- What follows of sessions: opening, delivery and withdrawal answer as the book does, case by case, and leave a good session; a good session's book is proper,
+-- and no other good session has one that agrees with it. It follows of every modem's (`calls` HeldLaws, PromiseLaws); what is left here is the struct's own.
 --
 --   row-wide             the places below a bound, each with its column in the table: each column has sixteen costs
 --   book-taken           a place is taken exactly if its flag is set
---   column-there         the column of a place that is taken stands in the table
+--   list-length          the doubtful list of its book has as many places as the session says
 --   good-proper          the book of a good session is proper
---   new-book, new-good   a newly opened session stands for a new book, if its list has at most twelve places, and is good, if it is fit
---   opened-rate, opened-list, opened-new, opens   opening answers as the book does, and gives a good session
 --   withColumn s p column    the session with a place and its column
---   with-column-agree, with-column-good   it stands for the longer row, and is good
 --   delivery-above, delivery-taken, delivery-accepted   the three cases of delivery
 --   withoutColumn s p    the session with the flag of a place not set, and zeros for its column
---   without-column-agree, without-column-good   it stands for the row without the place, and is good
 --   withdrawal-above, withdrawal-free, withdrawal-accepted   the three cases of a withdrawal
---   withdrawn-cleared    a good session that is left by an accepted one has the place free and its costs zero
+--   refused-opens        what a refused opening hands back
+--   opened-rate, opened-list, opened-new, opens   opening answers as the book does, and gives a good session
 --   one-session          two good sessions whose books agree are one
 use mathlib.Core.Bool.{Bool, true, false}
 use mathlib.Core.Path.{_≡_, refl, ap}
 use mathlib.Core.List.{List}
-use mathlib.Core.Option.{some}
 use Prim.Native.Nat.{ℕ, _*_, _<_, _≤_}
 use lib.ListN.{length, getD, set, replicate}
 use Rattle.refusals.specs.Refusal.{accepted, unknownRate, wrongDoubt, noPlace, placeTaken, notTaken}
 use Rattle.lists.specs.Listed.{listed}
-use Rattle.lists.specs.Block.{block, putBlock}
+use Rattle.lists.specs.Block.{putBlock}
 use Rattle.code.specs.Encoding.{knownRate}
 use Rattle.book.specs.Model.{modem64}
-use Rattle.book.specs.Book.{Book, newBook, columnIn, taken}
-use Rattle.book.specs.Delivery.{withEntry}
-use Rattle.book.specs.Withdrawal.{withoutPlace}
+use Rattle.book.specs.Book.{taken}
 use Rattle.book.specs.Columns.{Agree}
-use Rattle.book.specs.Here.{places, width, fitDoubt, refusedOpening, openOf, withdrawOf, wide, Proper}
-use Rattle.soft.specs.Doubt.{mostDoubt}
+use Rattle.book.specs.Here.{places, width, fitDoubt, refusedOpening, openOf, wide, Proper}
 use Rattle.session.specs.declared.Session.{Session}
 use Rattle.session.specs.View.{newSession, held, keeping, entryAt, bookOf, Good}
 use Rattle.session.specs.Calls.{refusedWith, openedOf, declinedWith, Opening, Delivery, deniedWith, Withdrawal}
@@ -52,9 +45,6 @@ module _ (s : Session) (good : Good s) where
   pub list-length : length (bookOf s .doubtful) ≡ s .doubt
   list-length = laws.list-length modem64 (held s) good
 
-  pub column-there : (p : ℕ) → getD (s .taken) p false ≡ true → columnIn (bookOf s .row) p ≡ some (block width p (s .costs))
-  column-there = laws.column-there modem64 (held s) good
-
   pub good-proper : Proper (bookOf s)
   good-proper = laws.good-proper modem64 (held s) good
 
@@ -69,16 +59,6 @@ withColumn s p column =
       taken = set (s .taken) p true;
       costs = putBlock width p column (s .costs);
     }
-
-module _ (s : Session) (p : ℕ) (column : List ℕ) (good : Good s) (h : p < places) (free : getD (s .taken) p false ≡ false)
-    (long : length column ≡ width) where
-  pub with-column-agree : Agree (bookOf (withColumn s p column)) (withEntry (bookOf s) p column)
-  unfolding withColumn Fields.withColumn
-  with-column-agree = laws.with-column-agree modem64 (held s) p column good h free long
-
-  pub with-column-good : Good (withColumn s p column)
-  unfolding withColumn Fields.withColumn
-  with-column-good = laws.with-column-good modem64 (held s) p column good h free long
 
 module _ (s : Session) (p : ℕ) (column : List ℕ) where
   pub delivery-above : places ≤ p → Delivery s p column (declinedWith noPlace s)
@@ -106,15 +86,6 @@ withoutColumn s p =
       costs = putBlock width p (replicate width 0) (s .costs);
     }
 
-module _ (s : Session) (p : ℕ) (good : Good s) (h : p < places) where
-  pub without-column-agree : Agree (bookOf (withoutColumn s p)) (withoutPlace (bookOf s) p)
-  unfolding withoutColumn Fields.withoutColumn
-  without-column-agree = laws.without-column-agree modem64 (held s) p good h
-
-  pub without-column-good : Good (withoutColumn s p)
-  unfolding withoutColumn Fields.withoutColumn
-  without-column-good = laws.without-column-good modem64 (held s) p good h
-
 module _ (s : Session) (p : ℕ) where
   pub withdrawal-above : places ≤ p → Withdrawal s p (deniedWith noPlace s)
   unfolding deniedWith
@@ -129,20 +100,7 @@ module _ (s : Session) (p : ℕ) where
   unfolding withoutColumn Fields.withoutColumn
   withdrawal-accepted h there e = cases.withdrawal-accepted modem64 keeping s p h there (ap (λ (x : Session). held x) e)
 
--- 'the named place becomes free again, its costs return to zero'
-pub withdrawn-cleared : (t : Session) (p : ℕ) (book : Book) → Good t → Agree (bookOf t) (withdrawOf book p .book) → withdrawOf book p .number ≡ accepted
-    → (getD (t .taken) p false ≡ false) × (block width p (t .costs) ≡ replicate width 0)
-withdrawn-cleared = cases.withdrawn-cleared modem64 keeping
-
 -- ---- opening
-
-pub new-book : (rate : ℕ) (list : List ℕ) → length list ≤ mostDoubt → bookOf (newSession rate list) ≡ newBook rate list
-unfolding newSession Fields.newHeld
-new-book = laws.new-book modem64
-
-pub new-good : (rate : ℕ) (list : List ℕ) → knownRate rate ≡ true → fitDoubt list ≡ true → Good (newSession rate list)
-unfolding newSession Fields.newHeld
-new-good = laws.new-good modem64
 
 pub refused-opens : (n : ℕ) → Opening (refusedOpening n) (refusedWith n)
 unfolding refusedWith newSession Fields.newHeld
