@@ -5,8 +5,8 @@
 --                        1, no codeword of the rate costs less than that of the message (`book` Cheapest)
 --   TableTold, BelowTold, BitsTold, SessionTold   the call answers as the book says, and tells this; of a session that is good
 --   ColumnTold bytes p part   a look-up hands back what the book says: for an accepted capture and a place below 64 the bytes of that place's column
---   WrittenAgain bytes before r after   an accepted capture, opened and written into a buffer of its size, is accepted, and has its bytes again exactly if its
---                        records are in place order
+--   WrittenAgain bytes before r after   a capture, opened and written, is answered as the book says; an accepted one, into a buffer of its size, is accepted, and
+--                        has its bytes again exactly if its records are in place order
 --   table-told, below-told, bits-told, session-told, column-told   so it is, of bytes and of costs of 16 bits
 use mathlib.Core.Bool.{Bool, true, false}
 use mathlib.Core.Path.{_≡_, refl, sym, ap, _∙_, subst, subst₂}
@@ -28,6 +28,7 @@ use Rattle.soft.specs.CostBytes.{costBytes}
 use Rattle.soft.specs.Doubt.{doubtfulOf}
 use Rattle.code.specs.Encoding.{knownRate}
 use Rattle.book.specs.Model.{modem64}
+use Rattle.book.specs.AlikeCalls.{writing-alike}
 use Rattle.book.specs.Book.{columnIn}
 use Rattle.book.specs.CaptureOpening.{recordsIn, openCaptureOf}
 use Rattle.book.specs.Closing.{Closed}
@@ -42,6 +43,7 @@ use Rattle.book.specs.Table.{closed, table-rate, checks-passed}
 use Rattle.book.specs.Below.{below-accepted, below-as-table, below-picked, doubtFor}
 use Rattle.book.specs.Bits.{bits-as-table, bits-refused, made-columns}
 use Rattle.book.specs.Table as Table
+use Rattle.book.specs.Writing.{Filled, writeOf}
 use Rattle.book.specs.Here.{places, width, markIn, mark-byte, columnsOf, closeOf, tableColumns, pickedOf, pickedBelow, tableOf, tableBelowOf, frameLength, power, tableMade, bitsOf, checksOf, AreColumns}
 use Rattle.session.specs.declared.Session.{Session}
 use Rattle.session.specs.declared.Opened.{Opened}
@@ -80,6 +82,7 @@ pub record ColumnTold (bytes : List ℕ) (p : ℕ) (part : List ℕ) : Type 0 wh
       → (column : List ℕ) × (columnIn (openCaptureOf bytes .book .row) p ≡ some column) × (part ≡ costBytes column)
 
 pub record WrittenAgain (bytes before : List ℕ) (r : ℕ) (after : List ℕ) : Type 0 where
+  pub answers : (r ≡ writeOf (openCaptureOf bytes .book) before .number) × (after ≡ writeOf (openCaptureOf bytes .book) before .bytes)
   pub accepts : openCaptureOf bytes .number ≡ accepted → length before ≡ length bytes → r ≡ accepted
   pub gives : openCaptureOf bytes .number ≡ accepted → length before ≡ length bytes → ((after ≡ bytes) ↔ InPlaceOrder (recordsIn bytes))
 
@@ -234,6 +237,10 @@ pub by-opening : {bytes before after : List ℕ} {r : ℕ} {o : Opened} → Open
     → below 256 bytes ≡ true → WrittenAgain bytes before r after
 by-opening {bytes} {before} {after} {r} {o} d w small =
     record {
+      answers = (
+        w .number (d .good) ∙ ap (λ (f : Filled). f .number) (writing-alike (d .book) before),
+        w .bytes (d .good) ∙ ap (λ (f : Filled). f .bytes) (writing-alike (d .book) before),
+      );
       accepts = λ n e. open-then-write bytes before after r o small d (d .number ∙ n) e w .0;
       gives = λ n e. open-then-write bytes before after r o small d (d .number ∙ n) e w .1;
     }
