@@ -51,11 +51,13 @@ unfolding rowValues
 step-stored at a ds rows out by i last h done size b P R =
     record {
       as-long = length-set out at last ∙ P .as-long;
-      pivot = λ p q k m.
-          ap (λ (row : List ℕ). valueAt p row q) (getD-set-same out at last [] (omega (arith, P .as-long))) ∙ R .lanes p q k m;
-      other = λ r k n p q m.
-          ap (λ (row : List ℕ). valueAt p row q) (getD-set-other out at r last [] n) ∙ P .stored r (omega arith) (omega arith) .added .lanes p q m
-          ∙ ap₂ (λ d x. valueAt p (getD rows r []) q ⊕ toF (times d x) ⊗ valueAt p (getD rows at []) q) (getD-set-other ds at r 0 0 n) b;
+      next = record {
+        pivot = λ p q k m.
+            ap (λ (row : List ℕ). valueAt p row q) (getD-set-same out at last [] (omega (arith, P .as-long))) ∙ R .lanes p q k m;
+        other = λ r k n p q m l.
+            ap (λ (row : List ℕ). valueAt p row q) (getD-set-other out at r last [] n) ∙ P .stored r (omega arith) (omega arith) .added .lanes p q m
+            ∙ ap₂ (λ d x. valueAt p (getD rows r []) q ⊕ toF (times d x) ⊗ valueAt p (getD rows at []) q) (getD-set-other ds at r 0 0 n) b;
+      };
     }
 
 -- ---- the rows by another symbol
@@ -69,4 +71,13 @@ moved-turn q c rows out k v l P m =
     (record { is = subst (λ (row : List ℕ). Moved row q c v) (P .later k (le-refl k)) m }) P
 
 pub moved-stored : (q c : ℕ) (rows out : List (List ℕ)) (i : ℕ) → classes ≤ i → Passed [] (MovedRow q c rows) 0 i rows out → MovedRows q c rows out
-moved-stored q c rows out i done P = record { as-long = P .as-long; each = λ r l. P .stored r (omega arith) (omega arith) .is }
+unfolding rowValues
+moved-stored q c rows out i done P =
+    record {
+      as-long = P .as-long;
+      moved = record {
+        slopes = λ r p l k. P .stored r (omega arith) (omega arith) .is .slopes p;
+        here = λ r l. P .stored r (omega arith) (omega arith) .is .here;
+        elsewhere = λ r p l k. P .stored r (omega arith) (omega arith) .is .elsewhere p k;
+      };
+    }
