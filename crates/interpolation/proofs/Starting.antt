@@ -1,5 +1,5 @@
 -- The start rows by the powers of y, stored one after another.
-use mathlib.Core.Path.{_≡_, sym, ap, ap₂, _∙_, subst}
+use mathlib.Core.Path.{_≡_, sym, ap, _∙_, subst}
 use mathlib.Core.List.{List, [], _∷_}
 use mathlib.Core.Logic.{_≢_}
 use Prim.Native.Nat.{ℕ, zero, suc, _+_, _-_, _/_, _%_, _<_, _≤_}
@@ -7,11 +7,13 @@ use native.Mathlib.Omega.{arith}
 use lib.ListN.{getD}
 use Rattle.lists.specs.Passed.{Passed}
 use Rattle.algebra.specs.Field.{Field}
-use Rattle.algebra.specs.Power.{pow-nil, pow-suc, pow-one}
-use Rattle.galois.specs.Field16.{K16, toF-one}
+use Rattle.galois.specs.Gf16.{gf16}
+use Rattle.galois.specs.Field16.{K16, toF}
 use Rattle.hermitian.specs.Keys.{zPower}
 use Rattle.family.specs.Member.{m16, places, py}
-use Rattle.planes.specs.Arrays.{elementAt, Carries, none-element, symbolsOf, spreadOf, spread-carries, productOf, product-element}
+use Rattle.lanewise.specs.Arrays.{power-nil, power-one, power-next}
+use Rattle.planes.specs.Product.{tests-16}
+use Rattle.planes.specs.Arrays.{elementAt, Carries, everywhere, none-element, symbolsOf, spreadOf, spread-carries, productOf, product-is, product-element}
 use Rattle.planes.specs.Rows.{valueAt, joinedOf, whole-joined, slope-joined}
 use Rattle.values.specs.Start.{yPowerAt}
 use Rattle.stepping.specs.Starting.{FirstTerm, first-plain, first-z, rows-started}
@@ -23,21 +25,14 @@ open Field K16 using (_⊗_)
 pub powers-made : {y s t u : List ℕ} → Carries (py m16) y → s ≡ productOf y y → t ≡ productOf s y → u ≡ spreadOf 1 → YPowers (u ∷ y ∷ s ∷ t ∷ [])
 powers-made {y} {s} {t} {u} cy es et eu = record { entries = go }
   where
-    square : (p : ℕ) → p < places m16 → elementAt s p ≡ yPowerAt m16 2 p
-    square p l =
-        ap (λ v. elementAt v p) es ∙ product-element y y p ∙ ap₂ (λ a b. a ⊗ b) (cy .lanes p l ∙ sym (pow-one K16 _)) (cy .lanes p l)
-        ∙ sym (pow-suc K16 (py m16 p) 1)
+    square : Carries (yPowerAt m16 2) s
+    square = power-next gf16 (places m16) (py m16) y tests-16 y 1 (power-one gf16 (places m16) (py m16) y cy) cy (es ∙ product-is y y)
 
     go : (j : ℕ) → j < 4 → Carries (yPowerAt m16 j) (getD (u ∷ y ∷ s ∷ t ∷ []) j [])
-    go zero h = record { lanes = λ p l. ap (λ v. elementAt v p) eu ∙ spread-carries 1 .lanes p l ∙ toF-one ∙ sym (pow-nil K16 _) }
-    go (suc zero) h = record { lanes = λ p l. cy .lanes p l ∙ sym (pow-one K16 _) }
-    go (suc (suc zero)) h = record { lanes = square }
-    go (suc (suc (suc zero))) h =
-        record {
-          lanes = λ p l.
-              ap (λ v. elementAt v p) et ∙ product-element s y p ∙ ap₂ (λ a b. a ⊗ b) (square p l) (cy .lanes p l)
-              ∙ sym (pow-suc K16 (py m16 p) 2);
-        }
+    go zero h = power-nil gf16 (places m16) (py m16) u (subst (Carries (everywhere (toF 1))) (sym eu) (spread-carries 1))
+    go (suc zero) h = power-one gf16 (places m16) (py m16) y cy
+    go (suc (suc zero)) h = square
+    go (suc (suc (suc zero))) h = power-next gf16 (places m16) (py m16) s tests-16 y 2 square cy (et ∙ product-is s y)
     go (suc (suc (suc (suc j)))) h = absurd (omega arith)
 
 -- ---- one row

@@ -4,3 +4,5 @@ pub mod Step
 pub mod Extending
 pub mod Extended
 pub mod Starting
+pub mod Cells
+pub mod Blocks
