@@ -8,6 +8,7 @@
 --   joinedOf a b, whole-joined, slope-joined   a row by its parts as arrays
 --   rowSumOf a b, value-sum    the sum in every lane of both parts
 --   doubledRow row, value-doubled    α times a row
+--   split-by               the values of Q0: those of Q and the symbols for z times the slopes
 --   Added row by other r   in every lane a row plus by times another
 --   added-nothing, added-is   nothing is added; by a number of the same element
 --   Raised n x row a r     at every lane below n, where x is given, x + a times a row; raised-by
@@ -107,6 +108,15 @@ module _ (𝓕 : Gf) where
     value-doubled t zero p l = value-whole-of _ _ p ∙ element-doubled 𝓕 t (partOf 0 row) p
     value-doubled t (suc zero) p l = value-slope-of _ _ p ∙ element-doubled 𝓕 t (partOf 1 row) p
     value-doubled t (suc (suc h)) p l = absurd (omega arith)
+
+  -- ---- the values of Q0: those of Q and the symbols times the slopes
+  pub split-by : Tests 𝓕 → {n : ℕ} {x : ℕ → GF 𝓕} (row symbols : List ℕ) {w s m v : List ℕ} → w ≡ partIn 0 row → CarriesIn 𝓕 n x symbols → s ≡ partIn 1 row
+      → m ≡ productOf 𝓕 symbols s → v ≡ sumOf 𝓕 w m → (p : ℕ) → p < n → elementAt 𝓕 v p ≡ valueAt 0 row p ⊕ x p ⊗ valueAt 1 row p
+  split-by t row symbols {w} {s} {m} {v} ew carried es em ev p l =
+      ap (λ a. elementAt 𝓕 a p) ev ∙ sum-element 𝓕 w m p
+      ∙ ap₂ (λ a b. a ⊕ b) (ap (λ a. elementAt 𝓕 a p) ew ∙ value-part 0 row p)
+      (ap (λ a. elementAt 𝓕 a p) em ∙ product-element 𝓕 symbols s t p
+      ∙ ap₂ (λ a b. a ⊗ b) (carried .lanes p l) (ap (λ a. elementAt 𝓕 a p) es ∙ value-part 1 row p))
 
   -- ---- a multiple of another row, added
   pub record Added (row : List ℕ) (by : ℕ) (other r : List ℕ) : Type 0 where
