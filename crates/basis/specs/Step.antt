@@ -33,7 +33,7 @@ unfoldable pub discrepancyAt : ℕ → List ℕ → List (List ℕ) → ℕ → 
 discrepancyAt L leads rows p r = discrepancyOf L (leadAt leads r) (getD rows r []) p
 
 pub discrepancies-are : (L : ℕ) (leads : List ℕ) (rows : List (List ℕ)) (p : ℕ) {ds : List ℕ} → p < places m16
-    → ds ≡ listed classes (discrepancyAt L leads rows (p % 64)) → Stepping.Discrepancies m16 L leads (rowValues rows) p ds
+    → ds ≡ listed classes (discrepancyAt L leads rows (p % 64)) → Stepping.DiscrepanciesAt m16 L leads (rowValues rows) p ds
 unfolding rowValues discrepancyAt Stepping.discrepancyAt
 discrepancies-are L leads rows p inside e =
     Stepping.discrepancies-by m16 L leads (λ r. symbolAt (wholeOf (getD rows r [])) p) (λ r h. symbol-lt (wholeOf (getD rows r [])) p)

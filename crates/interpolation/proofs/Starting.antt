@@ -12,7 +12,7 @@ use Rattle.galois.specs.Field16.{K16, toF}
 use Rattle.hermitian.specs.Keys.{zPower}
 use Rattle.family.specs.Member.{m16, places, py}
 use Rattle.lanewise.specs.Arrays.{power-nil, power-one, power-next}
-use Rattle.planes.specs.Product.{tests-16}
+use Rattle.planes.specs.Product.{products-16}
 use Rattle.planes.specs.Arrays.{elementAt, Carries, everywhere, none-element, symbolsOf, spreadOf, spread-carries, productOf, product-is, product-element}
 use Rattle.planes.specs.Rows.{valueAt, joinedOf, whole-joined, slope-joined}
 use Rattle.values.specs.Start.{yPowerAt}
@@ -26,13 +26,13 @@ pub powers-made : {y s t u : List ℕ} → Carries (py m16) y → s ≡ productO
 powers-made {y} {s} {t} {u} cy es et eu = record { entries = go }
   where
     square : Carries (yPowerAt m16 2) s
-    square = power-next gf16 (places m16) (py m16) y tests-16 y 1 (power-one gf16 (places m16) (py m16) y cy) cy (es ∙ product-is y y)
+    square = power-next gf16 (places m16) (py m16) y products-16 y 1 (power-one gf16 (places m16) (py m16) y cy) cy (es ∙ product-is y y)
 
     go : (j : ℕ) → j < 4 → Carries (yPowerAt m16 j) (getD (u ∷ y ∷ s ∷ t ∷ []) j [])
     go zero h = power-nil gf16 (places m16) (py m16) u (subst (Carries (everywhere (toF 1))) (sym eu) (spread-carries 1))
     go (suc zero) h = power-one gf16 (places m16) (py m16) y cy
     go (suc (suc zero)) h = square
-    go (suc (suc (suc zero))) h = power-next gf16 (places m16) (py m16) s tests-16 y 2 square cy (et ∙ product-is s y)
+    go (suc (suc (suc zero))) h = power-next gf16 (places m16) (py m16) s products-16 y 2 square cy (et ∙ product-is s y)
     go (suc (suc (suc (suc j)))) h = absurd (omega arith)
 
 -- ---- one row

@@ -33,7 +33,7 @@ use Rattle.packing.specs.Bits.{bitAt, bitAt-lt, bitAt-zero, bitAt-suc, bitAt-fi
 use Rattle.lanewise.specs.Lanes.{Planes, lane, lane-like, lane-zero}
 use Rattle.lanewise.specs.Elements.{element, element-lane, element-like, element-xor, Carries, carries-by}
 use Rattle.lanewise.specs.Product as Product
-use Rattle.lanewise.specs.Product.{Tests, element-product}
+use Rattle.lanewise.specs.Product.{ProductTests, element-product}
 
 unfoldable pub planesIn : List ℕ → Planes
 planesIn a b = getD a b 0
@@ -133,7 +133,7 @@ module _ (𝓕 : Gf) where
     unfoldable pub productOf : List ℕ
     productOf = arrayOf (Product.productOf bits (planesIn a) (planesIn b))
 
-    pub product-element : Tests 𝓕 → (p : ℕ) → elementAt productOf p ≡ elementAt a p ⊗ elementAt b p
+    pub product-element : ProductTests 𝓕 → (p : ℕ) → elementAt productOf p ≡ elementAt a p ⊗ elementAt b p
     unfolding productOf
     product-element t p = element-array _ p ∙ element-product 𝓕 t (planesIn a) (planesIn b) p
 
@@ -145,7 +145,7 @@ module _ (𝓕 : Gf) where
     pub power-one : CarriesIn n v a → CarriesIn n (λ p. pow (K 𝓕) (v p) 1) a
     power-one c = record { lanes = λ p l. c .lanes p l ∙ sym (pow-one (K 𝓕) _) }
 
-    pub power-next : Tests 𝓕 → (b : List ℕ) (j : ℕ) {r : List ℕ} → CarriesIn n (λ p. pow (K 𝓕) (v p) j) a → CarriesIn n v b → r ≡ productOf a b
+    pub power-next : ProductTests 𝓕 → (b : List ℕ) (j : ℕ) {r : List ℕ} → CarriesIn n (λ p. pow (K 𝓕) (v p) j) a → CarriesIn n v b → r ≡ productOf a b
         → CarriesIn n (λ p. pow (K 𝓕) (v p) (suc j)) r
     power-next t b j {r} ca cb e =
         record {

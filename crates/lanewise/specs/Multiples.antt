@@ -18,7 +18,7 @@ use lib.ListN.{getD}
 use lib.Pow.{pow-pos, low, high, mod-pow-add}
 use Rattle.algebra.specs.Field.{Field, add-assoc, mul-assoc, one-mul, zero-mul, add-mul}
 use Rattle.galois.specs.BinaryField.{Gf, K, times, toF, toF-add, toF-times, toF-zero, toF-one, toF-mod}
-use Rattle.lanewise.specs.Product.{Tests}
+use Rattle.lanewise.specs.Product.{ProductTests}
 use Rattle.lanewise.specs.Arrays.{none-element}
 use Rattle.lanewise.specs.Rows.{valueAt, rowOf, value-whole-of, value-slope-of, rowSumOf, value-sum, doubledRow, value-doubled, Added, added-nothing, added-is}
 
@@ -85,7 +85,7 @@ module _ (𝓕 : Gf) where
     pub multiple-own : Multiple row 1 row
     multiple-own = record { lanes = λ h p l. sym (ap (λ x. x ⊗ valueAt 𝓕 h row p) (toF-one 𝓕) ∙ one-mul (K 𝓕) _) }
 
-    pub multiple-twice : Tests 𝓕 → {k : ℕ} {m r : List ℕ} → r ≡ doubledRow 𝓕 m → Multiple row k m → Multiple row (times 𝓕 2 k) r
+    pub multiple-twice : ProductTests 𝓕 → {k : ℕ} {m r : List ℕ} → r ≡ doubledRow 𝓕 m → Multiple row k m → Multiple row (times 𝓕 2 k) r
     multiple-twice t {k} {m} {r} e M =
         record {
           lanes = λ h p l.

@@ -3,7 +3,7 @@
 --   crossed f g k lo m   the sum of f i & g (k − i) over the m + 1 numbers i from lo on
 --   productOf n f g      the planes of the product: that of α ^ (n + b) comes back at α ^ b and α ^ (b + 1)
 --   doubledOf n f        the planes of α times f: each moves up by one, and the highest comes back
---   Tests 𝓕              on bits the first is right for the powers of α, which is enough, being additive; the second for all numbers
+--   ProductTests 𝓕       on bits the first is right for the powers of α, which is enough, being additive; the second for all numbers
 --   lane-product, element-product    so it is the product in every lane
 --   lane-doubled, element-doubled    so it is α times what each lane holds
 use mathlib.Core.Bool.{Bool, true, false, cond}
@@ -205,11 +205,11 @@ module _ (𝓕 : Gf) where
   unfoldable pub isDouble : ℕ → Bool
   isDouble a = eqb (fromBits bits (doubledOf bits (bitAt a))) (times 𝓕 2 a)
 
-  pub record Tests : Type 0 where
+  pub record ProductTests : Type 0 where
     pub products : T (every₂ bits isProduct)
     pub doubles : T (every (size 𝓕) isDouble)
 
-  module _ (t : Tests) where
+  module _ (t : ProductTests) where
     product-right : (a b : ℕ) → a < size 𝓕 → b < size 𝓕 → bitsProduct bits a b ≡ times 𝓕 a b
     unfolding isProduct
     product-right a b ha hb =

@@ -27,7 +27,7 @@ use Rattle.galois.specs.BinaryField.{Gf, GF, K, times, toF, toF-times}
 use Rattle.packing.specs.Bits.{bitAt}
 use Rattle.lanewise.specs.Lanes.{Planes, lane-like}
 use Rattle.lanewise.specs.Elements.{element, element-like, element-xor}
-use Rattle.lanewise.specs.Product.{Tests, doubledOf, element-doubled}
+use Rattle.lanewise.specs.Product.{ProductTests, doubledOf, element-doubled}
 use Rattle.lanewise.specs.Arrays.{planesIn, elementAt, CarriesIn, everywhere, onlyAt, only-here, only-off, arrayOf, element-array, sumOf, sum-element, productOf, product-element}
 
 module _ (𝓕 : Gf) where
@@ -103,14 +103,14 @@ module _ (𝓕 : Gf) where
     unfoldable pub doubledRow : List ℕ
     doubledRow = rowOf (doubledOf bits (partOf 0 row)) (doubledOf bits (partOf 1 row))
 
-    pub value-doubled : Tests 𝓕 → (h p : ℕ) → h < 2 → valueAt h doubledRow p ≡ toF 𝓕 2 ⊗ valueAt h row p
+    pub value-doubled : ProductTests 𝓕 → (h p : ℕ) → h < 2 → valueAt h doubledRow p ≡ toF 𝓕 2 ⊗ valueAt h row p
     unfolding doubledRow
     value-doubled t zero p l = value-whole-of _ _ p ∙ element-doubled 𝓕 t (partOf 0 row) p
     value-doubled t (suc zero) p l = value-slope-of _ _ p ∙ element-doubled 𝓕 t (partOf 1 row) p
     value-doubled t (suc (suc h)) p l = absurd (omega arith)
 
   -- ---- the values of Q0: those of Q and the symbols times the slopes
-  pub split-by : Tests 𝓕 → {n : ℕ} {x : ℕ → GF 𝓕} (row symbols : List ℕ) {w s m v : List ℕ} → w ≡ partIn 0 row → CarriesIn 𝓕 n x symbols → s ≡ partIn 1 row
+  pub split-by : ProductTests 𝓕 → {n : ℕ} {x : ℕ → GF 𝓕} (row symbols : List ℕ) {w s m v : List ℕ} → w ≡ partIn 0 row → CarriesIn 𝓕 n x symbols → s ≡ partIn 1 row
       → m ≡ productOf 𝓕 symbols s → v ≡ sumOf 𝓕 w m → (p : ℕ) → p < n → elementAt 𝓕 v p ≡ valueAt 0 row p ⊕ x p ⊗ valueAt 1 row p
   split-by t row symbols {w} {s} {m} {v} ew carried es em ev p l =
       ap (λ a. elementAt 𝓕 a p) ev ∙ sum-element 𝓕 w m p
@@ -136,7 +136,7 @@ module _ (𝓕 : Gf) where
   pub record Raised (n : ℕ) (x : ℕ → GF 𝓕) (row : List ℕ) (a : ℕ) (r : List ℕ) : Type 0 where
     pub lanes : (h p : ℕ) → h < 2 → p < n → valueAt h r p ≡ (x p ⊕ toF 𝓕 a) ⊗ valueAt h row p
 
-  pub raised-by : Tests 𝓕 → {n : ℕ} {x : ℕ → GF 𝓕} (row : List ℕ) (a : ℕ) (xs c : List ℕ) {by w s bw bs r : List ℕ} → CarriesIn 𝓕 n x xs
+  pub raised-by : ProductTests 𝓕 → {n : ℕ} {x : ℕ → GF 𝓕} (row : List ℕ) (a : ℕ) (xs c : List ℕ) {by w s bw bs r : List ℕ} → CarriesIn 𝓕 n x xs
       → CarriesIn 𝓕 n (everywhere 𝓕 (toF 𝓕 a)) c → by ≡ sumOf 𝓕 xs c → w ≡ partIn 0 row → bw ≡ productOf 𝓕 by w → s ≡ partIn 1 row
       → bs ≡ productOf 𝓕 by s → r ≡ joinedOf bw bs → Raised n x row a r
   raised-by t {n} {x} row a xs c {by} {w} {s} {bw} {bs} {r} cx ca eb ew ebw es ebs er = record { lanes = parts }

@@ -8,7 +8,7 @@ use Rattle.galois.specs.Gf16.{gf16}
 use Rattle.galois.specs.Field16.{value, value-toF}
 use Rattle.family.specs.Member.{m16, places}
 use Rattle.lanewise.specs.Rows.{split-by}
-use Rattle.planes.specs.Product.{tests-16}
+use Rattle.planes.specs.Product.{products-16}
 use Rattle.planes.specs.Arrays.{elementAt, symbolAt, symbol-lt, element-symbol, Carries, symbolsOf, sumOf, sum-is, productOf, product-is}
 use Rattle.planes.specs.Words.{wordOf}
 use Rattle.planes.specs.Rows.{wholeOf, slopeOf, whole-is, slope-is, value-slope}
@@ -30,7 +30,7 @@ first-read word row symbols {w} {s} {m} {v} {r} ew carried es em ev er =
     (λ p l.
     symbol-value v p
     ∙ ap value
-    (split-by gf16 tests-16 row symbols (ew ∙ whole-is row) carried (es ∙ slope-is row) (em ∙ product-is symbols s) (ev ∙ sum-is w m) p l)))
+    (split-by gf16 products-16 row symbols (ew ∙ whole-is row) carried (es ∙ slope-is row) (em ∙ product-is symbols s) (ev ∙ sum-is w m) p l)))
 
 pub second-read : (row : List ℕ) {s r : List ℕ} → s ≡ slopeOf row → r ≡ coefficientsOf (wordOf s) → r ≡ secondOf row
 unfolding Values.secondOf Values.secondAt valuesOf wordOf

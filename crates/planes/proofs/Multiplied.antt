@@ -10,7 +10,7 @@ use Rattle.galois.specs.Gf16.{gf16}
 use Rattle.galois.specs.Field16.{toF-zero}
 use Rattle.lanewise.specs.Multiples.{Multiple, multiple-none, multiple-own, multiple-twice, multiple-sum, factor, picked, grouped, by-nothing, added-more, added-all}
 use Rattle.lanewise.specs.Rows as Rows
-use Rattle.planes.specs.Product.{tests-16}
+use Rattle.planes.specs.Product.{products-16}
 use Rattle.planes.specs.Rows.{rowSum, row-sum-is, doubledRow, doubled-is, MultiplesOf, AddedBy}
 
 -- a row of zeros
@@ -24,13 +24,13 @@ module _ (row two three four eight twelve : List ℕ) (e2 : two ≡ doubledRow r
   multiples-by = record { each = go }
     where
       at2 : Multiple gf16 row 2 two
-      at2 = multiple-twice gf16 tests-16 (e2 ∙ doubled-is row) (multiple-own gf16)
+      at2 = multiple-twice gf16 products-16 (e2 ∙ doubled-is row) (multiple-own gf16)
 
       at4 : Multiple gf16 row 4 four
-      at4 = multiple-twice gf16 tests-16 (e4 ∙ doubled-is two) at2
+      at4 = multiple-twice gf16 products-16 (e4 ∙ doubled-is two) at2
 
       at8 : Multiple gf16 row 8 eight
-      at8 = multiple-twice gf16 tests-16 (e8 ∙ doubled-is four) at4
+      at8 = multiple-twice gf16 products-16 (e8 ∙ doubled-is four) at4
 
       go : (i : ℕ) → i < 8 → Multiple gf16 row (factor 2 i) (getD (none ∷ row ∷ two ∷ three ∷ none ∷ four ∷ eight ∷ twelve ∷ []) i [])
       go zero l = multiple-none gf16

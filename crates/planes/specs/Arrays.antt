@@ -27,7 +27,7 @@ use Rattle.lanewise.specs.Lanes.{lane}
 use Rattle.lanewise.specs.Elements as Elements
 use Rattle.lanewise.specs.Product as Lanes
 use Rattle.lanewise.specs.Arrays as Arrays
-use Rattle.planes.specs.Product.{ones, twos, fours, eights, tests-16}
+use Rattle.planes.specs.Product.{ones, twos, fours, eights, products-16}
 open Field K16 using (_⊕_, _⊗_, 𝟘)
 
 abbrev pub elementAt : List ℕ → ℕ → GF
@@ -87,7 +87,7 @@ module _ (a b : List ℕ) where
   product-is = refl
 
   pub product-element : (p : ℕ) → elementAt productOf p ≡ elementAt a p ⊗ elementAt b p
-  product-element p = ap (λ v. elementAt v p) product-is ∙ Arrays.product-element gf16 a b tests-16 p
+  product-element p = ap (λ v. elementAt v p) product-is ∙ Arrays.product-element gf16 a b products-16 p
 
 -- all bits of a plane
 abbrev pub allOnes : ℕ

@@ -54,9 +54,8 @@ module _ {A : Type 0} (d : A) (c : ℕ) where
           left = λ b r l h. others b r (λ (e : b ≡ g). absurd (omega arith)) h ∙ B .left b r (omega arith) h;
         }
 
-module _ (𝓜 : Member) (n blocks : ℕ) (some-lanes : 0 < n) (layout : blocks * n ≡ places 𝓜) where
+module _ (𝓜 : Member) (n : ℕ) where
   open Member 𝓜 using (gf)
-  open Field (K gf) using (_⊕_, _⊗_)
 
   unfoldable pub blockValues : List (List ℕ) → ℕ → Values 𝓜
   blockValues rows r h p = valueAt gf h (cellsOf [] (classes 𝓜) rows (p / n) r) (p % n)
@@ -65,6 +64,11 @@ module _ (𝓜 : Member) (n blocks : ℕ) (some-lanes : 0 < n) (layout : blocks 
   abbrev pub blockX : ℕ → ℕ → GF gf
   blockX g l = px 𝓜 (g * n + l)
 
+-- n lanes in each of the blocks are all places
+module _ (𝓜 : Member) (n blocks : ℕ) (some-lanes : 0 < n) (layout : blocks * n ≡ places 𝓜) where
+  open Member 𝓜 using (gf)
+  open Field (K gf) using (_⊕_, _⊗_)
+
   block-within : (p : ℕ) → p < places 𝓜 → p / n < blocks
   block-within p l = div-lt-iff-lt-mul some-lanes .1 (subst (λ k. p < k) (sym layout) l)
 
@@ -72,21 +76,21 @@ module _ (𝓜 : Member) (n blocks : ℕ) (some-lanes : 0 < n) (layout : blocks 
   lane-within p = mod-lt p some-lanes
 
   pub blocks-next : (at a : ℕ) (ds : List ℕ) (rows out : List (List ℕ))
-      → ((g : ℕ) → g < blocks → NextCells gf (classes 𝓜) n (blockX g) at a ds (cellsOf [] (classes 𝓜) rows g) (cellsOf [] (classes 𝓜) out g))
-      → NextRows 𝓜 at a ds (blockValues rows) (blockValues out)
+      → ((g : ℕ) → g < blocks → NextCells gf (classes 𝓜) n (blockX 𝓜 n g) at a ds (cellsOf [] (classes 𝓜) rows g) (cellsOf [] (classes 𝓜) out g))
+      → NextRows 𝓜 at a ds (blockValues 𝓜 n rows) (blockValues 𝓜 n out)
   unfolding blockValues
   blocks-next at a ds rows out N =
       record {
         pivot = λ h p k l.
             N (p / n) (block-within p l) .pivot .lanes h (p % n) k (lane-within p)
-            ∙ ap (λ q. (px 𝓜 q ⊕ toF gf a) ⊗ blockValues rows at h p) (div-add-mod' p n);
+            ∙ ap (λ q. (px 𝓜 q ⊕ toF gf a) ⊗ blockValues 𝓜 n rows at h p) (div-add-mod' p n);
         other = λ r m e h p k l. N (p / n) (block-within p l) .other r m e .lanes h (p % n) k;
       }
 
   pub blocks-moved : (p c : ℕ) (rows out : List (List ℕ)) → p < places 𝓜
       → ((r : ℕ) → r < classes 𝓜 → Moved gf n (cellsOf [] (classes 𝓜) rows (p / n) r) (p % n) c (cellsOf [] (classes 𝓜) out (p / n) r))
       → ((g r : ℕ) → g ≢ p / n → r < classes 𝓜 → cellsOf [] (classes 𝓜) out g r ≡ cellsOf [] (classes 𝓜) rows g r)
-      → MovedRows 𝓜 p c (blockValues rows) (blockValues out)
+      → MovedRows 𝓜 p c (blockValues 𝓜 n rows) (blockValues 𝓜 n out)
   unfolding blockValues
   blocks-moved p c rows out inside M others =
       record {
@@ -95,17 +99,17 @@ module _ (𝓜 : Member) (n blocks : ℕ) (some-lanes : 0 < n) (layout : blocks 
         elsewhere = λ r q h l m. whole r q h m (ℕ-discrete (q / n) (p / n));
       }
     where
-      same : (r q h : ℕ) → r < classes 𝓜 → q / n ≢ p / n → blockValues out r h q ≡ blockValues rows r h q
+      same : (r q h : ℕ) → r < classes 𝓜 → q / n ≢ p / n → blockValues 𝓜 n out r h q ≡ blockValues 𝓜 n rows r h q
       same r q h l m = ap (λ (cell : List ℕ). valueAt gf h cell (q % n)) (others (q / n) r m l)
 
-      slope : (r q : ℕ) → r < classes 𝓜 → Dec (q / n ≡ p / n) → blockValues out r 1 q ≡ blockValues rows r 1 q
+      slope : (r q : ℕ) → r < classes 𝓜 → Dec (q / n ≡ p / n) → blockValues 𝓜 n out r 1 q ≡ blockValues 𝓜 n rows r 1 q
       slope r q h (yes e) =
           subst (λ g. valueAt gf 1 (cellsOf [] (classes 𝓜) out g r) (q % n) ≡ valueAt gf 1 (cellsOf [] (classes 𝓜) rows g r) (q % n)) (sym e)
           (M r h .slopes (q % n))
       slope r q h (no m) = same r q 1 h m
 
       -- another place of the block is another lane
-      whole : (r q : ℕ) → r < classes 𝓜 → q ≢ p → Dec (q / n ≡ p / n) → blockValues out r 0 q ≡ blockValues rows r 0 q
+      whole : (r q : ℕ) → r < classes 𝓜 → q ≢ p → Dec (q / n ≡ p / n) → blockValues 𝓜 n out r 0 q ≡ blockValues 𝓜 n rows r 0 q
       whole r q h m (yes e) =
           subst (λ g. valueAt gf 0 (cellsOf [] (classes 𝓜) out g r) (q % n) ≡ valueAt gf 0 (cellsOf [] (classes 𝓜) rows g r) (q % n)) (sym e)
           (M r h .elsewhere (q % n) (lane-within q)
@@ -116,10 +120,10 @@ module _ (𝓜 : Member) (n blocks : ℕ) (some-lanes : 0 < n) (layout : blocks 
       → ((g r l : ℕ) → g < blocks → r < classes 𝓜 → l < n
       → FirstTerm 𝓜 M r (g * n + l) (toF gf (getD word (g * n + l) 0)) (valueAt gf 0 (cellsOf [] (classes 𝓜) rows g r) l)
       (valueAt gf 1 (cellsOf [] (classes 𝓜) rows g r) l))
-      → StartRows 𝓜 M word (blockValues rows)
+      → StartRows 𝓜 M word (blockValues 𝓜 n rows)
   unfolding blockValues
   blocks-started M word rows F =
       rows-started 𝓜 M word
       (λ r p h l.
-      subst (λ q. FirstTerm 𝓜 M r q (toF gf (getD word q 0)) (blockValues rows r 0 p) (blockValues rows r 1 p)) (div-add-mod' p n)
+      subst (λ q. FirstTerm 𝓜 M r q (toF gf (getD word q 0)) (blockValues 𝓜 n rows r 0 p) (blockValues 𝓜 n rows r 1 p)) (div-add-mod' p n)
       (F (p / n) r (p % n) (block-within p l) h (lane-within p)))

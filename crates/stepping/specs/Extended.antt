@@ -31,12 +31,12 @@ use Rattle.values.specs.Step.{Stepped, same, raised-at, moved-stored}
 use Rattle.values.specs.Settled.{settled}
 use Rattle.values.specs.Settling.{stepped-more, passes-taken, passes-not, settle-start}
 use Rattle.stepping.specs.Choice.{leadAt, Nonzero, Chosen, none, one}
-use Rattle.stepping.specs.Step.{classes, Discrepancies, NextRows, MovedRows}
+use Rattle.stepping.specs.Step.{classes, DiscrepanciesAt, NextRows, MovedRows}
 use Rattle.stepping.specs.Extending.{Stored, ExtendsOwn, ExtendsIf, Extends}
 
 -- ---- the word's own symbol
 module _ (𝓜 : Member) (read : List (List ℕ) → ℕ → Values 𝓜) (L : ℕ) (rows : List (List ℕ)) (leads : List ℕ) (p : ℕ) (inside : p < places 𝓜) (ds : List ℕ)
-    (known : Discrepancies 𝓜 L leads (read rows) p ds) where
+    (known : DiscrepanciesAt 𝓜 L leads (read rows) p ds) where
   open Member 𝓜 using (gf, w)
   open Field (K gf) using (_⊕_, _⊗_, 𝟘)
 

@@ -3,7 +3,7 @@
 --   classes                 2w: one row for each remainder of a key
 --   discrepancyOf L l s     the symbol s of a row at a place, and 0 for a spent class: l > L
 --   discrepancyAt L leads s r    that of class r, whose row has the symbol s r there
---   Discrepancies L leads rows p ds   for each class ds has a symbol: that of the row's value at p, or 0 if it is spent
+--   DiscrepanciesAt L leads rows p ds   for each class ds has a symbol: that of the row's value at p, or 0 if it is spent
 --   discrepancies-by        so they are where they are listed
 --   NextRows at a ds rows rows′   the rows after a step at class at: the pivot's is multiplied by x + a, and another is cleared, by the multiple of
 --                           the pivot's that takes its discrepancy away
@@ -54,14 +54,14 @@ module _ (𝓜 : Member) where
   abbrev pub classes : ℕ
   classes = 2 * w
 
-  pub record Discrepancies (L : ℕ) (leads : List ℕ) (rows : ℕ → Values 𝓜) (p : ℕ) (ds : List ℕ) : Type 0 where
+  pub record DiscrepanciesAt (L : ℕ) (leads : List ℕ) (rows : ℕ → Values 𝓜) (p : ℕ) (ds : List ℕ) : Type 0 where
     pub live : (r : ℕ) → r < classes → leadAt leads r ≤ L → toF gf (getD ds r 0) ≡ rows r 0 p
     pub spent : (r : ℕ) → r < classes → L < leadAt leads r → getD ds r 0 ≡ 0
     pub small : (r : ℕ) → r < classes → getD ds r 0 < symbols 𝓜
 
   pub discrepancies-by : (L : ℕ) (leads : List ℕ) {rows : ℕ → Values 𝓜} {p : ℕ} (s : ℕ → ℕ) {ds : List ℕ}
       → ((r : ℕ) → r < classes → s r < symbols 𝓜) → ((r : ℕ) → r < classes → toF gf (s r) ≡ rows r 0 p)
-      → ds ≡ listed classes (discrepancyAt L leads s) → Discrepancies L leads rows p ds
+      → ds ≡ listed classes (discrepancyAt L leads s) → DiscrepanciesAt L leads rows p ds
   unfolding discrepancyAt
   discrepancies-by L leads {rows} {p} s {ds} small is e =
       record {
