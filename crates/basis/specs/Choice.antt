@@ -1,43 +1,16 @@
--- The class at which a step is made: of least lead among those whose discrepancy is not zero, and the first of these.
+-- The class at which a step is made, of eight, by what stepping has for any number of classes.
 --
---   leadAt leads r       the lead of class r
---   Nonzero ds r         the discrepancy of class r is not zero
+--   leadAt, Nonzero, none, one, chosen-one   as they stand there
 --   Chosen n ds leads p  of the classes below n, p is the first of least lead among those of non-zero discrepancy; or p is 8 and there is none
---   chosen-one           two classes so chosen are one
 --   pivotOf ds leads best r   the class chosen so far, or class r where its discrepancy is not zero and its lead is less
-use mathlib.Core.Path.{_≡_, sym, _∙_}
+unfoldable pub use Rattle.stepping.specs.Choice.{leadAt}
+pub use Rattle.stepping.specs.Choice.{Nonzero, none, one, chosen-one}
 use mathlib.Core.List.{List}
-use mathlib.Core.Logic.{_≢_}
-use mathlib.Core.Bool.{cond}
-use Prim.Native.Nat.{ℕ, _<_}
-use native.Mathlib.Decide.{decLt}
-use native.Mathlib.Omega.{arith}
-use lib.Dec.{eqb, leb}
-use lib.ListN.{getD}
-use Rattle.lists.specs.Smallest.{Smallest}
+use Prim.Native.Nat.{ℕ}
+use Rattle.stepping.specs.Choice as Stepping
 
-unfoldable pub leadAt : List ℕ → ℕ → ℕ
-leadAt leads r = getD leads r 0
+abbrev pub Chosen : ℕ → List ℕ → List ℕ → ℕ → Type 0
+Chosen n ds leads p = Stepping.Chosen 8 n ds leads p
 
-pub record Nonzero (ds : List ℕ) (r : ℕ) : Type 0 where
-  pub nonzero : getD ds r 0 ≢ 0
-
-pub data Chosen (n : ℕ) (ds leads : List ℕ) (p : ℕ) : Type 0 where
-  none : p ≡ 8 → ((r : ℕ) → r < n → getD ds r 0 ≡ 0) → Chosen n ds leads p
-  one : Smallest n (Nonzero ds) (leadAt leads) p → ((r : ℕ) → r < p → Nonzero ds r → leadAt leads p < leadAt leads r) → Chosen n ds leads p
-
-module _ {n : ℕ} {ds leads : List ℕ} {p q : ℕ} where
-  pub chosen-one : Chosen n ds leads p → Chosen n ds leads q → p ≡ q
-  chosen-one (none e h) (none f g) = e ∙ sym f
-  chosen-one (none e h) (one t b) = absurd (t .passes .nonzero (h q (t .within)))
-  chosen-one (one s a) (none f g) = absurd (s .passes .nonzero (g p (s .within)))
-  chosen-one (one s a) (one t b) = go (decLt p q) (decLt q p)
-    where
-      go : Dec (p < q) → Dec (q < p) → p ≡ q
-      go (yes l) d = absurd (omega (arith, b p l (s .passes), s .least q (t .within) (t .passes)))
-      go (no l) (yes m) = absurd (omega (arith, a q m (t .passes), t .least p (s .within) (s .passes)))
-      go (no l) (no m) = omega arith
-
-unfoldable pub pivotOf : List ℕ → List ℕ → ℕ → ℕ → ℕ
-pivotOf ds leads best r =
-    cond (eqb (getD ds r 0) 0) best (cond (leb 8 best) r (cond (leb (leadAt leads best) (leadAt leads r)) best r))
+abbrev pub pivotOf : List ℕ → List ℕ → ℕ → ℕ → ℕ
+pivotOf ds leads best r = Stepping.pivotOf 8 ds leads best r

@@ -1,5 +1,4 @@
 pub mod Extended
 pub mod Starting
-pub mod Settling
 pub mod Shown
 pub mod LeastRow

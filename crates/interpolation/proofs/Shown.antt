@@ -1,4 +1,4 @@
--- The coefficient at a key in the two parts, the bytes of x^16 + x, and the class of least lead.
+-- The coefficient at a key in the two parts, and the bytes of x^16 + x.
 use mathlib.Core.Path.{_≡_, sym, ap, ap₂, _∙_}
 use mathlib.Core.List.{List}
 use mathlib.Core.Logic.{_≢_}
@@ -14,12 +14,10 @@ use Rattle.galois.specs.Field16.{K16, toF, value, value-toF, toF-zero, toF-one,
 use Rattle.hermitian.specs.Interpolant.{without-joined, with-joined, gap-joined}
 use Rattle.hermitian.specs.Frobenius.{frobenius}
 use Rattle.coefficients.specs.Bytes.{coef, coef-at}
-use Rattle.basis.specs.Choice.{Chosen, none, one}
 use Rattle.interpolant.specs.LeastQ.{byteKey, readingLength}
 use Rattle.interpolant.specs.Reading.{byteOf}
 use Rattle.parts.specs.Parts.{polynomialOf}
 use Rattle.parts.specs.Bytes.{key-plain, key-z}
-use Rattle.interpolation.specs.Reading.{Lowest}
 open Field K16 using (_⊕_, 𝟘, 𝟙)
 
 -- ---- the coefficient at a key
@@ -78,12 +76,3 @@ field-bytes M = sym (listed-getD (set first 4 1) 0) ∙ listed-ext readingLength
         let k : ℕ = 2 * (i - 65 + M) + 1 in
         getD-set-other first 4 i 1 0 e ∙ getD-set-other plainZeros 64 i 1 0 f ∙ getD-replicate readingLength i 0 0 h
         ∙ nothing k (λ (q : k ≡ 128). absurd (omega arith)) (λ (q : k ≡ 8). absurd (omega arith)) ∙ at-key i k (key-z M i (omega arith))
-
--- ---- every class counts
-pub lowest-is : (leads : List ℕ) (best : ℕ) → Chosen 8 (replicate 8 1) leads best → Lowest leads best
-lowest-is leads best (none e h) = absurd (omega (arith, h 0 (omega arith)))
-lowest-is leads best (one s f) =
-    record {
-      within = s .within;
-      least = λ r l. s .least r l (record { nonzero = λ z. absurd (omega (arith, getD-replicate {A = ℕ} 8 r 1 0 l, z)) });
-    }

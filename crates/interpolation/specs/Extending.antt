@@ -1,37 +1,25 @@
--- One node more: what adding a place with a symbol makes of rows and leads.
+-- One node more: what stepping says of a place that is added, at this member, with rows in planes.
 --
 --   Stored M word L ns rows leads   the rows have the values of a basis up to L of the Q through the nodes ns, with the word's symbols for z
 --   ExtendsOwn L p rows leads rows′ leads′   for every M, every word and every list of nodes: what stores a basis of the Q through some nodes, stores one
 --                     of the Q that also vanish at the place p, with the word's own symbol there
 --   ExtendsIf L p flag …   so for a place whose flag is 1; nothing changes for another
 --   Extends L p c …   so with the symbol that is c away from the word's own; the word has it from then on
-use mathlib.Core.Path.{_≡_}
-use mathlib.Core.List.{List, _∷_}
-use Prim.Native.Nat.{ℕ, _<_}
-use lib.Bits.{bitXor}
-use lib.ListN.{length, getD, set}
+use mathlib.Core.List.{List}
+use Prim.Native.Nat.{ℕ}
 use Rattle.family.specs.Member.{m16}
-use Rattle.family.specs.Nodes.{Node, node}
-use Rattle.values.specs.Holds as Values
-use Rattle.values.specs.Settling.{OneMore, Passes}
-use Rattle.basis.specs.Choice.{leadAt}
+use Rattle.family.specs.Nodes.{Node}
+use Rattle.stepping.specs.Extending as Stepping
 use Rattle.basis.specs.Step.{rowValues}
 
 abbrev pub Stored : ℕ → List ℕ → ℕ → List Node → List (List ℕ) → List ℕ → Type 0
-Stored M word L ns rows leads = Values.Stored m16 M word L ns (rowValues rows) (leadAt leads)
+Stored M word L ns rows leads = Stepping.Stored m16 rowValues M word L ns rows leads
 
-pub record ExtendsOwn (L p : ℕ) (rows : List (List ℕ)) (leads : List ℕ) (rows′ : List (List ℕ)) (leads′ : List ℕ) : Type 0 where
-  pub rows-long : length rows′ ≡ length rows
-  pub as-long : length leads′ ≡ length leads
-  pub stored : OneMore m16 L p (rowValues rows) (leadAt leads) (rowValues rows′) (leadAt leads′)
+abbrev pub ExtendsOwn : ℕ → ℕ → List (List ℕ) → List ℕ → List (List ℕ) → List ℕ → Type 0
+ExtendsOwn L p rows leads rows′ leads′ = Stepping.ExtendsOwn m16 rowValues L p rows leads rows′ leads′
 
-pub record ExtendsIf (L p flag : ℕ) (rows : List (List ℕ)) (leads : List ℕ) (rows′ : List (List ℕ)) (leads′ : List ℕ) : Type 0 where
-  pub rows-long : length rows′ ≡ length rows
-  pub as-long : length leads′ ≡ length leads
-  pub stored : Passes m16 L p (rowValues rows) (leadAt leads) (rowValues rows′) (leadAt leads′) flag
+abbrev pub ExtendsIf : ℕ → ℕ → ℕ → List (List ℕ) → List ℕ → List (List ℕ) → List ℕ → Type 0
+ExtendsIf L p flag rows leads rows′ leads′ = Stepping.ExtendsIf m16 rowValues L p flag rows leads rows′ leads′
 
-pub record Extends (L p c : ℕ) (rows : List (List ℕ)) (leads : List ℕ) (rows′ : List (List ℕ)) (leads′ : List ℕ) : Type 0 where
-  pub rows-long : length rows′ ≡ length rows
-  pub as-long : length leads′ ≡ length leads
-  pub stored : (M : ℕ) (word : List ℕ) (ns : List Node) (z : ℕ) → p < length word → c ≡ bitXor (getD word p 0) z → Stored M word L ns rows leads
-      → Stored M (set word p z) L (node p z ∷ ns) rows′ leads′
+abbrev pub Extends : ℕ → ℕ → ℕ → List (List ℕ) → List ℕ → List (List ℕ) → List ℕ → Type 0
+Extends L p c rows leads rows′ leads′ = Stepping.Extends m16 rowValues L p c rows leads rows′ leads′

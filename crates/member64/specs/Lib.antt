@@ -1,1 +1,2 @@
 pub mod Member64
+pub mod Planes64

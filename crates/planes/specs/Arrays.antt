@@ -8,54 +8,42 @@
 --   sumOf a b, sum-element           the sum in every lane
 --   productOf a b, product-element   the product in every lane
 --   spreadOf c, spread-carries       one symbol at every place
---   onlyAt q c p       the symbol c at place q, and zero at the others; only-here, only-off
+--   onlyAt q c p       the symbol c at place q, and zero at the others
 --   everywhere a       an element at every place; symbolsOf word: a word's symbols by place
-use mathlib.Core.Bool.{cond}
-use mathlib.Core.Logic.{_≢_}
-use mathlib.Core.Path.{_≡_, sym, ap, _∙_}
+unfoldable pub use Rattle.lanewise.specs.Arrays.{planesIn}
+use mathlib.Core.Path.{_≡_, refl, sym, ap, _∙_}
 use mathlib.Core.List.{List, [], _∷_}
-use Prim.Native.Nat.{ℕ, zero, suc, _+_, _-_, _*_, _/_, _%_, _^_, _<_}
+use Prim.Native.Nat.{ℕ, zero, suc, _+_, _*_, _/_, _%_, _^_, _<_}
 use native.Mathlib.Omega.{arith}
 use lib.Bits.{bitXor}
-use lib.Dec.{eqb}
 use lib.ListN.{getD}
-use borrow.Author.Tests.{eq-eqb, ne-eqb}
+use Rattle.lists.specs.Listed.{listed}
 use Rattle.algebra.specs.Field.{Field}
 use Rattle.galois.specs.Gf16.{gf16}
-use Rattle.galois.specs.Field16.{GF, K16, toF, toF-times, toF-zero}
+use Rattle.galois.specs.Field16.{GF, K16, toF}
 use Rattle.family.specs.Member.{m16, places}
-use Rattle.packing.specs.Bits.{bitAt, bitAt-at, bitAt-first, bitAt-spread, fromBits}
-use Rattle.planes.specs.Lanes.{Planes, lane, lane-zero}
-use Rattle.planes.specs.Elements as Elements
-use Rattle.planes.specs.Product as Product
-use Rattle.planes.specs.Product.{ones, twos, fours, eights, lane-product}
+use Rattle.packing.specs.Bits.{bitAt, bitAt-at, bitAt-first, fromBits}
+use Rattle.lanewise.specs.Lanes.{lane}
+use Rattle.lanewise.specs.Elements as Elements
+use Rattle.lanewise.specs.Product as Lanes
+use Rattle.lanewise.specs.Arrays as Arrays
+use Rattle.planes.specs.Product.{ones, twos, fours, eights, products-16}
 open Field K16 using (_⊕_, _⊗_, 𝟘)
 
-unfoldable pub planesIn : List ℕ → Planes
-planesIn a b = getD a b 0
-
 abbrev pub elementAt : List ℕ → ℕ → GF
-elementAt a p = Elements.element gf16 (planesIn a) p
+elementAt a p = Arrays.elementAt gf16 a p
 
 abbrev pub Carries : (ℕ → GF) → List ℕ → Type 0
-Carries v a = Elements.Carries gf16 (places m16) v (planesIn a)
+Carries v a = Arrays.CarriesIn gf16 (places m16) v a
 
 abbrev pub everywhere : GF → ℕ → GF
-everywhere a p = a
+everywhere a p = Arrays.everywhere gf16 a p
 
-unfoldable pub onlyAt : ℕ → ℕ → ℕ → GF
-onlyAt q c p = toF (cond (eqb p q) c 0)
-
-pub only-here : (q c p : ℕ) → p ≡ q → onlyAt q c p ≡ toF c
-unfolding onlyAt
-only-here q c p e = ap (λ b. toF (cond b c 0)) (eq-eqb p q e)
-
-pub only-off : (q c p : ℕ) → p ≢ q → onlyAt q c p ≡ 𝟘
-unfolding onlyAt
-only-off q c p n = ap (λ b. toF (cond b c 0)) (ne-eqb p q n) ∙ toF-zero
+abbrev pub onlyAt : ℕ → ℕ → ℕ → GF
+onlyAt q c p = Arrays.onlyAt gf16 q c p
 
 abbrev pub symbolsOf : List ℕ → ℕ → GF
-symbolsOf word p = toF (getD word p 0)
+symbolsOf word p = Arrays.symbolsOf gf16 word p
 
 -- ---- one lane
 abbrev pub symbolAt : List ℕ → ℕ → ℕ
@@ -73,7 +61,7 @@ element-symbol a p = Elements.element-lane gf16 (planesIn a) p ∙ ap toF (sym (
 
 pub none-element : (p : ℕ) → elementAt (0 ∷ 0 ∷ 0 ∷ 0 ∷ []) p ≡ 𝟘
 unfolding Elements.element lane fromBits planesIn
-none-element p = ap toF (lane-zero 4 p) ∙ toF-zero
+none-element p = Arrays.none-element gf16 p
 
 -- ---- all lanes
 abbrev entry : List ℕ → ℕ → ℕ
@@ -84,32 +72,40 @@ module _ (a b : List ℕ) where
   sumOf =
       bitXor (getD a 0 0) (getD b 0 0) ∷ bitXor (getD a 1 0) (getD b 1 0) ∷ bitXor (getD a 2 0) (getD b 2 0) ∷ bitXor (getD a 3 0) (getD b 3 0) ∷ []
 
+  pub sum-is : sumOf ≡ Arrays.sumOf gf16 a b
+  unfolding Arrays.sumOf listed planesIn
+  sum-is = refl
+
   pub sum-element : (p : ℕ) → elementAt sumOf p ≡ elementAt a p ⊕ elementAt b p
-  unfolding Elements.element lane fromBits planesIn
-  sum-element p = Elements.element-xor gf16 (planesIn a) (planesIn b) p
+  sum-element p = ap (λ v. elementAt v p) sum-is ∙ Arrays.sum-element gf16 a b p
 
   abbrev pub productOf : List ℕ
   productOf = ones (entry a) (entry b) ∷ twos (entry a) (entry b) ∷ fours (entry a) (entry b) ∷ eights (entry a) (entry b) ∷ []
 
+  pub product-is : productOf ≡ Arrays.productOf gf16 a b
+  unfolding Arrays.productOf Lanes.productOf Lanes.crossed listed planesIn
+  product-is = refl
+
   pub product-element : (p : ℕ) → elementAt productOf p ≡ elementAt a p ⊗ elementAt b p
-  unfolding Elements.element lane fromBits planesIn Product.productOf
-  product-element p = ap toF (lane-product (planesIn a) (planesIn b) p) ∙ toF-times _ _
+  product-element p = ap (λ v. elementAt v p) product-is ∙ Arrays.product-element gf16 a b products-16 p
 
 -- all bits of a plane
 abbrev pub allOnes : ℕ
-allOnes = 2 ^ places m16 - 1
+allOnes = Arrays.allOnes (places m16)
 
 -- a bit of c in every lane of each plane
 abbrev pub spreadOf : ℕ → List ℕ
 spreadOf c = c % 2 * allOnes ∷ c / 2 % 2 * allOnes ∷ c / 4 % 2 * allOnes ∷ c / 8 % 2 * allOnes ∷ []
 
-pub spread-carries : (c : ℕ) → Carries (everywhere (toF c)) (spreadOf c)
+-- a bit of each of four planes, by the bits of c
+pub four-bits : (c : ℕ) (f : ℕ → ℕ) {one two four eight : ℕ} → one ≡ f (c % 2) → two ≡ f (c / 2 % 2) → four ≡ f (c / 4 % 2) → eight ≡ f (c / 8 % 2) → (b : ℕ) → b < 4
+    → planesIn (one ∷ two ∷ four ∷ eight ∷ []) b ≡ f (bitAt c b)
 unfolding planesIn
-spread-carries c = Elements.carries-by gf16 (places m16) (λ p. c) _ bits
-  where
-    bits : (p b : ℕ) → p < places m16 → b < gf16 .bits → bitAt (planesIn (spreadOf c) b) p ≡ bitAt c b
-    bits p zero h l = bitAt-spread (c % 2) (places m16) p (omega arith) h ∙ sym (bitAt-first c)
-    bits p (suc zero) h l = bitAt-spread (c / 2 % 2) (places m16) p (omega arith) h ∙ sym (bitAt-at c 1)
-    bits p (suc (suc zero)) h l = bitAt-spread (c / 4 % 2) (places m16) p (omega arith) h ∙ sym (bitAt-at c 2)
-    bits p (suc (suc (suc zero))) h l = bitAt-spread (c / 8 % 2) (places m16) p (omega arith) h ∙ sym (bitAt-at c 3)
-    bits p (suc (suc (suc (suc b)))) h l = absurd (omega arith)
+four-bits c f e1 e2 e4 e8 zero l = e1 ∙ ap f (sym (bitAt-first c))
+four-bits c f e1 e2 e4 e8 (suc zero) l = e2 ∙ ap f (sym (bitAt-at c 1))
+four-bits c f e1 e2 e4 e8 (suc (suc zero)) l = e4 ∙ ap f (sym (bitAt-at c 2))
+four-bits c f e1 e2 e4 e8 (suc (suc (suc zero))) l = e8 ∙ ap f (sym (bitAt-at c 3))
+four-bits c f e1 e2 e4 e8 (suc (suc (suc (suc b)))) l = absurd (omega arith)
+
+pub spread-carries : (c : ℕ) → Carries (everywhere (toF c)) (spreadOf c)
+spread-carries c = Arrays.carries-spread gf16 (places m16) c _ (four-bits c (λ x. x * allOnes) refl refl refl refl)

@@ -1,42 +1,33 @@
--- Rows of eight planes: the values of a polynomial Q0 + Q1 z at the 64 places, four planes with a symbol for z at each place, and four of Q1,
--- its slope in z.
+-- Rows of eight planes: what lanewise has for rows of two parts, at GF(16) and the 64 places.
 --
 --   valueAt h row p        the element at lane p of part h: 0 the whole, 1 the slope
 --   wholeOf row, slopeOf row, joinedOf a b    a part as an array of four planes, and a row by its parts
 --   value-whole, value-slope, whole-joined, slope-joined    their lanes
---   rowSum a b, value-sum  the sum in every lane of both parts
---   doubledRow row, value-doubled    α times a row
---   MultiplesOf row ms     ms i is a row times 0, 1, 2, 3, 0, 4, 8 and 12: two of them add to any multiple (factor-split)
+--   rowSum a b, doubledRow row    the sum in every lane of both parts, and α times a row
+--   MultiplesOf row ms     ms i is a row times 0, 1, 2, 3, 0, 4, 8 and 12: two of them add to any multiple
 --   Added row by other r   in every lane a row plus by times another; AddedBy: so for every row whose multiples are given
 --   Raised row a r         at every place x + a times a row
 --   Moved row q c r        the same slopes, and the same values but at place q, where c times the slope is added
-use mathlib.Core.Bool.{Bool}
-use mathlib.Core.Logic.{_≢_}
-use mathlib.Core.Path.{_≡_, refl, sym, ap, ap₂, _∙_}
+unfoldable pub use Rattle.lanewise.specs.Rows.{partOf}
+use mathlib.Core.Path.{_≡_, refl}
 use mathlib.Core.List.{List, [], _∷_}
-use Prim.Native.Nat.{ℕ, zero, suc, _+_, _*_, _/_, _%_, _<_}
-use native.Mathlib.Omega.{arith}
+use Prim.Native.Nat.{ℕ}
 use lib.Bits.{bitXor}
-use lib.Dec.{eqb, eqb→eq}
 use lib.ListN.{getD}
-use lib.Pow.{field}
-use Rattle.lists.specs.Every.{every, every-at}
-use Rattle.algebra.specs.Field.{Field}
+use Rattle.lists.specs.Listed.{listed}
 use Rattle.galois.specs.Gf16.{gf16}
-use Rattle.galois.specs.Field16.{GF, K16, toF, toF-add, toF-times, toF-mod}
+use Rattle.galois.specs.Field16.{GF}
 use Rattle.family.specs.Member.{m16, places, px}
 use Rattle.packing.specs.Bits.{fromBits}
-use Rattle.planes.specs.Lanes.{Planes, lane}
-use Rattle.planes.specs.Elements as Elements
-use Rattle.planes.specs.Product.{doubledOf, lane-doubled}
+use Rattle.lanewise.specs.Lanes.{lane}
+use Rattle.lanewise.specs.Elements as Elements
+use Rattle.lanewise.specs.Product.{doubledOf}
+use Rattle.lanewise.specs.Rows as Rows
+use Rattle.lanewise.specs.Multiples as Multiples
 use Rattle.planes.specs.Arrays.{planesIn, elementAt}
-open Field K16 using (_⊕_, _⊗_)
-
-unfoldable pub partOf : ℕ → List ℕ → Planes
-partOf h row b = getD row (h * 4 + b) 0
 
 abbrev pub valueAt : ℕ → List ℕ → ℕ → GF
-valueAt h row p = Elements.element gf16 (partOf h row) p
+valueAt h row p = Rows.valueAt gf16 h row p
 
 -- ---- rows and their parts
 abbrev pub wholeOf : List ℕ → List ℕ
@@ -47,6 +38,19 @@ slopeOf row = getD row 4 0 ∷ getD row 5 0 ∷ getD row 6 0 ∷ getD row 7 0 �
 
 abbrev pub joinedOf : List ℕ → List ℕ → List ℕ
 joinedOf a b = getD a 0 0 ∷ getD a 1 0 ∷ getD a 2 0 ∷ getD a 3 0 ∷ getD b 0 0 ∷ getD b 1 0 ∷ getD b 2 0 ∷ getD b 3 0 ∷ []
+
+-- they are those of lanewise
+pub whole-is : (row : List ℕ) → wholeOf row ≡ Rows.partIn gf16 0 row
+unfolding Rows.partIn partOf listed
+whole-is row = refl
+
+pub slope-is : (row : List ℕ) → slopeOf row ≡ Rows.partIn gf16 1 row
+unfolding Rows.partIn partOf listed
+slope-is row = refl
+
+pub joined-is : (a b : List ℕ) → joinedOf a b ≡ Rows.joinedOf gf16 a b
+unfolding Rows.joinedOf planesIn listed
+joined-is a b = refl
 
 pub value-whole : (row : List ℕ) (p : ℕ) → elementAt (wholeOf row) p ≡ valueAt 0 row p
 unfolding Elements.element lane fromBits planesIn partOf
@@ -71,11 +75,9 @@ module _ (a b : List ℕ) where
       bitXor (getD a 0 0) (getD b 0 0) ∷ bitXor (getD a 1 0) (getD b 1 0) ∷ bitXor (getD a 2 0) (getD b 2 0) ∷ bitXor (getD a 3 0) (getD b 3 0)
       ∷ bitXor (getD a 4 0) (getD b 4 0) ∷ bitXor (getD a 5 0) (getD b 5 0) ∷ bitXor (getD a 6 0) (getD b 6 0) ∷ bitXor (getD a 7 0) (getD b 7 0) ∷ []
 
-  pub value-sum : (h p : ℕ) → h < 2 → valueAt h rowSum p ≡ valueAt h a p ⊕ valueAt h b p
-  unfolding Elements.element lane fromBits partOf
-  value-sum zero p l = Elements.element-xor gf16 (partOf 0 a) (partOf 0 b) p
-  value-sum (suc zero) p l = Elements.element-xor gf16 (partOf 1 a) (partOf 1 b) p
-  value-sum (suc (suc h)) p l = absurd (omega arith)
+  pub row-sum-is : rowSum ≡ Rows.rowSumOf gf16 a b
+  unfolding Rows.rowSumOf partOf listed
+  row-sum-is = refl
 
 module _ (row : List ℕ) where
   abbrev pub doubledRow : List ℕ
@@ -83,44 +85,22 @@ module _ (row : List ℕ) where
       getD row 3 0 ∷ bitXor (getD row 0 0) (getD row 3 0) ∷ getD row 1 0 ∷ getD row 2 0
       ∷ getD row 7 0 ∷ bitXor (getD row 4 0) (getD row 7 0) ∷ getD row 5 0 ∷ getD row 6 0 ∷ []
 
-  pub value-doubled : (h p : ℕ) → h < 2 → valueAt h doubledRow p ≡ toF 2 ⊗ valueAt h row p
-  unfolding Elements.element lane fromBits partOf doubledOf
-  value-doubled zero p l = ap toF (lane-doubled (partOf 0 row) p) ∙ toF-times 2 _
-  value-doubled (suc zero) p l = ap toF (lane-doubled (partOf 1 row) p) ∙ toF-times 2 _
-  value-doubled (suc (suc h)) p l = absurd (omega arith)
+  pub doubled-is : doubledRow ≡ Rows.doubledRow gf16 row
+  unfolding Rows.doubledRow doubledOf partOf listed
+  doubled-is = refl
 
--- ---- multiples: two of eight add to any
-unfoldable pub factor : ℕ → ℕ
-factor i = getD (0 ∷ 1 ∷ 2 ∷ 3 ∷ 0 ∷ 4 ∷ 8 ∷ 12 ∷ []) i 0
+-- ---- multiples: two groups of two bits
+abbrev pub MultiplesOf : List ℕ → List (List ℕ) → Type 0
+MultiplesOf row ms = Multiples.MultiplesOf gf16 2 2 row ms
 
-pub record MultiplesOf (row : List ℕ) (ms : List (List ℕ)) : Type 0 where
-  pub times : (i h p : ℕ) → i < 8 → h < 2 → valueAt h (getD ms i []) p ≡ toF (factor i) ⊗ valueAt h row p
+abbrev pub Added : List ℕ → ℕ → List ℕ → List ℕ → Type 0
+Added row by other r = Rows.Added gf16 row by other r
 
--- one for the lower and one for the higher two bits of sixteen numbers
-splits : ℕ → Bool
-splits k = eqb (bitXor (factor (k % 4)) (factor (4 + k / 4 % 4))) k
+abbrev pub AddedBy : List ℕ → ℕ → List (List ℕ) → List ℕ → Type 0
+AddedBy row by ms r = Multiples.AddedBy gf16 2 2 row by ms r
 
-pub factor-split : (by : ℕ) → toF (factor (by % 4)) ⊕ toF (factor (4 + by / 4 % 4)) ≡ toF by
-unfolding factor splits every
-factor-split by =
-    let low : by % 16 % 4 ≡ by % 4 = omega arith in
-    let high : by % 16 / 4 % 4 ≡ by / 4 % 4 = omega (arith, field by 2 2) in
-    sym (toF-add _ _)
-    ∙ ap₂ (λ i j. toF (bitXor (factor i) (factor (4 + j)))) (sym low) (sym high)
-    ∙ ap toF (eqb→eq _ _ (every-at 16 splits tt (by % 16) (omega arith)))
-    ∙ toF-mod by
+abbrev pub Raised : List ℕ → ℕ → List ℕ → Type 0
+Raised row a r = Rows.Raised gf16 (places m16) (px m16) row a r
 
-pub record Added (row : List ℕ) (by : ℕ) (other r : List ℕ) : Type 0 where
-  pub lanes : (h p : ℕ) → h < 2 → valueAt h r p ≡ valueAt h row p ⊕ toF by ⊗ valueAt h other p
-
--- whatever row the multiples are of
-pub record AddedBy (row : List ℕ) (by : ℕ) (ms : List (List ℕ)) (r : List ℕ) : Type 0 where
-  pub from : (other : List ℕ) → MultiplesOf other ms → Added row by other r
-
-pub record Raised (row : List ℕ) (a : ℕ) (r : List ℕ) : Type 0 where
-  pub lanes : (h p : ℕ) → h < 2 → p < places m16 → valueAt h r p ≡ (px m16 p ⊕ toF a) ⊗ valueAt h row p
-
-pub record Moved (row : List ℕ) (q c : ℕ) (r : List ℕ) : Type 0 where
-  pub slopes : (p : ℕ) → valueAt 1 r p ≡ valueAt 1 row p
-  pub here : valueAt 0 r q ≡ valueAt 0 row q ⊕ toF c ⊗ valueAt 1 row q
-  pub elsewhere : (p : ℕ) → p < places m16 → p ≢ q → valueAt 0 r p ≡ valueAt 0 row p
+abbrev pub Moved : List ℕ → ℕ → ℕ → List ℕ → Type 0
+Moved row q c r = Rows.Moved gf16 (places m16) row q c r

@@ -14,9 +14,9 @@ use Rattle.lists.specs.Listed.{listed, listed-at}
 use Rattle.galois.specs.Gf16.{gf16}
 use Rattle.galois.specs.Field16.{toF}
 use Rattle.family.specs.Member.{m16, places}
-use Rattle.packing.specs.Bits.{bitAt, bitAt-lt, fromBits, bitAt-fromBits}
+use Rattle.packing.specs.Bits.{fromBits}
 use Rattle.packing.specs.Sixteens.{bitsOf}
-use Rattle.planes.specs.Elements as Elements
+use Rattle.lanewise.specs.Arrays.{carries-planes}
 use Rattle.planes.specs.Arrays.{planesIn, elementAt, Carries, symbolsOf, symbolAt, element-symbol}
 
 unfoldable pub planeOf : ℕ → List ℕ → ℕ
@@ -25,17 +25,14 @@ planeOf b word = fromBits (places m16) (bitsOf b word)
 pub planes-carry : (word : List ℕ) {one two four eight : ℕ} → one ≡ planeOf 0 word → two ≡ planeOf 1 word → four ≡ planeOf 2 word → eight ≡ planeOf 3 word
     → Carries (symbolsOf word) (one ∷ two ∷ four ∷ eight ∷ [])
 unfolding planesIn planeOf bitsOf
-planes-carry word {one} {two} {four} {eight} e1 e2 e4 e8 = Elements.carries-by gf16 (places m16) (λ p. getD word p 0) _ bits
+planes-carry word {one} {two} {four} {eight} e1 e2 e4 e8 = carries-planes gf16 (places m16) (λ p. getD word p 0) _ plane
   where
-    plane : (p b a : ℕ) → p < places m16 → a ≡ planeOf b word → bitAt a p ≡ bitAt (getD word p 0) b
-    plane p b a h e = ap (λ x. bitAt x p) e ∙ bitAt-fromBits (places m16) (bitsOf b word) (λ k. bitAt-lt (getD word k 0) b) p h
-
-    bits : (p b : ℕ) → p < places m16 → b < gf16 .bits → bitAt (planesIn (one ∷ two ∷ four ∷ eight ∷ []) b) p ≡ bitAt (getD word p 0) b
-    bits p zero h l = plane p 0 one h e1
-    bits p (suc zero) h l = plane p 1 two h e2
-    bits p (suc (suc zero)) h l = plane p 2 four h e4
-    bits p (suc (suc (suc zero))) h l = plane p 3 eight h e8
-    bits p (suc (suc (suc (suc b)))) h l = absurd (omega arith)
+    plane : (b : ℕ) → b < gf16 .bits → planesIn (one ∷ two ∷ four ∷ eight ∷ []) b ≡ planeOf b word
+    plane zero l = e1
+    plane (suc zero) l = e2
+    plane (suc (suc zero)) l = e4
+    plane (suc (suc (suc zero))) l = e8
+    plane (suc (suc (suc (suc b)))) l = absurd (omega arith)
 
 unfoldable pub wordOf : List ℕ → List ℕ
 wordOf a = listed (places m16) (symbolAt a)

@@ -5,3 +5,4 @@ pub mod Start
 pub mod Settled
 pub mod Settling
 pub mod Eliminating
+pub mod Parts

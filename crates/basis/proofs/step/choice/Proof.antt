@@ -4,7 +4,7 @@ use Prim.Native.Nat.{_≤_, _-_}
 use native.Mathlib.Omega.{arith}
 use borrow.Author.Needs.{needs}
 use Rattle.basis.specs.Choice.{Chosen}
-use Rattle.basis.proofs.Choosing.{chosen-start, better-chosen}
+use Rattle.stepping.specs.Choosing.{chosen-start, better-chosen}
 use Rattle.basis.proofs.step.choice.Statement.{statement}
 use Rattle.basis.proofs.step.choice.Tie as tie
 
@@ -15,10 +15,10 @@ abbrev μ-loop : tie.MeasureT-loop
 μ-loop ds leads best₀ r₀ best r = 8 - r
 
 loop-holds : tie.Need-loop-holds Inv-loop μ-loop
-loop-holds c = (search needs, chosen-start _ _)
+loop-holds c = (search needs, chosen-start _ _ _)
 
 loop-again : tie.Need-loop-again Inv-loop μ-loop
-loop-again c = (search needs, rw (c .better .ensures) (better-chosen _ _ _ _ (search needs) (c .before .before .loop .inv .1)))
+loop-again c = (search needs, rw (c .better .ensures) (better-chosen _ _ _ _ _ (search needs) (c .before .before .loop .inv .1)))
 
 returns : tie.Need-returns Inv-loop μ-loop
 returns c =

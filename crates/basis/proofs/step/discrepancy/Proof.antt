@@ -1,7 +1,7 @@
 -- A spent class is zero, any other the symbol at the place.
 use borrow.Author.Needs.{needs}
 use borrow.Author.Tests.{lt-ltb, le-ltb}
-use Rattle.basis.specs.Step.{discrepancyOf}
+use Rattle.stepping.specs.Step.{discrepancyOf}
 use Rattle.basis.proofs.step.discrepancy.Statement.{statement}
 use Rattle.basis.proofs.step.discrepancy.Tie as tie
 

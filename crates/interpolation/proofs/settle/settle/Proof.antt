@@ -10,8 +10,9 @@ use Rattle.hermitian.specs.Keys.{first}
 use Rattle.family.specs.Member.{m16}
 use Rattle.values.specs.Settled.{settled}
 use Rattle.values.specs.Settling.{settle-turn}
+use Rattle.stepping.specs.Extended.{listed-start}
+use Rattle.basis.specs.Step.{rowValues}
 use Rattle.interpolation.specs.Extending.{Stored}
-use Rattle.interpolation.proofs.Settling.{listed-start}
 use Rattle.interpolation.proofs.settle.settle.Statement.{statement}
 use Rattle.interpolation.proofs.settle.settle.Tie as tie
 
@@ -41,7 +42,7 @@ loop-again c =
 returns : tie.Need-returns Inv-loop μ-loop
 returns c =
     let e : c .before .loop .place ≡ 64 = omega arith in
-    let start = listed-start _ _ _ _ _ _ (c .before .before .before .before .start-leads .ensures) (c .before .before .start-rows .ensures .are) in
+    let start = listed-start m16 rowValues _ _ _ _ _ _ (c .before .before .before .before .start-leads .ensures) (c .before .before .start-rows .ensures .are) in
     rw e at (c .before .loop .inv .3 _ start)
 
 pub settle-spec : {M : Type 1} → statement M

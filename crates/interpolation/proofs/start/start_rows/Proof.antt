@@ -7,12 +7,12 @@ use lib.ListN.{length}
 use Rattle.lists.specs.Passed.{Passed, passed-start, passed-turn}
 use Rattle.basis.specs.Step.{classes}
 use Rattle.interpolation.specs.Start.{YPowers}
-use Rattle.interpolation.proofs.Starting.{FirstTerm, rows-started}
+use Rattle.interpolation.proofs.Starting.{FirstRow, rows-laid}
 use Rattle.interpolation.proofs.start.start_rows.Statement.{statement}
 use Rattle.interpolation.proofs.start.start_rows.Tie as tie
 
 abbrev Inv-loop : tie.InvT-loop
-Inv-loop rows₀ m powers symbols r₀ rows r = YPowers powers × (length rows₀ ≡ classes) × (length rows ≡ classes) × Passed [] (FirstTerm m symbols) 0 r rows₀ rows
+Inv-loop rows₀ m powers symbols r₀ rows r = YPowers powers × (length rows₀ ≡ classes) × (length rows ≡ classes) × Passed [] (FirstRow m symbols) 0 r rows₀ rows
 
 abbrev μ-loop : tie.MeasureT-loop
 μ-loop rows₀ m powers symbols r₀ rows r = classes - r
@@ -27,7 +27,7 @@ loop-again c =
     (i .0, i .1, P .as-long ∙ i .1, P)
 
 returns : tie.Need-returns Inv-loop μ-loop
-returns c = rows-started _ _ _ _ _ _ (c .loop-test .left) (c .before .before .planes .ensures) (c .before .loop .inv .3)
+returns c = rows-laid _ _ _ _ _ _ (c .loop-test .left) (c .before .before .planes .ensures) (c .before .loop .inv .3)
 
 pub start-rows-spec : {M : Type 1} → statement M
 start-rows-spec =
