@@ -22,14 +22,14 @@ use Rattle.lists.specs.Padded.{padded, padded-take, padded-zeros}
 use Rattle.lists.specs.Words.{Word, allBelow-from}
 use Rattle.code.specs.Encoding.{encodeOf, mostRate}
 use Rattle.soft.specs.Column.{symbols}
-use Rattle.totals.specs.declared.margin.Margin.{Margin}
-use Rattle.totals.specs.Margin.{marginFrom, is-from, from-is}
+use Rattle.answer.specs.declared.Margin.{Margin}
+use Rattle.answer.specs.Margin.{marginFrom, is-from, from-is}
 use Rattle.near.specs.Here.{reachIn, messageCost, answerOf, marginOf}
 use Rattle.near.specs.Laws.{answer-word}
 use Rattle.near.specs.Result.{refusedResult}
 use Rattle.near.specs.Result as Family
-use Rattle.answers.specs.declared.Answer.{Answer}
-use Rattle.answers.specs.declared.Answer.the-variants.{NoneNear, Near}
+use Rattle.answer.specs.declared.Answer.{Answer}
+use Rattle.answer.specs.declared.Answer.the-variants.{NoneNear, Near}
 use Rattle.answers.specs.declared.Finding.{Finding}
 use Rattle.answers.specs.Result.{totalIs, total-near, total-none, nothingFound, foundWith, foundFor, foundOf, found-same}
 use Rattle.answers.specs.Nearest.{Nearest, nearest-nobody, nearest-somebody, nearest-margin, nearest-none, nearest-some}

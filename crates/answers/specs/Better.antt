@@ -19,13 +19,13 @@ use Rattle.lists.specs.Every.{both}
 use Rattle.lists.specs.Words.{isBefore}
 use Rattle.lists.specs.Answers.{no-worse-same, beats, beats-yes, beats-no, better, pick}
 use Rattle.lists.specs.Margin.{lesser}
-use Rattle.totals.specs.declared.margin.Margin.{Margin}
-use Rattle.totals.specs.Margin.{marginIs, marginFrom, is-from}
+use Rattle.answer.specs.declared.Margin.{Margin}
+use Rattle.answer.specs.Margin.{marginIs, marginFrom, is-from}
 use Rattle.near.specs.Here.{reachIn, testsNear, messageCost, answerOf, marginOf}
 use Rattle.near.specs.Laws.{tests-append, answer-append}
 use Rattle.near.specs.Runner.{margin-append, margin-first, margin-second, margin-left, margin-right}
-use Rattle.answers.specs.declared.Answer.{Answer}
-use Rattle.answers.specs.declared.Answer.the-variants.{NoneNear, Near}
+use Rattle.answer.specs.declared.Answer.{Answer}
+use Rattle.answer.specs.declared.Answer.the-variants.{NoneNear, Near}
 use Rattle.answers.specs.declared.Finding.{Finding}
 use Rattle.near.specs.Result as Family
 use Rattle.answers.specs.Result.{resultFor, total-near}

@@ -11,12 +11,12 @@ use Prim.Native.Nat.{ℕ}
 use native.Mathlib.Omega.{arith}
 use lib.ListN.{take}
 use Rattle.refusals.specs.Refusal.{accepted, noneNear}
-use Rattle.totals.specs.declared.margin.Margin.{Margin}
-use Rattle.totals.specs.Margin.{marginIs}
+use Rattle.answer.specs.declared.Margin.{Margin}
+use Rattle.answer.specs.Margin.{marginIs}
 use Rattle.near.specs.Here.{reachIn, testsNear, messageCost, answerOf, marginOf}
 use Rattle.near.specs.Laws.{tests-answerless}
-use Rattle.answers.specs.declared.Answer.{Answer}
-use Rattle.answers.specs.declared.Answer.the-variants.{NoneNear, Near}
+use Rattle.answer.specs.declared.Answer.{Answer}
+use Rattle.answer.specs.declared.Answer.the-variants.{NoneNear, Near}
 use Rattle.answers.specs.declared.Finding.{Finding}
 use Rattle.near.specs.Result.{Result, refusedResult}
 use Rattle.near.specs.Result as Family

@@ -22,14 +22,14 @@ use Rattle.lists.specs.Padded.{padded}
 use Rattle.code.specs.Encoding.{encodeOf, mostRate}
 use Rattle.soft.specs.Column.{places}
 use Rattle.soft.specs.Blank.{openAt}
-use Rattle.totals.specs.declared.margin.Margin.{Margin}
-use Rattle.totals.specs.Margin.{marginIs, marginFrom}
+use Rattle.answer.specs.declared.Margin.{Margin}
+use Rattle.answer.specs.Margin.{marginIs, marginFrom}
 use Rattle.family.specs.Member.{m16}
 use Rattle.near.specs.Here.{reachIn, testsNear}
 use Rattle.near.specs.Result.{Result, refusedResult}
 use Rattle.near.specs.Result as Family
-use Rattle.answers.specs.declared.Answer.{Answer}
-use Rattle.answers.specs.declared.Answer.the-variants.{NoneNear, Near}
+use Rattle.answer.specs.declared.Answer.{Answer}
+use Rattle.answer.specs.declared.Answer.the-variants.{NoneNear, Near}
 use Rattle.answers.specs.declared.Finding.{Finding}
 
 unfoldable pub resultIn : ℕ → Answer → List ℕ → Result

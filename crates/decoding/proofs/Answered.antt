@@ -31,8 +31,8 @@ use Rattle.soft.specs.Total.{symbolAt, pinnedOf, changedOf, changedFlags, repor
 use Rattle.soft.specs.TotalLaws.{changed-flags}
 use Rattle.soft.specs.Mark.{isMarked}
 use Rattle.near.specs.Cheapest as Cheapest
-use Rattle.totals.specs.declared.margin.Margin.{Margin}
-use Rattle.totals.specs.Margin.{marginIs}
+use Rattle.answer.specs.declared.Margin.{Margin}
+use Rattle.answer.specs.Margin.{marginIs}
 use Rattle.marks.specs.Low.{Markable}
 use Rattle.code.specs.Encoding.{encodeOf, mostRate}
 use Rattle.near.specs.Here.{mOf, blankLimit, blanksIn, reachIn, testsNear, messageCost, markedOf}
@@ -44,7 +44,7 @@ use Rattle.book.specs.ClosingLaws.{decode-too-blank, decode-none, decode-some}
 use Rattle.book.specs.Table.{closed}
 use Rattle.book.specs.Here.{decodeOf}
 use Rattle.book.specs.Closing as BookClosing
-use Rattle.answers.specs.declared.Answer.the-variants.{NoneNear, Near}
+use Rattle.answer.specs.declared.Answer.the-variants.{NoneNear, Near}
 use Rattle.answers.specs.declared.Finding.{Finding}
 use Rattle.answers.specs.Result.{totalIs, total-near, nothingFound}
 use Rattle.answers.specs.Nearest.{nearest-nobody, nearest-somebody, nearest-margin}

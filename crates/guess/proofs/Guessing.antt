@@ -27,7 +27,7 @@ use Rattle.planes.specs.Lanes.{lane}
 use Rattle.planes.specs.Elements.{element}
 use Rattle.planes.specs.Arrays.{planesIn, elementAt, symbolAt, symbol-lt, element-symbol, symbolsOf, Carries, productOf, product-element}
 use Rattle.coefficients.specs.Moved.{folded, element-folded}
-use Rattle.answers.specs.declared.Answer.the-variants.{NoneNear}
+use Rattle.answer.specs.declared.Answer.the-variants.{NoneNear}
 use Rattle.answers.specs.declared.Finding.{Finding}
 use Rattle.answers.specs.Answered.{Sound, sound-none, sound-nothing}
 use Rattle.candidate.specs.declared.Candidate.{Candidate}

@@ -20,7 +20,7 @@ use Rattle.soft.specs.TotalLaws.{differing-le, differing-fewer}
 use Rattle.family.specs.Member.{m16}
 use Rattle.near.specs.Here.{mOf, reachOf}
 use Rattle.near.specs.Choices.{choices-left, choices-far, choices-some, choices-every}
-use Rattle.answers.specs.declared.Answer.{Answer}
+use Rattle.answer.specs.declared.Answer.{Answer}
 use Rattle.answers.specs.declared.Finding.{Finding}
 use Rattle.known.specs.Known.{filledOf, governsOf, closestTest, agreeingIn, WithinOf, totalFor, knownTotal}
 

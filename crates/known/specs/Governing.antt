@@ -21,8 +21,8 @@ use Rattle.soft.specs.BlankLaws.{open-count}
 use Rattle.soft.specs.Column.{places}
 use Rattle.soft.specs.Total.{totalOf, differingIn}
 use Rattle.soft.specs.TestWord.{expand}
-use Rattle.totals.specs.declared.margin.Margin.the-variants.{Absent}
-use Rattle.totals.specs.Margin.{marginIs}
+use Rattle.answer.specs.declared.Margin.the-variants.{Absent}
+use Rattle.answer.specs.Margin.{marginIs}
 use Rattle.family.specs.Member.{m16}
 use Rattle.near.specs.Here.{mOf, reachOf, reachIn, messageCost, Workable, Places}
 use Rattle.near.specs.Near as Near
@@ -30,8 +30,8 @@ use Rattle.near.specs.Runner.{margin-governed}
 use Rattle.near.specs.Within as Within
 use Rattle.near.specs.Governing.{Governed, Only, expand-outside, governed-outside, governed-only, within-tests, within-some, within-none}
 use Rattle.candidate.specs.OpenFlags.{OpenFlags, reach-flagged, differing-flagged}
-use Rattle.answers.specs.declared.Answer.{Answer}
-use Rattle.answers.specs.declared.Answer.the-variants.{NoneNear, Near}
+use Rattle.answer.specs.declared.Answer.{Answer}
+use Rattle.answer.specs.declared.Answer.the-variants.{NoneNear, Near}
 use Rattle.answers.specs.declared.Finding.{Finding}
 use Rattle.answers.specs.Result.{total-near}
 use Rattle.answers.specs.Nearest.{Nearest, nearest-some}

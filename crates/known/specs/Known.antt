@@ -21,15 +21,15 @@ use Rattle.soft.specs.Blank.{flagAt}
 use Rattle.soft.specs.Column.{places}
 use Rattle.soft.specs.Doubt.{mostDoubt}
 use Rattle.soft.specs.Total.{totalOf, differingIn}
-use Rattle.totals.specs.declared.margin.Margin.the-variants.{Absent}
+use Rattle.answer.specs.declared.Margin.the-variants.{Absent}
 use Rattle.family.specs.Member.{m16}
 use Rattle.near.specs.Here.{mOf, reachOf}
 use Rattle.near.specs.Governing as Governing
 use Rattle.near.specs.Within as Within
 use Rattle.near.specs.Written as Written
 use Rattle.near.specs.Choices as Choices
-use Rattle.answers.specs.declared.Answer.{Answer}
-use Rattle.answers.specs.declared.Answer.the-variants.{NoneNear, Near}
+use Rattle.answer.specs.declared.Answer.{Answer}
+use Rattle.answer.specs.declared.Answer.the-variants.{NoneNear, Near}
 use Rattle.answers.specs.declared.Finding.{Finding}
 use Rattle.answers.specs.Answered.{counted, answering, missedOf}
 use Rattle.known.specs.declared.Undecided.{Undecided}

@@ -19,9 +19,9 @@ use borrow.Author.Tests.{eq-eqb, ne-eqb}
 use Rattle.lists.specs.Count.{bit}
 use Rattle.soft.specs.Column.{costOf, columnOf, symbols}
 use Rattle.soft.specs.Total.{symbolAt, costIn, bytesOf, marginBytes, reportOf}
-use Rattle.totals.specs.declared.margin.Margin.{Margin}
-use Rattle.totals.specs.declared.margin.Margin.the-variants.{Absent, Of}
-use Rattle.totals.specs.Margin.{marginIs}
+use Rattle.answer.specs.declared.Margin.{Margin}
+use Rattle.answer.specs.declared.Margin.the-variants.{Absent, Of}
+use Rattle.answer.specs.Margin.{marginIs}
 use Rattle.totals.specs.Changed.{changedBy}
 
 -- what the symbol of a word costs at a place, read off a list of costs

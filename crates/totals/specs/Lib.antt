@@ -1,2 +1,1 @@
-pub mod Margin
 pub mod Changed

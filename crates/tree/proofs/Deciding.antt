@@ -7,7 +7,7 @@ use Rattle.soft.specs.Blank.{openAt}
 use Rattle.soft.specs.TestWord.{expand}
 use Rattle.near.specs.Here.{reachIn}
 use Rattle.near.specs.Decider.{node-even}
-use Rattle.answers.specs.declared.Answer.the-variants.{NoneNear}
+use Rattle.answer.specs.declared.Answer.the-variants.{NoneNear}
 use Rattle.answers.specs.declared.Finding.{Finding}
 use Rattle.answers.specs.Answered.{counted, missedOf, Sound, sound-none, nearest-missed}
 use Rattle.candidate.specs.declared.Candidate.{Candidate}

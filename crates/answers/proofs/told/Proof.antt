@@ -1,6 +1,6 @@
 -- The two cases.
 use mathlib.Core.Path.{_≡_, sym, ap, _∙_}
-use Rattle.answers.specs.declared.Answer.{Answer}
+use Rattle.answer.specs.declared.Answer.{Answer}
 use Rattle.answers.specs.declared.Finding.{Finding}
 use Rattle.answers.specs.Answered.{toldFor, toldOf}
 use borrow.Author.Needs.{needs}

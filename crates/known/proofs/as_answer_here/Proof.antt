@@ -2,8 +2,8 @@
 use mathlib.Core.Path.{refl, sym, ap, _∙_}
 use Rattle.answers.specs.Result.{found-same}
 use Rattle.answers.specs.Answered.{counted, answering}
-use Rattle.totals.specs.declared.margin.Margin.the-variants.{Absent}
-use Rattle.answers.specs.declared.Answer.the-variants.{Near}
+use Rattle.answer.specs.declared.Margin.the-variants.{Absent}
+use Rattle.answer.specs.declared.Answer.the-variants.{Near}
 use Rattle.known.specs.Governing.{below-none, below-some}
 use borrow.Author.Needs.{needs}
 use Rattle.known.proofs.as_answer_here.Statement.{statement}
