@@ -2,7 +2,7 @@
 --
 --   marginIs d        the margin of the enum: none where it is absent
 --   marginFrom o      the enum's case of a margin; is-from, from-is: the two are inverse to each other
-use mathlib.Core.Path.{_≡_, refl, sym, ap, _∙_}
+use mathlib.Core.Path.{_≡_, refl}
 use mathlib.Core.Option.{Option, none, some}
 use Prim.Native.Nat.{ℕ}
 use Rattle.answer.specs.declared.Margin.{Margin}

@@ -46,7 +46,7 @@ use Rattle.book.specs.Here.{decodeOf}
 use Rattle.book.specs.Closing as BookClosing
 use Rattle.answer.specs.declared.Answer.the-variants.{NoneNear, Near}
 use Rattle.answers.specs.declared.Finding.{Finding}
-use Rattle.answers.specs.Result.{totalIs, total-near, nothingFound}
+use Rattle.search.specs.Result.{totalIs, total-near, nothingFound}
 use Rattle.answers.specs.Nearest.{nearest-nobody, nearest-somebody, nearest-margin}
 use Rattle.chase.specs.Call.{Asked, NearestCall}
 use Rattle.family.specs.Member.{m16}

@@ -17,10 +17,9 @@ use Rattle.answer.specs.declared.Margin.the-variants.{Absent, Of}
 use Rattle.answer.specs.Margin.{marginIs, marginFrom, from-is}
 use Rattle.answer.specs.declared.Answer.{Answer}
 use Rattle.answer.specs.declared.Answer.the-variants.{NoneNear, Near}
-use Rattle.answers.specs.declared.Finding.{Finding}
-use Rattle.answers.specs.Result.{found-same}
-use Rattle.answers.specs.Answered.{counted, answering}
-use Rattle.answers.specs.Better.{isBetter, betterFor, betterOf}
+use Rattle.search.specs.Result.{Finding, found-same}
+use Rattle.search.specs.Answered.{counted, answering}
+use Rattle.search.specs.Better.{isBetter, betterFor, betterOf}
 
 -- ---- the order of messages
 
