@@ -22,8 +22,8 @@ use Rattle.soft.specs.TestWord.{bestAt, bestWord, testWords}
 use Rattle.soft.specs.TestWordLaws.{expand-nil, testWords-none, bestWord-length, bestWord-at}
 use Rattle.near.specs.Here.{answerOf, Places}
 use Rattle.near.specs.Tree.{places-nil}
-use Rattle.answers.specs.declared.Answer.{Answer}
-use Rattle.answers.specs.declared.Answer.the-variants.{NoneNear, Near}
+use Rattle.answer.specs.declared.Answer.{Answer}
+use Rattle.answer.specs.declared.Answer.the-variants.{NoneNear, Near}
 use Rattle.answers.specs.declared.Finding.{Finding}
 use Rattle.answers.specs.Result.{total-near}
 use Rattle.answers.specs.Nearest.{Nearest, nearest-nobody, nearest-somebody}

@@ -5,23 +5,17 @@ ghost use Prim.Native.Nat.{_+_, _≤_};
 ghost use lib.ListN.{take};
 ghost use Rattle.lists.specs.Margin.{lesser};
 ghost use Rattle.lists.specs.Words.{isBefore};
-ghost use Rattle.totals.specs.Margin.{marginIs};
+ghost use Rattle.answer.specs.Margin.{marginIs};
 ghost use Rattle.code.specs.Encoding.{mostRate};
 ghost use Rattle.answers.specs.Result.{nothingFound};
 ghost use Rattle.answers.specs.Answered.{missedOf, toldOf};
 ghost use Rattle.answers.specs.Better.{betterOf};
+use answer::Answer;
+use answer::Margin;
 use candidate::Message;
 use candidate::Word;
 use columns::costs::PLACES;
 use encoding::MOST_RATE;
-use totals::margin::Margin;
-
-// Document 01's answer: no codeword is near, or the total of the cheapest near one, whose message stands beside it, and its margin to the
-// cheapest of the other near ones.
-pub enum Answer {
-    NoneNear,
-    Near { total: u32, margin: Margin },
-}
 
 // The message in the first k entries, where k is the rate, and its codeword; and how many test words have a codeword within T. In a search a
 // codeword stands beside 'none near' too: one that is known, near or not.

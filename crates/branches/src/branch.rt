@@ -7,7 +7,7 @@ ghost use Rattle.soft.specs.Column.{symbols};
 ghost use Rattle.book.specs.Here.{places};
 ghost use Rattle.agreement.specs.Faded.{fadedCost, fadedCosts};
 ghost use Rattle.branches.specs.Beside.{noCodeword, branchIn, branchOf, besideOf};
-use answers::Answer;
+use answer::Answer;
 use answers::Finding;
 use columns::costs::COSTS;
 use columns::costs::PLACES;

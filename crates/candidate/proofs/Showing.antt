@@ -1,5 +1,5 @@
 -- The message that values show is one of symbols, since coefficients are.
-use mathlib.Core.Path.{_≡_, sym, ap, _∙_, subst}
+use mathlib.Core.Path.{_≡_, ap, _∙_}
 use mathlib.Core.List.{List}
 use Prim.Native.Nat.{ℕ, _<_}
 use native.Mathlib.Omega.{arith}
@@ -7,7 +7,7 @@ use lib.Dec.{T}
 use lib.ListN.{take}
 use Rattle.lists.specs.Listed.{listed, listed-at, listed-length}
 use Rattle.lists.specs.Padded.{padded}
-use Rattle.lists.specs.Words.{Word, allBelow, allBelow-from}
+use Rattle.lists.specs.Words.{allBelow, allBelow-from}
 use Rattle.planes.specs.Words.{wordOf}
 use Rattle.functions.specs.Duals as Duals
 use Rattle.functions.specs.Duals.{coefficientAt, coefficientAt-lt}
@@ -15,12 +15,10 @@ use Rattle.coefficients.specs.Reading.{coefficientsOf}
 use Rattle.code.specs.Encoding.{encodeOf, mostRate}
 use Rattle.soft.specs.Column.{places, symbols}
 use Rattle.family.specs.Member.{m16}
-use Rattle.near.specs.Codeword.{symbolsOf, messageFrom-word}
-use Rattle.near.specs.Decider.{message-in}
+use Rattle.search.specs.Candidate as Family
 use Rattle.candidate.specs.declared.Candidate.{Candidate}
-use Rattle.candidate.specs.Candidate.{symbolIn, ShownOf}
+use Rattle.candidate.specs.Candidate.{symbolIn, fieldsOf, ShownOf}
 use Rattle.candidate.specs.Ranged.{Ranged}
-use Rattle.candidate.proofs.Message.{message-front}
 
 coefficients-symbols : (v : List ℕ) → T (allBelow symbols (coefficientsOf v))
 unfolding Duals.coefficientsOf
@@ -32,11 +30,5 @@ coefficients-symbols v =
 pub shown-made : {k : ℕ} → Ranged k → (values function : List ℕ) (r : Candidate) → function ≡ coefficientsOf (wordOf values)
     → r .message ≡ padded mostRate (listed k (symbolIn function)) → r .codeword ≡ encodeOf k (take k (r .message)) → ShownOf k values r
 shown-made {k} rate values function r function-is message-is encoded =
-    let front = message-front (symbolIn function) (rate .most) message-is ∙ ap (λ g. listed k (symbolIn g)) function-is in
-    let whole = message-in m16 k (coefficientsOf (wordOf values)) (coefficients-symbols (wordOf values)) in
-    record {
-      word-of = subst (Word symbols k) (sym (front ∙ whole)) (messageFrom-word m16 k (symbolsOf m16 (coefficientsOf (wordOf values))));
-      behind = message-is ∙ ap (padded mostRate) (sym (message-front (symbolIn function) (rate .most) message-is));
-      encoded = encoded;
-      shows = front;
-    }
+    Family.shown-made m16 mostRate k (rate .most) (coefficientsOf (wordOf values)) (coefficients-symbols (wordOf values)) (fieldsOf r)
+    (message-is ∙ ap (λ g. padded mostRate (listed k (symbolIn g))) function-is) encoded

@@ -1,4 +1,3 @@
 pub mod Ranged
 pub mod Candidate
 pub mod OpenFlags
-pub mod Settled

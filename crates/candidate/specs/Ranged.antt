@@ -10,15 +10,12 @@ use mathlib.Core.Bool.{true}
 use mathlib.Core.Path.{_≡_}
 use Prim.Native.Nat.{ℕ, _≤_}
 use native.Mathlib.Omega.{arith}
-use Rattle.hermitian.specs.Orders.{orderOf-most}
-use Rattle.hermitian.specs.Repair.{limit}
-use Rattle.coefficients.specs.Bytes.{xOrder}
 use Rattle.code.specs.Encoding.{leastRate, mostRate, knownRate}
 use Rattle.code.specs.Rates.{known-bounds}
 use Rattle.near.specs.Here.{mOf, reachOf, Workable, genus-4, limitOf, workable as within}
-use Rattle.near.specs.Interpolated as Interpolated
 use Rattle.near.specs.Near as Near
 use Rattle.hermitian.specs.Present.{genus}
+use Rattle.search.specs.Room.{top-room, limit-room}
 
 pub record Ranged (k : ℕ) : Type 0 where
   pub least : leastRate ≤ k
@@ -31,13 +28,11 @@ pub workable : {k : ℕ} → Ranged k → Workable k
 workable h = within (omega arith) (omega arith)
 
 pub top-small : {k : ℕ} → Ranged k → mOf k ≤ 57
-unfolding Near.mOf genus
-top-small h = omega arith
+top-small h = omega (arith, top-room (workable h), genus-4)
 
 pub reach-small : (k b : ℕ) → reachOf k b ≤ 28
 unfolding Near.reachOf Near.blankLimit genus
 reach-small k b = omega arith
 
 pub limit-small : {k : ℕ} → Ranged k → (b : ℕ) → limitOf k b ≤ 127
-unfolding Interpolated.limitOf limit Near.reachOf Near.blankLimit genus Near.mOf
-limit-small {k} h b = omega (arith, orderOf-most xOrder (omega arith) (reachOf k b), genus-4)
+limit-small h b = omega (arith, limit-room (workable h) b)

@@ -18,16 +18,16 @@ use Rattle.soft.specs.Blank.{flagAt}
 use Rattle.soft.specs.Doubt.{mostDoubt}
 use Rattle.soft.specs.Total.{pinnedOf, changedFlags, reportOf}
 use Rattle.soft.specs.Mark.{isMarked}
-use Rattle.totals.specs.declared.margin.Margin.{Margin}
-use Rattle.totals.specs.Margin.{marginIs}
+use Rattle.answer.specs.declared.Margin.{Margin}
+use Rattle.answer.specs.Margin.{marginIs}
 use Rattle.code.specs.Encoding.{encodeOf, mostRate}
 use Rattle.near.specs.Here.{mOf, blankLimit, blanksIn}
 use Rattle.book.specs.Model.{modem64}
 use Rattle.book.specs.Table.{closed}
 use Rattle.book.specs.Here.{decodeOf}
-use Rattle.answers.specs.declared.Answer.the-variants.{NoneNear, Near}
+use Rattle.answer.specs.declared.Answer.the-variants.{NoneNear, Near}
 use Rattle.answers.specs.declared.Finding.{Finding}
-use Rattle.answers.specs.Result.{totalIs, total-near, nothingFound}
+use Rattle.search.specs.Result.{totalIs, total-near, nothingFound}
 use Rattle.answers.specs.Nearest.{nearest-nobody, nearest-somebody, nearest-margin}
 use Rattle.answering.specs.Answered.{Somebody, found-open}
 use Rattle.answering.specs.Answered as Answering

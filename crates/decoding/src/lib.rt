@@ -54,7 +54,7 @@ pub fn decode(
     let best_word = summary.best;
     let found = chase::nearest_by(rate, costs, doubtful, doubt, summary);
     let answer = found.answer;
-    let answers::Answer::Near { total, margin } = answer else {
+    let answer::Answer::Near { total, margin } = answer else {
         return unanswered(rate, counts);
     };
     let best = found.message;

@@ -38,7 +38,7 @@ use Rattle.interpolant.specs.LeastQ.{readingLength, readingOf}
 use Rattle.interpolant.specs.Reading.{byteOf, reading-least, reading-size}
 use Rattle.parts.specs.Parts.{valuesOf, firstOf, secondOf, polynomialOf, recovered}
 use Rattle.candidate.specs.Ranged.{Ranged, known-range, workable, limit-small}
-use Rattle.candidate.specs.Settled.{flagged-decided}
+use Rattle.search.specs.Settled.{flagged-decided}
 use Rattle.candidate.specs.declared.Candidate.{Candidate}
 use Rattle.candidate.specs.Candidate.{CandidateOf}
 use Rattle.elimination.specs.declared.solving.Solved.{Solved}

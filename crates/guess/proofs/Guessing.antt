@@ -1,11 +1,9 @@
 -- Sums over all places, by planes, and what they tell.
 use mathlib.Core.Bool.{Bool}
 use mathlib.Core.Path.{_≡_, refl, sym, ap, ap₂, _∙_, subst}
-use mathlib.Core.Logic.{_≢_}
 use mathlib.Core.List.{List, [], _∷_}
-use Prim.Native.Nat.{ℕ, zero, suc, _+_, _*_, _/_, _%_, _^_, _<_, _≤_}
+use Prim.Native.Nat.{ℕ, zero, suc, _+_, _*_, _/_, _%_, _^_, _<_}
 use native.Mathlib.Nat.{mod-eq-of-lt, mod-lt}
-use native.Mathlib.Decide.{ℕ-discrete}
 use native.Mathlib.Numerals.{add-one}
 use native.Mathlib.Omega.{arith}
 use lib.Bits.{bitXor}
@@ -13,30 +11,22 @@ use lib.Dec.{T, eqb, eqb→eq, lit<}
 use lib.ListN.{getD}
 use Rattle.lists.specs.Every.{every, every-at}
 use Rattle.lists.specs.XorSum.{xorSum, xorSum-suc}
-use Rattle.algebra.specs.Field.{Field, ring, div-mul, mul-comm, mul-left-comm, mul-assoc, mul-inv, mul-one, mul-zero}
+use Rattle.algebra.specs.Field.{Field, ring, mul-left-comm, mul-assoc, mul-one, mul-zero}
 use Rattle.algebra.specs.Sum.{sum, sum-ext, sum-plus, sum-scale}
-use Rattle.galois.specs.Gf16.{gf16, times, inverse}
-use Rattle.galois.specs.Field16.{GF, K16, value, toF, value-toF, value-lt, toF-value, toF-times, toF-inverse, toF-ne-zero, toF-add, toF-mod, toF-zero, toF-one, toF-injective, times-lt, xor-below}
+use Rattle.galois.specs.Gf16.{gf16, times}
+use Rattle.galois.specs.Field16.{GF, K16, value, toF, value-toF, toF-times, toF-add, toF-mod, toF-zero, toF-one, times-lt, xor-below}
 use Rattle.galois.specs.BinaryField.{toF-xorSum}
 use Rattle.galois.specs.Binary as Binary
-use Rattle.family.specs.Member.{m16, places, symbols, px, py}
-use Rattle.family.specs.Points.{x-below, yOf-below}
-use Rattle.curve.specs.Curve.{xOf, yOf}
+use Rattle.family.specs.Member.{m16, places, px, py}
+use Rattle.curve.specs.Curve.{xOf}
 use Rattle.packing.specs.Bits.{fromBits}
 use Rattle.planes.specs.Lanes.{lane}
 use Rattle.planes.specs.Elements.{element}
 use Rattle.planes.specs.Arrays.{planesIn, elementAt, symbolAt, symbol-lt, element-symbol, symbolsOf, Carries, productOf, product-element}
 use Rattle.coefficients.specs.Moved.{folded, element-folded}
-use Rattle.answers.specs.declared.Answer.the-variants.{NoneNear}
-use Rattle.answers.specs.declared.Finding.{Finding}
-use Rattle.answers.specs.Answered.{Sound, sound-none, sound-nothing}
-use Rattle.candidate.specs.declared.Candidate.{Candidate}
-use Rattle.candidate.specs.Candidate.{ShownOf}
-use Rattle.answers.specs.Result.{nothingFound}
-use Rattle.code.specs.Encoding.{mostRate}
-use Rattle.guess.specs.Guess.{overall, AloneAt, foldedOf, symbolIn, withBit, SumsOf, PlaceAt, WrongPlace, KnownFirst}
+use Rattle.guess.specs.Guess.{overall, foldedOf, symbolIn, withBit, SumsOf}
 use Rattle.guess.specs.declared.Sums.{Sums}
-open Field K16 using (_⊕_, _⊗_, 𝟘, inv)
+open Field K16 using (_⊕_, _⊗_)
 
 -- the symbol at a lane is the number of its element
 symbol-value : (a : List ℕ) (p : ℕ) → symbolAt a p ≡ value (elementAt a p)
@@ -60,40 +50,6 @@ module _ (a : List ℕ) where
       e ∙ ap (λ l. symbolAt l 0) (four e1 e2 e4 e8) ∙ symbol-value foldedList 0
       ∙ ap value (folded-element ∙ element-folded gf16 6 (planesIn a) 0
       ∙ sum-ext K16 (places m16) _ _ (λ p l. let z : 0 + p ≡ p = omega arith in ap (elementAt a) z))
-
--- ---- the place of a point
--- none of the first r of the four places with an x
-pub record Passed (x y r : ℕ) : Type 0 where
-  pub others : (q : ℕ) → q < r → yOf (x % symbols m16 * 4 + q) ≢ y
-
-pub passed-start : (x y : ℕ) → Passed x y 0
-passed-start x y = record { others = λ q h e. omega arith }
-
-module _ (x y r : ℕ) (passed : Passed x y r) where
-  pub passed-turn : yOf (x % symbols m16 * 4 + r) ≢ y → Passed x y (r + 1)
-  passed-turn n = record { others = λ q h. go q h (ℕ-discrete q r) }
-    where
-      go : (q : ℕ) → q < r + 1 → Dec (q ≡ r) → yOf (x % symbols m16 * 4 + q) ≢ y
-      go q h (yes e) = λ d. n (ap (λ k. yOf (x % symbols m16 * 4 + k)) (sym e) ∙ d)
-      go q h (no e) = passed .others q (omega arith)
-
-  pub placed-here : r < 4 → yOf (x % symbols m16 * 4 + r) ≡ y → PlaceAt x y (x % symbols m16 * 4 + r)
-  placed-here h e =
-      record {
-        within = omega arith;
-        point = λ l. (omega arith, e);
-        nowhere = λ l p hp ex ey. omega arith;
-      }
-
-  pub placed-nowhere : 4 ≤ r → PlaceAt x y (places m16)
-  placed-nowhere h =
-      record {
-        within = omega arith;
-        point = λ l. absurd (omega arith);
-        nowhere = λ l p hp ex ey.
-            let e : x % symbols m16 * 4 + p % 4 ≡ p = omega arith in
-            passed .others (p % 4) (omega arith) (ap yOf e ∙ ey);
-      }
 
 -- ---- sums of symbols
 pub bit-fits : (a n : ℕ) → n < 2 → a % 16 * n < 256
@@ -208,88 +164,12 @@ module _ (word : List ℕ) where
             ∙ ap value (sum-ext K16 (places m16) _ _ (λ p l. sym (mul-assoc K16 _ _ _)));
       }
 
--- ---- one wrong symbol
--- a sum by the change is the value at the place, and the other way round
-module _ (change : ℕ) (off : 0 < change) (low : change < 16) where
-  quotient : {scale s t : ℕ} {v : GF} → scale ≡ inverse change → s ≡ value v → t ≡ times s scale → (a : GF)
-      → (toF t ≡ a → v ≡ toF change ⊗ a) × (v ≡ toF change ⊗ a → toF t ≡ a)
-  quotient {scale} {s} {t} {v} scale-is s-is t-is a =
-      let e = toF change in
-      let m : change % 16 ≡ change = mod-eq-of-lt low in
-      let n : e ≢ 𝟘 = toF-ne-zero change (λ (z : change % 16 ≡ 0). omega arith) in
-      let q : toF t ≡ v ⊗ inv e =
-      ap toF t-is ∙ toF-times s scale ∙ ap₂ (λ y z. y ⊗ z) (ap toF s-is ∙ toF-value v) (ap toF scale-is ∙ toF-inverse change) in (
-        λ h. sym (div-mul K16 v e n) ∙ ap (λ y. y ⊗ e) (sym q ∙ h) ∙ mul-comm K16 a e,
-        λ h. q ∙ ap (λ y. y ⊗ inv e) (h ∙ mul-comm K16 e a) ∙ mul-assoc K16 a e (inv e) ∙ ap (λ y. a ⊗ y) (mul-inv K16 e n) ∙ mul-one K16 a,
-      )
-
-module _ (word : List ℕ) (told : Sums) (S : SumsOf word told) (off : 0 < told .all) (scale x : ℕ) (scale-is : scale ≡ inverse (told .all))
-    (x-is : x ≡ times (told .across) scale) where
-  abbrev change : ℕ
-  change = told .all
-
-  low : change < 16
-  low = subst (λ n. n < 16) (sym (S .of-all)) (value-lt _)
-
-  -- the place's x
-  x-found : (p : ℕ) → AloneAt m16 (symbolsOf word) (toF change) p → toF x ≡ px m16 p
-  x-found p A = quotient change off low scale-is (S .of-x) x-is (px m16 p) .1 (A .by-x)
-
-  square-found : (p : ℕ) → AloneAt m16 (symbolsOf word) (toF change) p → times change (times x x) ≡ told .squares
-  square-found p A =
-      sym (mod-eq-of-lt (times-lt change (times x x))) ∙ sym (value-toF (times change (times x x)))
-      ∙ ap value
-      (toF-times change (times x x) ∙ ap (λ a. toF change ⊗ a) (toF-times x x ∙ ap₂ (λ a b. a ⊗ b) (x-found p A) (x-found p A)) ∙ sym (A .by-square))
-      ∙ sym (S .of-square)
-
-  pub wrong-nowhere : times change (times x x) ≢ told .squares → WrongPlace word change (places m16)
-  wrong-nowhere n =
-      record {
-        within = omega arith;
-        alone = λ l. absurd (omega arith);
-        nowhere = λ l p h A. n (square-found p A);
-      }
-
-  module _ (values ys by-y : List ℕ) (sum-y y : ℕ) (passed : times change (times x x) ≡ told .squares) (values-is : Carries (symbolsOf word) values)
-      (ys-is : Carries (py m16) ys) (by-y-is : by-y ≡ productOf values ys) (sum-y-is : sum-y ≡ value (overall m16 (elementAt by-y))) (y-is : y ≡ times sum-y scale) where
-    y-sum : overall m16 (elementAt by-y) ≡ overall m16 (λ p. symbolsOf word p ⊗ py m16 p)
-    unfolding overall
-    y-sum =
-        sum-ext K16 (places m16) _ _ (λ p l.
-        ap (λ a. elementAt a p) by-y-is ∙ product-element values ys p ∙ ap₂ (λ a b. a ⊗ b) (values-is .lanes p l) (ys-is .lanes p l))
-
-    x-small : x < 16
-    x-small = subst (λ n. n < 16) (sym x-is) (times-lt (told .across) scale)
-
-    y-small : y < 16
-    y-small = subst (λ n. n < 16) (sym y-is) (times-lt sum-y scale)
-
-    pub wrong-at : {r : ℕ} → PlaceAt x y r → WrongPlace word change r
-    wrong-at {r} P =
-        record {
-          within = P .within;
-          alone = λ l.
-              let q = P .point l in
-              let here-x : toF x ≡ px m16 r = ap toF (sym (q .0 ∙ mod-eq-of-lt x-small)) in
-              let here-y : toF y ≡ py m16 r = ap toF (sym (q .1)) in
-              record {
-                total = sym (toF-value _) ∙ ap toF (sym (S .of-all));
-                by-x = quotient change off low scale-is (S .of-x) x-is (px m16 r) .0 here-x;
-                by-square =
-                    sym (toF-value _) ∙ ap toF (sym (S .of-square) ∙ sym passed) ∙ toF-times change (times x x)
-                    ∙ ap (λ a. toF change ⊗ a) (toF-times x x ∙ ap₂ (λ a b. a ⊗ b) here-x here-x);
-                by-y = sym y-sum ∙ quotient change off low scale-is sum-y-is y-is (py m16 r) .0 here-y;
-              };
-          nowhere = λ l p h A.
-              P .nowhere l p h
-              (sym (toF-injective x (xOf p) x-small (x-below m16 p h) (x-found p A)) ∙ sym (mod-eq-of-lt x-small))
-              (sym (toF-injective y (yOf p) y-small (yOf-below m16 p h) (quotient change off low scale-is sum-y-is y-is (py m16 p) .1 (y-sum ∙ A .by-y))));
-        }
-
--- ---- a codeword that is known
-pub known-shown : {k : ℕ} {values : List ℕ} {held : Candidate} → ShownOf k values held
-    → KnownFirst k (record { answer = NoneNear; message = held .message; codeword = held .codeword; tests = 0 })
-known-shown S = record { sound = λ columns. sound-none refl (S .word-of) (S .behind) (S .encoded) }
-
-pub known-nothing : {k : ℕ} {f : Finding} → k ≤ mostRate → f ≡ nothingFound → KnownFirst k f
-known-nothing {k} few e = record { sound = λ columns. subst (Sound k columns) (sym e) (sound-nothing few) }
+-- ---- the sum with y, by planes
+pub y-sum : (word values ys by-y : List ℕ) (sum-y : ℕ) → Carries (symbolsOf word) values → Carries (py m16) ys → by-y ≡ productOf values ys
+    → sum-y ≡ value (overall m16 (elementAt by-y)) → sum-y ≡ value (overall m16 (λ p. symbolsOf word p ⊗ py m16 p))
+unfolding overall
+y-sum word values ys by-y sum-y values-is ys-is by-y-is e =
+    e
+    ∙ ap value
+    (sum-ext K16 (places m16) _ _ (λ p l.
+    ap (λ a. elementAt a p) by-y-is ∙ product-element values ys p ∙ ap₂ (λ a b. a ⊗ b) (values-is .lanes p l) (ys-is .lanes p l)))

@@ -8,7 +8,7 @@ ghost use Rattle.family.specs.Member.{m16, places};
 ghost use Rattle.planes.specs.Arrays.{elementAt};
 ghost use Rattle.candidate.specs.Ranged.{Ranged};
 ghost use Rattle.guess.specs.Guess.{overall, foldedOf, symbolIn, withBit, SumsOf, PlaceAt, WrongPlace, KnownFirst};
-use answers::Answer;
+use answer::Answer;
 use answers::Finding;
 use answers::none_near;
 use candidate::Word;

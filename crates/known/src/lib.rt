@@ -12,7 +12,8 @@ ghost use Rattle.near.specs.Here.{blankLimit};
 ghost use Rattle.near.specs.Choices.{closerOf};
 ghost use Rattle.candidate.specs.Ranged.{Ranged};
 ghost use Rattle.known.specs.Known.{leftOf, Fits, filledOf, governsOf, closestTest, agreeingIn, WithinOf, knownTotal, answerHere};
-use answers::Answer;
+use answer::Answer;
+use answer::Margin;
 use answers::Finding;
 use answers::missed;
 use candidate::Word;
@@ -25,7 +26,6 @@ use columns::costs::PLACES;
 use columns::costs::SYMBOLS;
 use columns::costs::column_of;
 use doubt::MOST_DOUBT;
-use totals::margin::Margin;
 use totals::total::total;
 
 // The doubtful places that a node has still to decide: of the first `doubt` in the list the last `left`.

@@ -6,9 +6,9 @@ use Prim.Native.Nat.{ℕ, _/_, _%_, _<_}
 use lib.ListN.{getD}
 use Rattle.soft.specs.Total.{marginBytes, reportOf}
 use Rattle.weighing.specs.Report as Report
-use Rattle.totals.specs.declared.margin.Margin.{Margin}
-use Rattle.totals.specs.declared.margin.Margin.the-variants.{Absent, Of}
-use Rattle.totals.specs.Margin.{marginIs}
+use Rattle.answer.specs.declared.Margin.{Margin}
+use Rattle.answer.specs.declared.Margin.the-variants.{Absent, Of}
+use Rattle.answer.specs.Margin.{marginIs}
 
 pub absent-bytes : {margin : Margin} → margin ≡ Absent → 0 ∷ 0 ∷ 0 ∷ 0 ∷ 0 ∷ [] ≡ marginBytes (marginIs margin)
 unfolding marginIs

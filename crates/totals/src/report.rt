@@ -1,8 +1,8 @@
 // The report's fourteen bytes.
-use crate::margin::Margin;
+use answer::Margin;
 ghost use mathlib.Core.Path.{_≡_};
 ghost use Rattle.soft.specs.Total.{marginBytes, reportOf};
-ghost use Rattle.totals.specs.Margin.{marginIs};
+ghost use Rattle.answer.specs.Margin.{marginIs};
 
 pub const REPORT_BYTES: usize = 14;
 

@@ -11,7 +11,7 @@ ghost use Rattle.candidate.specs.Ranged.{Ranged};
 ghost use Rattle.candidate.specs.OpenFlags.{OpenFlags};
 ghost use Rattle.known.specs.Known.{leftOf, Fits};
 ghost use Rattle.tree.specs.Searching.{Lowest, DecidedOf, SearchOf, BranchOf};
-use answers::Answer;
+use answer::Answer;
 use answers::Finding;
 use answers::better;
 use answers::missed;

@@ -5,7 +5,7 @@ use native.Mathlib.Omega.{arith}
 use lib.ListN.{length, take, drop}
 use Rattle.code.specs.Encoding.{mostRate}
 use Rattle.lists.specs.Words.{isBefore}
-use Rattle.answers.proofs.Joining.{before-yes, before-no, before-next, before-end}
+use Rattle.search.specs.Joining.{before-yes, before-no, before-next, before-end}
 use borrow.Author.Needs.{needs}
 use Rattle.answers.proofs.before.Statement.{statement}
 use Rattle.answers.proofs.before.Tie as tie

@@ -1,5 +1,5 @@
 -- The cases of two margins.
-use Rattle.answers.proofs.Joining.{lesser-absent, lesser-alone, lesser-other, lesser-one}
+use Rattle.search.specs.Joining.{lesser-absent, lesser-alone, lesser-other, lesser-one}
 use borrow.Author.Needs.{needs}
 use Rattle.answers.proofs.lesser.Statement.{statement}
 use Rattle.answers.proofs.lesser.Tie as tie

@@ -1,6 +1,6 @@
 -- What is known, with another answer and no test words.
 use mathlib.Core.Path.{refl}
-use Rattle.answers.specs.Answered.{counted, answering, missedOf}
+use Rattle.search.specs.Answered.{counted, answering, missedOf}
 use Rattle.answers.proofs.missed.Statement.{statement}
 use Rattle.answers.proofs.missed.Tie as tie
 

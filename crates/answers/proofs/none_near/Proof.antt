@@ -1,6 +1,6 @@
 -- The arrays are zeros.
 use mathlib.Core.Path.{refl}
-use Rattle.answers.specs.Result.{nothingFound}
+use Rattle.search.specs.Result.{nothingFound}
 use Rattle.answers.proofs.none_near.Statement.{statement}
 use Rattle.answers.proofs.none_near.Tie as tie
 

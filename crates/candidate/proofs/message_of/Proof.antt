@@ -6,8 +6,9 @@ use lib.ListN.{replicate}
 use Rattle.code.specs.Encoding.{mostRate}
 use Rattle.lists.specs.Filled.{Filled, filled-start, filled-turn}
 use Rattle.candidate.specs.Candidate.{symbolIn}
-use Rattle.candidate.proofs.Message.{symbol-at, message-end}
-use Rattle.code.specs.Rates.{order-fits}
+use Rattle.family.specs.Member.{m16}
+use Rattle.search.specs.Message.{symbol-at, message-end}
+use Rattle.code.specs.Rates.{longest, order-fits}
 use borrow.Author.Needs.{needs}
 use Rattle.candidate.proofs.message_of.Statement.{statement}
 use Rattle.candidate.proofs.message_of.Tie as tie
@@ -25,7 +26,7 @@ array-read-out : tie.Need-array-read-out Inv-loop μ-loop
 array-read-out c = order-fits _ (c .order .ensures) .1
 
 loop-again : tie.Need-loop-again Inv-loop μ-loop
-loop-again c = (search needs, filled-turn 0 (c .before .before .loop .inv .1) _ (search needs) (symbol-at _ _ (search needs) (c .order .ensures)))
+loop-again c = (search needs, filled-turn 0 (c .before .before .loop .inv .1) _ (search needs) (symbol-at m16 longest _ _ (search needs) (c .order .ensures)))
 
 returns : tie.Need-returns Inv-loop μ-loop
 returns c =

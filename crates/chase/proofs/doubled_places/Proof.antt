@@ -6,7 +6,7 @@ use lib.ListN.{length, take}
 use Rattle.lists.specs.Padded.{padded, padded-length}
 use Rattle.soft.specs.Doubt.{mostDoubt}
 use Rattle.soft.specs.Blank.{flagAt, unblanked}
-use Rattle.chase.proofs.Doubling.{doubled-start, doubled-turn, doubled-end, count-start, count-turn, count-fits}
+use Rattle.search.specs.Doubling.{doubled-start, doubled-turn, doubled-end, count-start, count-turn, count-fits}
 use borrow.Author.Needs.{needs}
 use Rattle.chase.proofs.doubled_places.Statement.{statement}
 use Rattle.chase.proofs.doubled_places.Tie as tie
@@ -43,7 +43,8 @@ returns : tie.Need-returns Inv-loop μ-loop
 returns c =
     let i = c .before .loop .inv in
     let e : c .before .loop .i ≡ c .before .before .args .doubt = omega arith in
-    doubled-end (flagAt (c .before .before .args .counts)) (c .before .before .args .t1) _ e (i .4) (i .3)
+    let all = doubled-end (flagAt (c .before .before .args .counts)) (c .before .before .args .t1) mostDoubt e (i .4) (i .3) in
+    record { places = all .0; count = all .1 }
 
 pub doubled-places-spec : {M : Type 1} → statement M
 doubled-places-spec =

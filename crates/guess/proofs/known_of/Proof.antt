@@ -1,5 +1,5 @@
 -- A codeword that is shown is sound beside 'none near'.
-use Rattle.guess.proofs.Guessing.{known-shown}
+use Rattle.search.specs.Guessed.{known-shown}
 use borrow.Author.Needs.{needs}
 use Rattle.guess.proofs.known_of.Statement.{statement}
 use Rattle.guess.proofs.known_of.Tie as tie

@@ -4,13 +4,14 @@ use Prim.Native.Nat.{ℕ, _≤_, _-_, _+_, _*_, _%_, _<_}
 use native.Mathlib.Omega.{arith}
 use Rattle.curve.specs.Curve.{yOf}
 use Rattle.guess.specs.Guess.{PlaceAt}
-use Rattle.guess.proofs.Guessing.{Passed, passed-start, passed-turn, placed-here, placed-nowhere}
+use Rattle.family.specs.Member.{m16}
+use Rattle.search.specs.Alone.{Passed, passed-start, passed-turn, placed-here, placed-nowhere}
 use borrow.Author.Needs.{needs}
 use Rattle.guess.proofs.place_at.Statement.{statement}
 use Rattle.guess.proofs.place_at.Tie as tie
 
 abbrev Inv-loop : tie.InvT-loop
-Inv-loop x y first r₀ r = (first ≡ x % 16 * 4) × (r ≤ 4) × Passed x y r
+Inv-loop x y first r₀ r = (first ≡ x % 16 * 4) × (r ≤ 4) × Passed m16 x y r
 
 abbrev μ-loop : tie.MeasureT-loop
 μ-loop x y first r₀ r = 4 - r
@@ -22,21 +23,21 @@ met x r first y e h q =
     q ∙ ap yOf s
 
 loop-holds : tie.Need-loop-holds Inv-loop μ-loop
-loop-holds c = (search needs, search needs, passed-start _ _)
+loop-holds c = (search needs, search needs, passed-start m16 _ _)
 
 returns : tie.Need-returns Inv-loop μ-loop
 returns c =
     let i = c .before .before .before .loop .inv in
     subst (PlaceAt _ _) (ap (λ n. n + c .before .before .before .loop .r) (sym (i .0)))
-    (placed-here _ _ _ (i .2) (search needs) (sym (met _ _ _ _ (i .0) (search needs) (c .before .y-at .ensures)) ∙ c .if1 .taken))
+    (placed-here m16 _ _ _ (i .2) (search needs) (sym (met _ _ _ _ (i .0) (search needs) (c .before .y-at .ensures)) ∙ c .if1 .taken))
 
 loop-again : tie.Need-loop-again Inv-loop μ-loop
 loop-again c =
     let i = c .before .before .before .loop .inv in
-    (i .0, search needs, passed-turn _ _ _ (i .2) (λ e. c .if1 .left (met _ _ _ _ (i .0) (search needs) (c .before .y-at .ensures) ∙ e)))
+    (i .0, search needs, passed-turn m16 _ _ _ (i .2) (λ e. c .if1 .left (met _ _ _ _ (i .0) (search needs) (c .before .y-at .ensures) ∙ e)))
 
 returns-2 : tie.Need-returns-2 Inv-loop μ-loop
-returns-2 c = placed-nowhere _ _ _ (c .before .loop .inv .2) (search needs)
+returns-2 c = placed-nowhere m16 _ _ _ (c .before .loop .inv .2) (search needs)
 
 pub place-at-spec : {M : Type 1} → statement M
 place-at-spec =

@@ -4,7 +4,7 @@ use Prim.Native.Nat.{_+_, _-_, _*_, _/_, _^_, _≤_}
 use native.Mathlib.Omega.{arith}
 use Rattle.soft.specs.Doubt.{mostDoubt}
 use Rattle.lists.specs.Choices.{chooseOf, choicesOf, choose-zero, choices-zero, choose-turn, choices-turn}
-use Rattle.known.proofs.Counting.{choose-fits, choose-times, choices-fit}
+use Rattle.search.specs.Counting.{choose-fits, choose-times, choices-fit}
 use borrow.Author.Needs.{needs}
 use Rattle.known.proofs.choices.Statement.{statement}
 use Rattle.known.proofs.choices.Tie as tie
@@ -27,7 +27,7 @@ next c =
     let i = c .before .loop .i in
     let e = c .before .loop .inv .1 in (
       ap (λ x. x * (m - i) / (i + 1)) e ∙ choose-turn m i (omega arith),
-      subst (λ x. x * (m - i) ≤ 2 ^ mostDoubt * mostDoubt) (sym e) (choose-times m i (omega arith) (m - i) (omega arith)),
+      subst (λ x. x * (m - i) ≤ 2 ^ mostDoubt * mostDoubt) (sym e) (choose-times mostDoubt m i (omega arith) (m - i) (omega arith)),
     )
 
 mul-exactly : tie.Need-mul-exactly Inv-loop μ-loop
@@ -38,7 +38,7 @@ add-sum c =
     let m = c .before .before .args .m in
     let i = c .before .loop .i in
     let h : c .before .loop .sum + c .before .loop .exactly * (m - i) / (i + 1) ≤ 2 ^ mostDoubt + 2 ^ mostDoubt =
-    omega (arith, next c .0, c .before .loop .inv .2, choices-fit m i (omega arith), choose-fits m (i + 1) (omega arith)) in
+    omega (arith, next c .0, c .before .loop .inv .2, choices-fit mostDoubt m i (omega arith), choose-fits mostDoubt m (i + 1) (omega arith)) in
     search needs
 
 loop-again : tie.Need-loop-again Inv-loop μ-loop

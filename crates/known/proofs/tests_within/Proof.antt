@@ -5,9 +5,10 @@ use native.Mathlib.Omega.{arith}
 use lib.ListN.{length}
 use Rattle.soft.specs.Column.{places}
 use Rattle.soft.specs.Doubt.{mostDoubt}
+use Rattle.family.specs.Member.{m16}
 use Rattle.near.specs.Left.{rest-length}
 use Rattle.known.specs.Known.{leftOf}
-use Rattle.known.proofs.Counting.{counted-far, counted-every, counted-some, agreed-left}
+use Rattle.search.specs.Counting.{counted-far, counted-every, counted-some, agreed-left}
 use borrow.Author.Needs.{needs}
 use Rattle.known.proofs.tests_within.Statement.{statement}
 use Rattle.known.proofs.tests_within.Tie as tie
@@ -22,14 +23,14 @@ returns : tie.Need-returns
 returns c =
     let s = c .before .before .before .before .before in
     let l = lengths s in
-    counted-far _ _ (s .args .counts) _ _ _ _ _ (l .0) (l .1) (l .2) _ (c .before .before .before .closest .ensures) _ _ (c .before .reach .ensures) (c .before .before .distance .ensures) (c .if1 .taken)
+    counted-far m16 _ _ (s .args .counts) _ _ _ _ _ (l .0) (l .1) (l .2) _ (c .before .before .before .closest .ensures) _ _ (c .before .reach .ensures) (c .before .before .distance .ensures) (c .if1 .taken)
 
 -- no more places agree than are left
 few : (c : tie.After-agreeing) → c .agreeing .result ≤ c .before .before .before .before .before .before .args .undecided .left
 few c =
     let s = c .before .before .before .before .before .before in
     let l = lengths s in
-    agreed-left _ _ (s .args .counts) (s .args .costs .now) (s .args .codeword) (s .args .word) (leftOf (s .args .undecided)) _ (l .0) (l .1) (l .2) _ (c .before .before .before .before .closest .ensures) _ _ (c .before .before .reach .ensures)
+    agreed-left m16 _ _ (s .args .counts) (s .args .costs .now) (s .args .codeword) (s .args .word) (leftOf (s .args .undecided)) _ (l .0) (l .1) (l .2) _ (c .before .before .before .before .closest .ensures) _ _ (c .before .before .reach .ensures)
     (c .before .before .before .distance .ensures) _ (c .agreeing .ensures) (c .before .if1 .left)
 
 shl-result : tie.Need-shl-result
@@ -39,7 +40,7 @@ returns-2 : tie.Need-returns-2
 returns-2 c =
     let s = c .before .before .before .before .before .before .before in
     let l = lengths s in
-    counted-every _ _ (s .args .counts) _ _ _ _ _ (l .0) (l .1) (l .2) _ (c .before .before .before .before .before .closest .ensures) _ _ (c .before .before .before .reach .ensures)
+    counted-every m16 _ _ (s .args .counts) _ _ _ _ _ (l .0) (l .1) (l .2) _ (c .before .before .before .before .before .closest .ensures) _ _ (c .before .before .before .reach .ensures)
     (c .before .before .before .before .distance .ensures) _ (c .before .agreeing .ensures) (c .before .before .if1 .left) (c .if2 .taken) 64 (omega arith)
 
 choices-requires : tie.Need-choices-requires
@@ -52,7 +53,7 @@ returns-3 : tie.Need-returns-3
 returns-3 c =
     let s = c .before .before .before .before .before .before .before .before in
     let l = lengths s in
-    counted-some _ _ (s .args .counts) _ _ _ _ _ (l .0) (l .1) (l .2) _ (c .before .before .before .before .before .before .closest .ensures) _ _ (c .before .before .before .before .reach .ensures)
+    counted-some m16 _ _ (s .args .counts) _ _ _ _ _ (l .0) (l .1) (l .2) _ (c .before .before .before .before .before .before .closest .ensures) _ _ (c .before .before .before .before .reach .ensures)
     (c .before .before .before .before .before .distance .ensures) _ (c .before .before .agreeing .ensures) (c .before .before .before .if1 .left) _ (c .choices .ensures) 64 (omega arith)
 
 pub tests-within-spec : {M : Type 1} → statement M

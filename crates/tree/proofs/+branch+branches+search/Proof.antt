@@ -6,14 +6,16 @@ use native.Mathlib.Omega.{arith}
 use lib.ListN.{length}
 use Rattle.soft.specs.Doubt.{mostDoubt}
 use Rattle.basis.specs.Choice.{leadAt}
+use Rattle.basis.specs.Step.{rowValues}
 use Rattle.soft.specs.Column.{bestOf, secondOf}
 use Rattle.answers.specs.Answered.{Sound, sound-missed}
 use Rattle.answers.specs.Better.{sound-better}
-use Rattle.known.specs.Governing.{sound-below}
+use Rattle.search.specs.Governing.{sound-below}
 use Rattle.tree.specs.Searching.{SearchOf, BranchOf}
-use Rattle.candidate.specs.Ranged.{reach-small, limit-small}
+use Rattle.candidate.specs.Ranged.{workable, reach-small, limit-small}
 use Rattle.candidate.specs.OpenFlags.{limit-flagged}
-use Rattle.tree.proofs.Descending.{branch-known, branch-node, node-spent, node-decided, node-open, node-branch}
+use Rattle.tree.proofs.Descending.{row-at, one-more}
+use Rattle.search.specs.Descending.{branch-known, branch-node, node-spent, node-decided, node-open, node-branch}
 use Rattle.near.specs.Left.{rest-length}
 use Rattle.near.specs.Near as Near
 use Rattle.known.specs.Counts.{tests-fit}
@@ -147,7 +149,7 @@ branch-as-answer-here-requires t c κs = search needs
 branch-returns : (t : ℕ) → branch-lts.Need-returns (branch-claims t) (branch-at t) branch.Post
 branch-returns t c =
     let h = c .before .before .before .before .before .before .pre .1 in (
-      subst (BranchOf _ _ _ _ _ _ _ _ _) (sym (c .as-answer-here .ensures)) (branch-known (h .0) _ _ _ _ _ _ _ _ (branch-lengths t (c .before .before .before .before .before .before)) (h .4) _ _ _ (h .3) (c .before .before .before .before .governs .ensures) (c .before .before .before .if1 .taken) (c .before .tests-within .ensures)),
+      subst (BranchOf _ _ _ _ _ _ _ _ _) (sym (c .as-answer-here .ensures)) (branch-known rowValues leadAt (workable (h .0)) _ _ _ _ _ _ _ _ (branch-lengths t (c .before .before .before .before .before .before)) (h .4) _ _ _ (h .3) (c .before .before .before .before .governs .ensures) (c .before .before .before .if1 .taken) (c .before .tests-within .ensures)),
       subst (Sound _ _) (sym (c .as-answer-here .ensures)) (sound-below (h .3) _),
     )
 
@@ -173,7 +175,7 @@ branch-returns-2 : (t : ℕ) → branch-lts.Need-returns-2 (branch-claims t) (br
 branch-returns-2 t c =
     let s = c .before .before .before .before .before .before .before .before in
     let h = s .pre .1 in
-    (branch-node (h .0) _ _ _ _ _ _ _ _ (branch-lengths t s) _ (c .before .before .before .before .largest-key .ensures ∙ limit-flagged (h .4)) _ _ (c .before .extend .ensures) _ (c .search .ensures .0), c .search .ensures .1)
+    (branch-node rowValues leadAt (workable (h .0)) _ _ _ _ _ _ _ _ (branch-lengths t s) _ (c .before .before .before .before .largest-key .ensures ∙ limit-flagged (h .4)) _ _ (one-more _ _ _ _ _ _ _ _ _ (branch-lengths t s) (h .2) (c .before .extend .ensures)) _ (c .search .ensures .0), c .search .ensures .1)
 
 branches-lengths : (t : ℕ) (c : branches-lts.Start (branches-claims t) (branches-at t) branches.Post)
     → length (c .args .t6 .doubtful) ≡ mostDoubt
@@ -218,7 +220,7 @@ branches-better-requires t c κs =
 branches-returns : (t : ℕ) → branches-lts.Need-returns (branches-claims t) (branches-at t) branches.Post
 branches-returns t c =
     let h = c .before .before .before .before .before .before .before .before .pre .1 in (
-      subst (SearchOf _ _ _ _ _ _ _) (sym (c .better .ensures)) (node-branch _ _ _ (branches-lengths t (c .before .before .before .before .before .before .before .before)) (h .1 .0) (h .1 .1) (h .4) _ _ _ _ refl _ _
+      subst (SearchOf _ _ _ _ _ _ _) (sym (c .better .ensures)) (node-branch _ _ _ (branches-lengths t (c .before .before .before .before .before .before .before .before)) (h .1 .0) (h .1 .1) (h .4) rowValues leadAt _ _ _ _ refl _ _
           (c .before .before .before .before .best .ensures ∙ ap bestOf (c .before .before .before .before .before .column-of .ensures)) (c .before .before .before .second .ensures ∙ ap secondOf (c .before .before .before .before .before .column-of .ensures)) _ _ _ _ (c .before .before .branch .ensures .0) (c .before .branch2 .ensures .0)),
       subst (Sound _ _) (sym (c .better .ensures)) (sound-better (c .before .before .branch .ensures .1) (c .before .branch2 .ensures .1)),
     )
@@ -248,7 +250,7 @@ search-returns : (t : ℕ) → search-lts.Need-returns (search-claims t) (search
 unfolding leadAt
 search-returns t c =
     let h = c .before .before .before .before .before .pre .1 in (
-      subst (SearchOf _ _ _ _ _ _ _) (sym (c .missed .ensures)) (node-spent (h .0) _ _ _ _ (c .before .before .before .largest-key .ensures ∙ limit-flagged (h .3)) _ _ _ _ (c .before .before .least-from .ensures) _ (c .before .if1 .taken)),
+      subst (SearchOf _ _ _ _ _ _ _) (sym (c .missed .ensures)) (node-spent rowValues leadAt (workable (h .0)) _ _ _ _ (c .before .before .before .largest-key .ensures ∙ limit-flagged (h .3)) _ _ _ _ (c .before .before .least-from .ensures) _ (c .before .if1 .taken)),
       subst (Sound _ _) (sym (c .missed .ensures)) (sound-missed (h .2)),
     )
 
@@ -313,8 +315,8 @@ search-returns-2 : (t : ℕ) → search-lts.Need-returns-2 (search-claims t) (se
 unfolding leadAt
 search-returns-2 t c =
     let h = c .before .before .before .before .before .before .before .before .before .before .before .pre .1 in (
-      node-decided (h .0) _ _ _ _ (c .before .before .before .before .before .before .before .before .before .largest-key .ensures ∙ limit-flagged (h .3)) (h .3) _ (c .before .before .before .reach .ensures) _ (search-close t (c .before .before .before .before .before)) _ _ _ _ (c .before .before .before .before .before .lower .ensures .0)
-          (rest-length _ _ _ (search-lengths t (c .before .before .before .before .before .before .before .before .before .before .before)) (h .1 .0) (h .1 .1)) (c .before .before .if2 .taken) (c .decided .ensures .0),
+      node-decided rowValues leadAt (workable (h .0)) _ _ _ _ (c .before .before .before .before .before .before .before .before .before .largest-key .ensures ∙ limit-flagged (h .3)) (h .3) _ (c .before .before .before .reach .ensures) _ (search-close t (c .before .before .before .before .before)) _ _ _ _ (c .before .before .before .before .before .lower .ensures .0)
+          (rest-length _ _ _ (search-lengths t (c .before .before .before .before .before .before .before .before .before .before .before)) (h .1 .0) (h .1 .1)) (c .before .before .if2 .taken) (row-at _ _) (c .decided .ensures .0),
       c .decided .ensures .1,
     )
 
@@ -322,7 +324,7 @@ search-branches-requires : (t : ℕ) → search-lts.Need-branches-requires (sear
 unfolding leadAt
 search-branches-requires t c κs =
     let h = c .before .before .before .before .before .before .before .before .before .pre in
-    let some = node-open (h .1 .0) _ (c .before .before .before .before .before .before .before .before .before .args .t2) _ _ (c .before .before .before .before .before .before .before .largest-key .ensures ∙ limit-flagged (h .1 .3)) (h .1 .3) _ (c .before .reach .ensures) (c .before .before .before .lower .result) (search-close t (c .before .before .before)) (c .if2 .left) in
+    let some = node-open rowValues leadAt (workable (h .1 .0)) _ (c .before .before .before .before .before .before .before .before .before .args .t2) _ _ (c .before .before .before .before .before .before .before .largest-key .ensures ∙ limit-flagged (h .1 .3)) (h .1 .3) _ (c .before .reach .ensures) (c .before .before .before .lower .result) (search-close t (c .before .before .before)) (c .if2 .left) in
     (omega (arith, h .0), (h .1 .0, h .1 .1, h .1 .2, h .1 .3, some))
 
 search-returns-3 : (t : ℕ) → search-lts.Need-returns-3 (search-claims t) (search-at t) search′.Post

@@ -4,7 +4,7 @@ use Prim.Native.Nat.{_+_, _-_, _%_, _≤_}
 use native.Mathlib.Omega.{arith}
 use Rattle.basis.specs.Step.{classes}
 use Rattle.tree.specs.Searching.{Lowest}
-use Rattle.tree.proofs.Descending.{lowest-turn}
+use Rattle.search.specs.Searching.{lowest-turn}
 use borrow.Author.Needs.{needs}
 use Rattle.tree.proofs.least_from.Statement.{statement}
 use Rattle.tree.proofs.least_from.Tie as tie

@@ -1,6 +1,6 @@
 -- By the answer found.
 use mathlib.Core.Path.{_≡_, sym, ap, _∙_}
-use Rattle.answers.specs.declared.Answer.{Answer}
+use Rattle.answer.specs.declared.Answer.{Answer}
 use Rattle.answers.specs.declared.Finding.{Finding}
 use Rattle.branches.specs.Beside.{branchIn, branchBy}
 use borrow.Author.Needs.{needs}

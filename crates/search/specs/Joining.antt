@@ -12,15 +12,14 @@ use lib.Seq.{drop-cons, getD-take}
 use borrow.Author.Tests.{lt-ltb, le-ltb, eq-eqb, ne-eqb}
 use Rattle.lists.specs.Words.{isBefore}
 use Rattle.lists.specs.Margin.{lesser, lesser-none, lesser-first, lesser-second, lesser-zero}
-use Rattle.totals.specs.declared.margin.Margin.{Margin}
-use Rattle.totals.specs.declared.margin.Margin.the-variants.{Absent, Of}
-use Rattle.totals.specs.Margin.{marginIs, marginFrom, from-is}
-use Rattle.answers.specs.declared.Answer.{Answer}
-use Rattle.answers.specs.declared.Answer.the-variants.{NoneNear, Near}
-use Rattle.answers.specs.declared.Finding.{Finding}
-use Rattle.answers.specs.Result.{found-same}
-use Rattle.answers.specs.Answered.{counted, answering}
-use Rattle.answers.specs.Better.{isBetter, betterFor, betterOf}
+use Rattle.answer.specs.declared.Margin.{Margin}
+use Rattle.answer.specs.declared.Margin.the-variants.{Absent, Of}
+use Rattle.answer.specs.Margin.{marginIs, marginFrom, from-is}
+use Rattle.answer.specs.declared.Answer.{Answer}
+use Rattle.answer.specs.declared.Answer.the-variants.{NoneNear, Near}
+use Rattle.search.specs.Result.{Finding, found-same}
+use Rattle.search.specs.Answered.{counted, answering}
+use Rattle.search.specs.Better.{isBetter, betterFor, betterOf}
 
 -- ---- the order of messages
 

@@ -1,10 +1,11 @@
--- The list of the places that count, one place after the other.
+-- The list of the places that count, one place after the other, in an array with room for as many as are doubtful.
 --
 --   doubled-start, doubled-turn            the places so far in an array of w
 --   count-start, count-turn, count-fits    and how many they are
 --   doubled-end                            all of them
+--   doubled-few, doubled-take              they are no more than the doubtful ones, and are read back from the front
 use mathlib.Core.Bool.{Bool, true, false, cond}
-use mathlib.Core.Path.{_≡_, refl, sym, ap, ap₂, _∙_, subst}
+use mathlib.Core.Path.{_≡_, refl, sym, ap, ap₂, _∙_}
 use mathlib.Core.List.{List, [], _∷_, _++_}
 use Prim.Native.Nat.{ℕ, _+_, _<_, _≤_}
 use native.Mathlib.Numerals.{add-one}
@@ -12,12 +13,9 @@ use native.Mathlib.Omega.{arith}
 use lib.ListN.{length, getD, set, take, replicate, length-append, length-take}
 use lib.Seq.{take-suc}
 use Rattle.lists.specs.Count.{bit, length-if}
-use Rattle.lists.specs.Padded.{padded, padded-nil, padded-if}
+use Rattle.lists.specs.Padded.{padded, padded-nil, padded-if, padded-take}
 use Rattle.soft.specs.Blank.{unblanked}
 use Rattle.soft.specs.BlankLaws.{unblanked-nil, unblanked-snoc, unblanked-length}
-use Rattle.soft.specs.Doubt.{mostDoubt}
-use Rattle.doubt.specs.declared.Picked.{Picked}
-use Rattle.doubt.specs.Picked.{PickedOf}
 
 module _ (counts : ℕ → Bool) (doubtful : List ℕ) where
   pub doubled-start : (w : ℕ) → replicate w 0 ≡ padded w (unblanked counts (take 0 doubtful))
@@ -29,10 +27,21 @@ module _ (counts : ℕ → Bool) (doubtful : List ℕ) where
   pub count-fits : (i found : ℕ) → found ≡ length (unblanked counts (take i doubtful)) → found ≤ i
   count-fits i found e = omega (arith, unblanked-length counts (take i doubtful), length-take i doubtful)
 
-  pub doubled-end : {i doubt : ℕ} (r : Picked) → i ≡ doubt → r .places ≡ padded mostDoubt (unblanked counts (take i doubtful))
-      → r .count ≡ length (unblanked counts (take i doubtful)) → PickedOf (unblanked counts (take doubt doubtful)) r
-  doubled-end r e places-is count-is =
-      subst (λ n. PickedOf (unblanked counts (take n doubtful)) r) e (record { places = places-is; count = count-is })
+  pub doubled-end : (most : ℕ) {i doubt found : ℕ} {out : List ℕ} → i ≡ doubt → out ≡ padded most (unblanked counts (take i doubtful))
+      → found ≡ length (unblanked counts (take i doubtful))
+      → (out ≡ padded most (unblanked counts (take doubt doubtful))) × (found ≡ length (unblanked counts (take doubt doubtful)))
+  doubled-end most e out-is found-is = (
+    out-is ∙ ap (λ n. padded most (unblanked counts (take n doubtful))) e,
+    found-is ∙ ap (λ n. length (unblanked counts (take n doubtful))) e,
+  )
+
+  pub doubled-few : {most doubt found : ℕ} → doubt ≤ most → found ≡ length (unblanked counts (take doubt doubtful)) → found ≤ most
+  doubled-few {doubt = doubt} few e = omega (arith, e, count-fits doubt _ e)
+
+  pub doubled-take : {most doubt found : ℕ} {out : List ℕ} → doubt ≤ most → out ≡ padded most (unblanked counts (take doubt doubtful))
+      → found ≡ length (unblanked counts (take doubt doubtful)) → take found out ≡ unblanked counts (take doubt doubtful)
+  doubled-take {most} {doubt} few out-is found-is =
+      ap₂ take found-is out-is ∙ padded-take most (unblanked counts (take doubt doubtful)) (omega (arith, found-is, doubled-few few found-is))
 
   module _ (i : ℕ) (h : i < length doubtful) where
     abbrev x : ℕ

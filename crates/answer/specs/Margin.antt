@@ -2,11 +2,11 @@
 --
 --   marginIs d        the margin of the enum: none where it is absent
 --   marginFrom o      the enum's case of a margin; is-from, from-is: the two are inverse to each other
-use mathlib.Core.Path.{_≡_, refl, sym, ap, _∙_}
+use mathlib.Core.Path.{_≡_, refl}
 use mathlib.Core.Option.{Option, none, some}
 use Prim.Native.Nat.{ℕ}
-use Rattle.totals.specs.declared.margin.Margin.{Margin}
-use Rattle.totals.specs.declared.margin.Margin.the-variants.{Absent, Of}
+use Rattle.answer.specs.declared.Margin.{Margin}
+use Rattle.answer.specs.declared.Margin.the-variants.{Absent, Of}
 
 unfoldable pub marginIs : Margin → Option ℕ
 marginIs Absent = none

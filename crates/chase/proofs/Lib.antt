@@ -1,3 +1,0 @@
-pub mod Settling
-pub mod Asking
-pub mod Doubling
