@@ -5,7 +5,7 @@
 --   tests-few          so at most 4,096 test words have a codeword within T, and their count fits two bytes
 --   answered-none      nobody found: refused with 12 where too many places are blank, and else with 9, the buffers as they were
 --   decoded-near       somebody near: the message and the report, from the steps of the code
-use mathlib.Core.Path.{_≡_, refl, sym, ap, _∙_}
+use mathlib.Core.Path.{_≡_, refl, ap}
 use mathlib.Core.List.{List}
 use Prim.Native.Nat.{ℕ, _-_, _^_, _≤_}
 use native.Mathlib.Omega.{arith}

@@ -10,7 +10,7 @@
 --   bound-far              no round takes more, where none is left
 --   bound-chosen           the places whose keys are below the bound are those with fewer than d ahead of them,
 --   chosen-below           so they are the ones chosen
-use mathlib.Core.Bool.{Bool, true, false, cond, _&&_}
+use mathlib.Core.Bool.{Bool, cond, _&&_}
 use mathlib.Core.Path.{_≡_, sym, ap, _∙_, subst}
 use mathlib.Core.List.{List}
 use mathlib.Core.Logic.{_≢_, _⊎_, inl, inr, ⊎-elim}

@@ -2,7 +2,7 @@
 --
 --   Part places gaps few start width   at most so few entries are below the start, and at least so few below the end
 --   part-start, part-turn, part-end   before the loop, at each turn, after it
-use mathlib.Core.Bool.{Bool, true, false, cond}
+use mathlib.Core.Bool.{false, cond}
 use mathlib.Core.Path.{_≡_, sym, ap, _∙_, subst, subst₂}
 use mathlib.Core.List.{List}
 use Prim.Native.Nat.{ℕ, suc, _+_, _-_, _/_, _<_, _≤_}

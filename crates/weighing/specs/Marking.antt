@@ -1,4 +1,5 @@
--- From a function's arrays to the mark, for any number of places and two symbols at least: gaps below a threshold are those of unchanged places, and the mark by the excess.
+-- From a function's arrays to the mark, for any number of places and two symbols at least: gaps below a threshold are those of unchanged places, and
+-- the mark by the excess.
 --
 --   over-none, over-made   what a place costs over its best cost, case by case
 --   gap-changed, gap-unchanged, gaps-made   the gap at a place, and at all of them
