@@ -1,6 +1,5 @@
 -- What the search of the 512-place modem answers: the family's, with document 02's numbers. Nothing is proved here but the numbers.
 --
---   knownRate k        289 or 409 (known-rates, rates-known)
 --   scope512           what a search has to know of this modem: GF(64) with w = 8, these rates, of which 409 is the longest, and a doubt of at most 12
 --   Asked, wellFormed, nearestOf rate costs doubtful doubt   what may be asked, its test, and what the call answers, as the family has them
 --   nearest-call       what it says of the near codewords
@@ -24,30 +23,11 @@ use Rattle.search.specs.Call.{Scope, NearestCall}
 use Rattle.search.specs.Call as Family
 use Rattle.search.specs.CallLaws as Laws
 use Rattle.member64.specs.Member64.{m64}
-use Rattle.modem512.specs.Ground.{workable-512, limits-512}
-
-unfoldable pub knownRate : ℕ → Bool
-knownRate k = eqb k 289 || eqb k 409
-
-pub known-rates : (k : ℕ) → knownRate k ≡ true → (k ≡ 289) ⊎ (k ≡ 409)
-unfolding knownRate
-known-rates k e = go (eqb k 289) (eqb k 409) refl refl e
-  where
-    go : (a b : Bool) → eqb k 289 ≡ a → eqb k 409 ≡ b → (a || b) ≡ true → (k ≡ 289) ⊎ (k ≡ 409)
-    go true b p q r = inl (eqb-true k 289 p)
-    go false true p q r = inr (eqb-true k 409 q)
-    go false false p q r = absurd (false≢true r)
-
-pub rates-known : (k : ℕ) → (k ≡ 289) ⊎ (k ≡ 409) → knownRate k ≡ true
-unfolding knownRate
-rates-known k (inl h) = ap (λ n. eqb n 289 || eqb n 409) h
-rates-known k (inr h) = ap (λ n. eqb n 289 || eqb n 409) h
-
-pub known-workable : (k : ℕ) → knownRate k ≡ true → Workable m64 k
-known-workable k e = ⊎-elim (λ (h : k ≡ 289). workable-512 (omega arith) (omega arith)) (λ (h : k ≡ 409). workable-512 (omega arith) (omega arith)) (known-rates k e)
+use Rattle.modem512.specs.Ground.{limits-512}
+use Rattle.modem512.specs.Model.{knownRate, known-rates, known-workable}
 
 pub known-short : (k : ℕ) → knownRate k ≡ true → k ≤ 409
-known-short k e = ⊎-elim (λ (h : k ≡ 289). omega arith) (λ (h : k ≡ 409). omega arith) (known-rates k e)
+known-short k e = ⊎-elim (λ (h : k ≡ 289). omega arith) (λ (h : k ≡ 409). omega arith) (known-rates k .0 e)
 
 abbrev pub scope512 : Scope
 scope512 = record { member = m64; known = knownRate; workable = known-workable; longest = 409; bounded = known-short; mostDoubt = 12 }
@@ -86,7 +66,7 @@ asked-512 rate costs doubtful doubt = (there, back)
     back : InNumbers rate costs doubtful doubt → Asked rate costs doubtful doubt
     back h =
         record {
-          known = rates-known rate (⊎-elim (λ a. inl (a .0)) (λ a. inr (a .0)) (h .3));
+          known = known-rates rate .1 (⊎-elim (λ a. inl (a .0)) (λ a. inr (a .0)) (h .3));
           size = h .0;
           few = h .1;
           fit = h .2;
