@@ -223,6 +223,16 @@ module _ (change : ℕ) (off : 0 < change) (low : change < 16) where
         λ h. q ∙ ap (λ y. y ⊗ inv e) (h ∙ mul-comm K16 e a) ∙ mul-assoc K16 a e (inv e) ∙ ap (λ y. a ⊗ y) (mul-inv K16 e n) ∙ mul-one K16 a,
       )
 
+-- a sum with a square by the change is the square at the place, and the other way round
+squared : (change z : ℕ) {s : ℕ} {v a : GF} → s ≡ value v → toF z ≡ a
+    → (times change (times z z) ≡ s → v ≡ toF change ⊗ (a ⊗ a)) × (v ≡ toF change ⊗ (a ⊗ a) → times change (times z z) ≡ s)
+squared change z {s} {v} {a} s-is z-is =
+    let made : toF (times change (times z z)) ≡ toF change ⊗ (a ⊗ a) =
+    toF-times change (times z z) ∙ ap (λ b. toF change ⊗ b) (toF-times z z ∙ ap₂ (λ b c. b ⊗ c) z-is z-is) in (
+      λ h. sym (toF-value v) ∙ ap toF (sym (h ∙ s-is)) ∙ made,
+      λ h. sym (mod-eq-of-lt (times-lt change (times z z))) ∙ sym (value-toF (times change (times z z))) ∙ ap value (made ∙ sym h) ∙ sym s-is,
+    )
+
 module _ (word : List ℕ) (told : Sums) (S : SumsOf word told) (off : 0 < told .all) (scale x : ℕ) (scale-is : scale ≡ inverse (told .all))
     (x-is : x ≡ times (told .across) scale) where
   abbrev change : ℕ
@@ -235,28 +245,41 @@ module _ (word : List ℕ) (told : Sums) (S : SumsOf word told) (off : 0 < told 
   x-found : (p : ℕ) → AloneAt m16 (symbolsOf word) (toF change) p → toF x ≡ px m16 p
   x-found p A = quotient change off low scale-is (S .of-x) x-is (px m16 p) .1 (A .by-x)
 
-  square-found : (p : ℕ) → AloneAt m16 (symbolsOf word) (toF change) p → times change (times x x) ≡ told .squares
-  square-found p A =
-      sym (mod-eq-of-lt (times-lt change (times x x))) ∙ sym (value-toF (times change (times x x)))
-      ∙ ap value
-      (toF-times change (times x x) ∙ ap (λ a. toF change ⊗ a) (toF-times x x ∙ ap₂ (λ a b. a ⊗ b) (x-found p A) (x-found p A)) ∙ sym (A .by-square))
-      ∙ sym (S .of-square)
-
   pub wrong-nowhere : times change (times x x) ≢ told .squares → WrongPlace word change (places m16)
   wrong-nowhere n =
       record {
         within = omega arith;
         alone = λ l. absurd (omega arith);
-        nowhere = λ l p h A. n (square-found p A);
+        nowhere = λ l p h A. n (squared change x (S .of-square) (x-found p A) .1 (A .by-square));
       }
 
-  module _ (values ys by-y : List ℕ) (sum-y y : ℕ) (passed : times change (times x x) ≡ told .squares) (values-is : Carries (symbolsOf word) values)
-      (ys-is : Carries (py m16) ys) (by-y-is : by-y ≡ productOf values ys) (sum-y-is : sum-y ≡ value (overall m16 (elementAt by-y))) (y-is : y ≡ times sum-y scale) where
+  module _ (values ys by-y : List ℕ) (sum-y y : ℕ) (values-is : Carries (symbolsOf word) values) (ys-is : Carries (py m16) ys)
+      (by-y-is : by-y ≡ productOf values ys) (sum-y-is : sum-y ≡ value (overall m16 (elementAt by-y))) (y-is : y ≡ times sum-y scale)
+      (by-yy : List ℕ) (sum-yy : ℕ) (by-yy-is : by-yy ≡ productOf by-y ys) (sum-yy-is : sum-yy ≡ value (overall m16 (elementAt by-yy))) where
+    y-at : (p : ℕ) → p < places m16 → elementAt by-y p ≡ symbolsOf word p ⊗ py m16 p
+    y-at p l = ap (λ a. elementAt a p) by-y-is ∙ product-element values ys p ∙ ap₂ (λ a b. a ⊗ b) (values-is .lanes p l) (ys-is .lanes p l)
+
     y-sum : overall m16 (elementAt by-y) ≡ overall m16 (λ p. symbolsOf word p ⊗ py m16 p)
     unfolding overall
-    y-sum =
+    y-sum = sum-ext K16 (places m16) _ _ y-at
+
+    yy-sum : overall m16 (elementAt by-yy) ≡ overall m16 (λ p. (symbolsOf word p ⊗ py m16 p) ⊗ py m16 p)
+    unfolding overall
+    yy-sum =
         sum-ext K16 (places m16) _ _ (λ p l.
-        ap (λ a. elementAt a p) by-y-is ∙ product-element values ys p ∙ ap₂ (λ a b. a ⊗ b) (values-is .lanes p l) (ys-is .lanes p l))
+        ap (λ a. elementAt a p) by-yy-is ∙ product-element by-y ys p ∙ ap₂ (λ a b. a ⊗ b) (y-at p l) (ys-is .lanes p l))
+
+    -- the place's y
+    y-found : (p : ℕ) → AloneAt m16 (symbolsOf word) (toF change) p → toF y ≡ py m16 p
+    y-found p A = quotient change off low scale-is sum-y-is y-is (py m16 p) .1 (y-sum ∙ A .by-y)
+
+    pub wrong-beside : times change (times y y) ≢ sum-yy → WrongPlace word change (places m16)
+    wrong-beside n =
+        record {
+          within = omega arith;
+          alone = λ l. absurd (omega arith);
+          nowhere = λ l p h A. n (squared change y sum-yy-is (y-found p A) .1 (yy-sum ∙ A .by-y-square));
+        }
 
     x-small : x < 16
     x-small = subst (λ n. n < 16) (sym x-is) (times-lt (told .across) scale)
@@ -264,8 +287,8 @@ module _ (word : List ℕ) (told : Sums) (S : SumsOf word told) (off : 0 < told 
     y-small : y < 16
     y-small = subst (λ n. n < 16) (sym y-is) (times-lt sum-y scale)
 
-    pub wrong-at : {r : ℕ} → PlaceAt x y r → WrongPlace word change r
-    wrong-at {r} P =
+    pub wrong-at : times change (times x x) ≡ told .squares → times change (times y y) ≡ sum-yy → {r : ℕ} → PlaceAt x y r → WrongPlace word change r
+    wrong-at passed passed-y {r} P =
         record {
           within = P .within;
           alone = λ l.
@@ -275,15 +298,14 @@ module _ (word : List ℕ) (told : Sums) (S : SumsOf word told) (off : 0 < told 
               record {
                 total = sym (toF-value _) ∙ ap toF (sym (S .of-all));
                 by-x = quotient change off low scale-is (S .of-x) x-is (px m16 r) .0 here-x;
-                by-square =
-                    sym (toF-value _) ∙ ap toF (sym (S .of-square) ∙ sym passed) ∙ toF-times change (times x x)
-                    ∙ ap (λ a. toF change ⊗ a) (toF-times x x ∙ ap₂ (λ a b. a ⊗ b) here-x here-x);
+                by-square = squared change x (S .of-square) here-x .0 passed;
                 by-y = sym y-sum ∙ quotient change off low scale-is sum-y-is y-is (py m16 r) .0 here-y;
+                by-y-square = sym yy-sum ∙ squared change y sum-yy-is here-y .0 passed-y;
               };
           nowhere = λ l p h A.
               P .nowhere l p h
               (sym (toF-injective x (xOf p) x-small (x-below m16 p h) (x-found p A)) ∙ sym (mod-eq-of-lt x-small))
-              (sym (toF-injective y (yOf p) y-small (yOf-below m16 p h) (quotient change off low scale-is sum-y-is y-is (py m16 p) .1 (y-sum ∙ A .by-y))));
+              (sym (toF-injective y (yOf p) y-small (yOf-below m16 p h) (y-found p A)));
         }
 
 -- ---- a codeword that is known

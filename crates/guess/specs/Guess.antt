@@ -1,7 +1,7 @@
--- What sums over all places tell of a word: a codeword's are zero, and one wrong symbol alone is told by four of them.
+-- What sums over all places tell of a word: a codeword's are zero, and one wrong symbol alone is told by five of them.
 --
 --   overall v            the sum of the values at all places
---   AloneAt v e q        the sums of the values, of the values times x, times its square and times y are those of e at place q alone
+--   AloneAt v e q        the sums of the values, of the values times x, times its square, times y and times its square are those of e at place q alone
 --   foldedOf a           a plane whose first bit is the sum of all bits of a
 --   symbolIn word p, withBit word b p   the symbol at a place, and the same only where bit b of the place's number is 1
 --   SumsOf word s        the first three of those sums, as numbers
@@ -36,6 +36,7 @@ module _ (𝓜 : Member) where
     pub by-x : overall (λ p. v p ⊗ px 𝓜 p) ≡ e ⊗ px 𝓜 q
     pub by-square : overall (λ p. (v p ⊗ px 𝓜 p) ⊗ px 𝓜 p) ≡ e ⊗ (px 𝓜 q ⊗ px 𝓜 q)
     pub by-y : overall (λ p. v p ⊗ py 𝓜 p) ≡ e ⊗ py 𝓜 q
+    pub by-y-square : overall (λ p. (v p ⊗ py 𝓜 p) ⊗ py 𝓜 p) ≡ e ⊗ (py 𝓜 q ⊗ py 𝓜 q)
 
 open Field K16 using (_⊗_)
 
