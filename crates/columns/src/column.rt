@@ -12,9 +12,9 @@ ghost use Rattle.columns.specs.Two.{above, TwoOf};
 const ABOVE: u32 = 65536 * SYMBOLS as u32;
 
 // The numbers of the best and of the second symbol.
-pub struct Two {
-    pub best: u32,
-    pub second: u32,
+struct Two {
+    best: u32,
+    second: u32,
 }
 
 // Equal costs are in the order of the symbols.
@@ -32,7 +32,7 @@ fn next_with(next: u32, least: u32, number: u32) -> u32
     lesser(next, larger(least, number))
 }
 
-pub fn two_least(column: [u16; SYMBOLS]) -> Two
+fn two_least(column: [u16; SYMBOLS]) -> Two
     ensures { λ r. ⌜ TwoOf column r ⌝ }
 {
     let mut least = ABOVE;
@@ -49,14 +49,14 @@ pub fn two_least(column: [u16; SYMBOLS]) -> Two
 }
 
 // The symbol of a number.
-pub fn symbol_in(number: u32) -> u8
+fn symbol_in(number: u32) -> u8
     ensures { λ r. ⌜ r ≡ number % symbols ⌝ }
 {
     (number % SYMBOLS as u32) as u8
 }
 
 // The cost of a number.
-pub fn cost_in(number: u32) -> u16
+fn cost_in(number: u32) -> u16
     requires { ⌜ number < above ⌝ }
     ensures { λ r. ⌜ r ≡ number / symbols ⌝ }
 {

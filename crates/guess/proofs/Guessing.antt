@@ -173,3 +173,15 @@ y-sum word values ys by-y sum-y values-is ys-is by-y-is e =
     ∙ ap value
     (sum-ext K16 (places m16) _ _ (λ p l.
     ap (λ a. elementAt a p) by-y-is ∙ product-element values ys p ∙ ap₂ (λ a b. a ⊗ b) (values-is .lanes p l) (ys-is .lanes p l)))
+
+pub yy-sum : (word values ys by-y by-yy : List ℕ) (sum-yy : ℕ) → Carries (symbolsOf word) values → Carries (py m16) ys → by-y ≡ productOf values ys
+    → by-yy ≡ productOf by-y ys → sum-yy ≡ value (overall m16 (elementAt by-yy))
+    → sum-yy ≡ value (overall m16 (λ p. (symbolsOf word p ⊗ py m16 p) ⊗ py m16 p))
+unfolding overall
+yy-sum word values ys by-y by-yy sum-yy values-is ys-is by-y-is by-yy-is e =
+    e
+    ∙ ap value
+    (sum-ext K16 (places m16) _ _ (λ p l.
+    ap (λ a. elementAt a p) by-yy-is ∙ product-element by-y ys p
+    ∙ ap₂ (λ a b. a ⊗ b)
+    (ap (λ a. elementAt a p) by-y-is ∙ product-element values ys p ∙ ap₂ (λ a b. a ⊗ b) (values-is .lanes p l) (ys-is .lanes p l)) (ys-is .lanes p l)))

@@ -1,4 +1,4 @@
--- What sums over all places tell of a word in document 01's modem: a codeword's are zero, and one wrong symbol alone is told by four of them.
+-- What sums over all places tell of a word in document 01's modem: a codeword's are zero, and one wrong symbol alone is told by five of them.
 --
 --   overall v            the sum of the values at all places, as the family has it
 --   foldedOf a           a plane whose first bit is the sum of all bits of a

@@ -113,7 +113,7 @@ fn place_at(x: u8, y: u8) -> usize
 }
 
 // The place where a change alone has the sums of the word, or 64: a codeword's are zero, so those of a word with one wrong symbol are the
-// change's. The sum with the square of x tells most words with more of them.
+// change's. The sums with the squares of x and of y tell most words with more of them.
 fn wrong_place(word: Word, told: Sums) -> usize
     requires { ⌜ SumsOf word told × (0 < told .all) ⌝ }
     ensures { λ r. ⌜ WrongPlace word (told .all) r ⌝ }
@@ -123,7 +123,12 @@ fn wrong_place(word: Word, told: Sums) -> usize
     if product(told.all, product(x, x)) != told.squares {
         return PLACES;
     }
-    let y = product(all_of(times(planes(word), ys())), scale);
+    let heights = ys();
+    let by_y = times(planes(word), heights);
+    let y = product(all_of(by_y), scale);
+    if product(told.all, product(y, y)) != all_of(times(by_y, heights)) {
+        return PLACES;
+    }
     place_at(x, y)
 }
 

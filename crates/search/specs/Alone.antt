@@ -1,13 +1,13 @@
--- What sums over all places tell of a word, for every member: a codeword's are zero, and one wrong symbol alone is told by four of them.
+-- What sums over all places tell of a word, for every member: a codeword's are zero, and one wrong symbol alone is told by five of them.
 --
 --   overall v            the sum of the values at all places
---   AloneAt v e q        the sums of the values, of the values times x, times its square and times y are those of e at place q alone
+--   AloneAt v e q        the sums of the values, of the values times x, times its square, times y and times its square are those of e at place q alone
 --   SumsOf v all across squares   the first three of those sums, as numbers
 --   PlaceAt x y r        r is the place of the point (x, y), and the number of places where it is none
 --   Passed x y r, passed-start, passed-turn   none of the first r places with an x is that of the point
 --   placed-here, placed-nowhere   so the next one is the place of the point, or none is
 --   WrongPlace v e r     r is a place where e alone has the sums of the values, and the number of places where there is none
---   wrong-nowhere, wrong-at   by the three sums, and by the place of the point that the four give
+--   wrong-nowhere, wrong-beside, wrong-at   by the three sums, by those with y, and by the place of the point that they give
 use mathlib.Core.Path.{_≡_, sym, ap, ap₂, _∙_, subst}
 use mathlib.Core.Logic.{_≢_}
 use Prim.Native.Nat.{ℕ, _+_, _*_, _%_, _<_, _≤_}
@@ -33,6 +33,7 @@ module _ (𝓜 : Member) where
     pub by-x : overall (λ p. v p ⊗ px 𝓜 p) ≡ e ⊗ px 𝓜 q
     pub by-square : overall (λ p. (v p ⊗ px 𝓜 p) ⊗ px 𝓜 p) ≡ e ⊗ (px 𝓜 q ⊗ px 𝓜 q)
     pub by-y : overall (λ p. v p ⊗ py 𝓜 p) ≡ e ⊗ py 𝓜 q
+    pub by-y-square : overall (λ p. (v p ⊗ py 𝓜 p) ⊗ py 𝓜 p) ≡ e ⊗ (py 𝓜 q ⊗ py 𝓜 q)
 
   pub record SumsOf (v : ℕ → GF gf) (all across squares : ℕ) : Type 0 where
     pub of-all : all ≡ value gf (overall v)
@@ -102,6 +103,17 @@ module _ (𝓜 : Member) where
           λ h. q ∙ ap (λ y. y ⊗ inv e) (h ∙ mul-comm (K gf) e a) ∙ mul-assoc (K gf) a e (inv e) ∙ ap (λ y. a ⊗ y) (mul-inv (K gf) e n) ∙ mul-one (K gf) a,
         )
 
+  -- a sum with a square by the change is the square at the place, and the other way round
+  squared : (change z : ℕ) {s : ℕ} {v a : GF gf} → s ≡ value gf v → toF gf z ≡ a
+      → (times gf change (times gf z z) ≡ s → v ≡ toF gf change ⊗ (a ⊗ a)) × (v ≡ toF gf change ⊗ (a ⊗ a) → times gf change (times gf z z) ≡ s)
+  squared change z {s} {v} {a} s-is z-is =
+      let made : toF gf (times gf change (times gf z z)) ≡ toF gf change ⊗ (a ⊗ a) =
+      toF-times gf change (times gf z z) ∙ ap (λ b. toF gf change ⊗ b) (toF-times gf z z ∙ ap₂ (λ b c. b ⊗ c) z-is z-is) in (
+        λ h. sym (toF-value gf v) ∙ ap (toF gf) (sym (h ∙ s-is)) ∙ made,
+        λ h. sym (mod-eq-of-lt (times-lt gf change (times gf z z))) ∙ sym (value-toF gf (times gf change (times gf z z))) ∙ ap (value gf) (made ∙ sym h)
+            ∙ sym s-is,
+      )
+
   module _ (v : ℕ → GF gf) (change across squares : ℕ) (S : SumsOf v change across squares) (off : 0 < change) (scale x : ℕ)
       (scale-is : scale ≡ inverse gf change) (x-is : x ≡ times gf across scale) where
     low : change < symbols 𝓜
@@ -111,31 +123,36 @@ module _ (𝓜 : Member) where
     x-found : (p : ℕ) → AloneAt v (toF gf change) p → toF gf x ≡ px 𝓜 p
     x-found p A = quotient change off low scale-is (S .of-x) x-is (px 𝓜 p) .1 (A .by-x)
 
-    square-found : (p : ℕ) → AloneAt v (toF gf change) p → times gf change (times gf x x) ≡ squares
-    square-found p A =
-        sym (mod-eq-of-lt (times-lt gf change (times gf x x))) ∙ sym (value-toF gf (times gf change (times gf x x)))
-        ∙ ap (value gf)
-        (toF-times gf change (times gf x x) ∙ ap (λ a. toF gf change ⊗ a) (toF-times gf x x ∙ ap₂ (λ a b. a ⊗ b) (x-found p A) (x-found p A)) ∙ sym (A .by-square))
-        ∙ sym (S .of-square)
-
     pub wrong-nowhere : times gf change (times gf x x) ≢ squares → WrongPlace v change (places 𝓜)
     wrong-nowhere n =
         record {
           within = omega arith;
           alone = λ l. absurd (omega arith);
-          nowhere = λ l p h A. n (square-found p A);
+          nowhere = λ l p h A. n (squared change x (S .of-square) (x-found p A) .1 (A .by-square));
         }
 
-    module _ (sum-y y : ℕ) (passed : times gf change (times gf x x) ≡ squares) (sum-y-is : sum-y ≡ value gf (overall (λ p. v p ⊗ py 𝓜 p)))
-        (y-is : y ≡ times gf sum-y scale) where
+    module _ (sum-y y sum-yy : ℕ) (sum-y-is : sum-y ≡ value gf (overall (λ p. v p ⊗ py 𝓜 p))) (y-is : y ≡ times gf sum-y scale)
+        (sum-yy-is : sum-yy ≡ value gf (overall (λ p. (v p ⊗ py 𝓜 p) ⊗ py 𝓜 p))) where
       x-low : x < symbols 𝓜
       x-low = subst (λ n. n < symbols 𝓜) (sym x-is) (times-lt gf across scale)
 
       y-low : y < symbols 𝓜
       y-low = subst (λ n. n < symbols 𝓜) (sym y-is) (times-lt gf sum-y scale)
 
-      pub wrong-at : {r : ℕ} → PlaceAt x y r → WrongPlace v change r
-      wrong-at {r} P =
+      -- the place's y
+      y-found : (p : ℕ) → AloneAt v (toF gf change) p → toF gf y ≡ py 𝓜 p
+      y-found p A = quotient change off low scale-is sum-y-is y-is (py 𝓜 p) .1 (A .by-y)
+
+      pub wrong-beside : times gf change (times gf y y) ≢ sum-yy → WrongPlace v change (places 𝓜)
+      wrong-beside n =
+          record {
+            within = omega arith;
+            alone = λ l. absurd (omega arith);
+            nowhere = λ l p h A. n (squared change y sum-yy-is (y-found p A) .1 (A .by-y-square));
+          }
+
+      pub wrong-at : times gf change (times gf x x) ≡ squares → times gf change (times gf y y) ≡ sum-yy → {r : ℕ} → PlaceAt x y r → WrongPlace v change r
+      wrong-at passed passed-y {r} P =
           record {
             within = P .within;
             alone = λ l.
@@ -145,13 +162,12 @@ module _ (𝓜 : Member) where
                 record {
                   total = sym (toF-value gf _) ∙ ap (toF gf) (sym (S .of-all));
                   by-x = quotient change off low scale-is (S .of-x) x-is (px 𝓜 r) .0 here-x;
-                  by-square =
-                      sym (toF-value gf _) ∙ ap (toF gf) (sym (S .of-square) ∙ sym passed) ∙ toF-times gf change (times gf x x)
-                      ∙ ap (λ a. toF gf change ⊗ a) (toF-times gf x x ∙ ap₂ (λ a b. a ⊗ b) here-x here-x);
+                  by-square = squared change x (S .of-square) here-x .0 passed;
                   by-y = quotient change off low scale-is sum-y-is y-is (py 𝓜 r) .0 here-y;
+                  by-y-square = squared change y sum-yy-is here-y .0 passed-y;
                 };
             nowhere = λ l p h A.
                 P .nowhere l p h
                 (sym (toF-injective gf x (xOf w p) x-low (x-below 𝓜 p h) (x-found p A)) ∙ sym (mod-eq-of-lt x-low))
-                (sym (toF-injective gf y (yOf gf w p) y-low (yOf-below 𝓜 p h) (quotient change off low scale-is sum-y-is y-is (py 𝓜 p) .1 (A .by-y))));
+                (sym (toF-injective gf y (yOf gf w p) y-low (yOf-below 𝓜 p h) (y-found p A)));
           }
