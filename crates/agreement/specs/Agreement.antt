@@ -31,10 +31,10 @@ use Rattle.answers.specs.Answered.{Sound, found-sound}
 use Rattle.tree.specs.Searching.{Ready, SearchOf, BranchOf}
 use Rattle.chase.specs.Call.{Asked, nearestOf}
 use Rattle.chase.specs.Laws.{nearest-asked, nearest-call}
-use Rattle.book.specs.Here.{places}
-use Rattle.book.specs.Engine.{unblankedBy, nearBy, Eliminated, engineOf}
-use Rattle.book.specs.EngineLaws.{EnginePassed, engine-none, engine-some, engine-fits}
-use Rattle.book.specs.Single.{BlankAt, answer-one, near-open}
+use Rattle.book64.specs.Here.{places}
+use Rattle.book64.specs.engine.Engine.{unblankedBy, nearBy, Eliminated, engineOf}
+use Rattle.book64.specs.engine.EngineLaws.{EnginePassed, engine-none, engine-some, engine-fits}
+use Rattle.book64.specs.engine.Single.{BlankAt, answer-one, near-open}
 
 pub record Agrees (call : Eliminated) (f : Finding) : Type 0 where
   pub nobody : (call .number ≡ noneNear) ↔ (f .answer ≡ NoneNear)

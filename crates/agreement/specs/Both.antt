@@ -16,10 +16,10 @@ use Rattle.soft.specs.Doubt.{mostDoubt}
 use Rattle.soft.specs.TestWord.{bestAt}
 use Rattle.near.specs.Tree.{places-nil}
 use Rattle.chase.specs.Call.{Asked, nearestOf}
-use Rattle.book.specs.Here.{places}
-use Rattle.book.specs.Engine.{eliminated, engineOf, unblankedBy}
-use Rattle.book.specs.EngineLaws.{EnginePassed}
-use Rattle.book.specs.Single.{BlankAt, same-number}
+use Rattle.book64.specs.Here.{places}
+use Rattle.book64.specs.engine.Engine.{eliminated, engineOf, unblankedBy}
+use Rattle.book64.specs.engine.EngineLaws.{EnginePassed}
+use Rattle.book64.specs.engine.Single.{BlankAt, same-number}
 use Rattle.agreement.specs.Agreement.{Agrees, engine-nearest}
 use Rattle.agreement.specs.declared.Both.{Both}
 use mathlib.Core.Bool.{true}

@@ -27,10 +27,10 @@ use Rattle.soft.specs.ColumnLaws.{best-below, best-least, column-length, cost-c
 use Rattle.soft.specs.BlankLaws.{blank-same}
 use Rattle.soft.specs.TestWord.{bestAt}
 use Rattle.chase.specs.Call.{nearestOf}
-use Rattle.book.specs.Here.{places}
-use Rattle.book.specs.Engine.{unblankedBy, engineOf}
-use Rattle.book.specs.EngineLaws.{EnginePassed}
-use Rattle.book.specs.Single.{BlankAt}
+use Rattle.book64.specs.Here.{places}
+use Rattle.book64.specs.engine.Engine.{unblankedBy, engineOf}
+use Rattle.book64.specs.engine.EngineLaws.{EnginePassed}
+use Rattle.book64.specs.engine.Single.{BlankAt}
 use Rattle.agreement.specs.Agreement.{Agrees, engine-nearest}
 use Rattle.agreement.specs.Both.{undoubted, asked-alone}
 

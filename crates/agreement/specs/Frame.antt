@@ -34,12 +34,12 @@ use Rattle.near.specs.Here.{blankLimit, blanksIn, testsNear}
 use Rattle.interpolant.specs.LeastQ.{readingLength}
 use Rattle.chase.specs.Call.{Asked, nearestOf}
 use Rattle.chase.specs.Laws.{nearest-call}
-use Rattle.book.specs.Opening as Opening
-use Rattle.book.specs.OpeningLaws.{below-of}
-use Rattle.book.specs.Here.{places, fitPlaces, testsFor}
-use Rattle.book.specs.Engine.{unblankedBy, nearBy, Eliminated, engineChecks, engineOf}
-use Rattle.book.specs.EngineLaws.{EnginePassed, engine-none, engine-some, engine-fits}
-use Rattle.book.specs.Single.{BlankAt, same-number, same-near}
+use Rattle.book.specs.opening.Opening as Opening
+use Rattle.book.specs.opening.OpeningLaws.{below-of}
+use Rattle.book64.specs.Here.{places, fitPlaces, testsFor}
+use Rattle.book64.specs.engine.Engine.{unblankedBy, nearBy, Eliminated, engineChecks, engineOf}
+use Rattle.book64.specs.engine.EngineLaws.{EnginePassed, engine-none, engine-some, engine-fits}
+use Rattle.book64.specs.engine.Single.{BlankAt, same-number, same-near}
 
 -- ---- the list of blank places
 

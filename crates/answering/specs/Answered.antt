@@ -36,10 +36,10 @@ use Rattle.near.specs.Near.{mOf, blankLimit, messageCost}
 use Rattle.near.specs.Cheapest.{markedOf}
 use Rattle.near.specs.Codeword.{codeword-symbol}
 use Rattle.book.specs.Model.{Model, places, width}
-use Rattle.book.specs.Closing.{refusedClosing, testsFor, answerFor, marginFor, reportFor, decodeOf}
-use Rattle.book.specs.ClosingLaws.{decode-too-blank, decode-none, decode-some}
-use Rattle.book.specs.Table.{closed}
-use Rattle.book.specs.Report.{test-count-fits}
+use Rattle.book.specs.closing.Closing.{refusedClosing, testsFor, answerFor, marginFor, reportFor, decodeOf}
+use Rattle.book.specs.closing.ClosingLaws.{decode-too-blank, decode-none, decode-some}
+use Rattle.book.specs.tables.Table.{closed}
+use Rattle.book.specs.closing.Report.{test-count-fits}
 use Rattle.answering.specs.Decoding.{unansweredOf}
 
 pub found-open : {A : Type 0} {o : Option A} {a : A} (blank limit : ℕ) → (limit < blank → o ≡ none) → o ≡ some a → blank ≤ limit

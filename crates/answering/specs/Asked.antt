@@ -13,8 +13,8 @@ use lib.ListN.{length, take}
 use Rattle.lists.specs.Distinct.{and-right}
 use Rattle.near.specs.Tree.{Places}
 use Rattle.book.specs.Model.{Model, places, width}
-use Rattle.book.specs.Opening.{fitPlaces, fitDoubt}
-use Rattle.book.specs.OpeningLaws.{fits-places}
+use Rattle.book.specs.opening.Opening.{fitPlaces, fitDoubt}
+use Rattle.book.specs.opening.OpeningLaws.{fits-places}
 
 module _ (𝓓 : Model) where
   open Model 𝓓 using (known, mostDoubt)

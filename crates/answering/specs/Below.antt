@@ -15,9 +15,9 @@ use Rattle.soft.specs.Threshold.{closestOf, doubtBelow}
 use Rattle.soft.specs.ThresholdLaws.{closest-doubtful}
 use Rattle.weighing.specs.Picked.{PickedIn, picked-same}
 use Rattle.book.specs.Model.{Model, places, width}
-use Rattle.book.specs.Closing.{Closed, reportLength, decodeOf}
-use Rattle.book.specs.Table.{tableLength, tableColumns}
-use Rattle.book.specs.Below.{doubtFor, doubt-for-most, tableBelowOf, below-as-table}
+use Rattle.book.specs.closing.Closing.{Closed, reportLength, decodeOf}
+use Rattle.book.specs.tables.Table.{tableLength, tableColumns}
+use Rattle.book.specs.tables.Below.{doubtFor, doubt-for-most, tableBelowOf, below-as-table}
 use Rattle.answering.specs.Asked.{Askable}
 use Rattle.answering.specs.Tabled.{table-askable, table-answers}
 

@@ -9,8 +9,8 @@ use Prim.Native.Nat.{ℕ}
 use lib.ListN.{length}
 use Rattle.refusals.specs.Refusal.{accepted}
 use Rattle.book.specs.Model.{Model}
-use Rattle.book.specs.Closing.{Closed, refusedClosing}
-use Rattle.book.specs.Table.{closed, checksOf, Checked, checks-passed}
+use Rattle.book.specs.closing.Closing.{Closed, refusedClosing}
+use Rattle.book.specs.tables.Table.{closed, checksOf, Checked, checks-passed}
 
 module _ (𝓓 : Model) where
   pub passed : (rate given wanted message report : ℕ) {r : ℕ} → r ≡ checksOf 𝓓 rate given wanted message report → r ≡ accepted

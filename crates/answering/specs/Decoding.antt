@@ -13,7 +13,7 @@ use Rattle.refusals.specs.Refusal.{noneNear, tooBlank}
 use Rattle.soft.specs.Blank.{blanksOf}
 use Rattle.near.specs.Near.{blankLimit}
 use Rattle.book.specs.Model.{Model, places}
-use Rattle.book.specs.Closing.{reportLength}
+use Rattle.book.specs.closing.Closing.{reportLength}
 use Rattle.answering.specs.Asked.{Askable}
 
 module _ (𝓓 : Model) where

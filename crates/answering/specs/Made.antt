@@ -14,8 +14,8 @@ use Rattle.soft.specs.Bits.{bitCosts}
 use Rattle.soft.specs.BitsLaws.{costs-bits}
 use Rattle.weighing.specs.Picked.{PickedIn}
 use Rattle.book.specs.Model.{Model, places, width}
-use Rattle.book.specs.Closing.{Closed, reportLength, decodeOf}
-use Rattle.book.specs.Bits.{frameLength, tableMade, bitsOf, made-length, bits-as-table}
+use Rattle.book.specs.closing.Closing.{Closed, reportLength, decodeOf}
+use Rattle.book.specs.tables.Bits.{frameLength, tableMade, bitsOf, made-length, bits-as-table}
 use Rattle.answering.specs.Asked.{Askable}
 use Rattle.answering.specs.Tabled.{table-askable, table-answers}
 

@@ -9,8 +9,8 @@ use native.Mathlib.Omega.{arith}
 use Rattle.refusals.specs.Refusal.{accepted}
 use Rattle.book.specs.Model.{Model}
 use Rattle.book.specs.Book.{Outcome}
-use Rattle.book.specs.Opening.{fitDoubt, refusedOpening, openOf}
-use Rattle.book.specs.RowLaws.{open-accepted, open-refused-rate, open-refused-list}
+use Rattle.book.specs.opening.Opening.{fitDoubt, refusedOpening, openOf}
+use Rattle.book.specs.rows.RowLaws.{open-accepted, open-refused-rate, open-refused-list}
 
 module _ (𝓓 : Model) (rate : ℕ) (list : List ℕ) {r : ℕ} (number : r ≡ openOf 𝓓 rate list .number) where
   open Model 𝓓 using (known)

@@ -15,9 +15,9 @@ use Rattle.soft.specs.Doubt.{doubtfulOf}
 use Rattle.soft.specs.DoubtLaws.{doubtful-most}
 use Rattle.weighing.specs.Picked.{PickedIn, picked-take}
 use Rattle.book.specs.Model.{Model, places, width}
-use Rattle.book.specs.Opening.{fitDoubt}
-use Rattle.book.specs.Closing.{Closed, reportLength, decodeOf}
-use Rattle.book.specs.Table.{tableLength, tableColumns, pickedOf, tableOf, table-decoded, picked-fit}
+use Rattle.book.specs.opening.Opening.{fitDoubt}
+use Rattle.book.specs.closing.Closing.{Closed, reportLength, decodeOf}
+use Rattle.book.specs.tables.Table.{tableLength, tableColumns, pickedOf, tableOf, table-decoded, picked-fit}
 use Rattle.answering.specs.Asked.{Askable, askable-fit}
 
 module _ (𝓓 : Model) where

@@ -8,8 +8,8 @@ use refusals::ACCEPTED;
 use refusals::WRONG_DOUBT;
 use summary::summary_of;
 ghost use mathlib.Core.Path.{_≡_};
-ghost use Rattle.book.specs.Table.{closed};
-ghost use Rattle.book.specs.Here.{bitsOf};
+ghost use Rattle.book.specs.tables.Table.{closed};
+ghost use Rattle.book64.specs.Here.{bitsOf};
 
 // A value for each bit of the symbol of each place.
 const FRAME_BYTES: usize = 256;

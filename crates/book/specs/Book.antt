@@ -49,3 +49,8 @@ module _ (𝓓 : Model) where
 
   unfoldable pub someMissing : List Entry → Bool
   someMissing row = not (every (places 𝓓) (taken row))
+
+-- a number, and what a lent buffer holds afterwards
+pub record Filled : Type 0 where
+  pub number : ℕ
+  pub bytes : List ℕ

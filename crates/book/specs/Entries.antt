@@ -18,7 +18,7 @@ use Rattle.lists.specs.Distinct.{among, distinct, and-left, and-right, and-both
 use Rattle.book.specs.Model.{Model, places}
 use Rattle.book.specs.Book.{Entry, columnIn, taken, missing, someMissing}
 use Rattle.book.specs.Columns.{column-free, none-free}
-use Rattle.book.specs.RowLaws.{placesOf, missing-some, some-missing}
+use Rattle.book.specs.rows.RowLaws.{placesOf, missing-some, some-missing}
 
 column-nil : (p : ℕ) → columnIn [] p ≡ none
 unfolding columnIn

@@ -8,19 +8,13 @@
 --   modem64            document 01's: GF(16) with w = 4, so 64 places and sixteen costs; rates 6 to 52, a doubt of at most 12, rate 39 after a refusal,
 --                      and a byte for each count
 use mathlib.Core.Bool.{Bool, true}
-use mathlib.Core.Path.{_≡_, refl}
+use mathlib.Core.Path.{_≡_}
 use Prim.Native.Nat.{ℕ, _+_, _*_, _^_, _<_, _≤_}
-use native.Mathlib.Omega.{arith}
-use lib.Dec.{lit<}
 use Rattle.soft.specs.Column.{ceiling}
-use Rattle.soft.specs.Doubt as Doubt
-use Rattle.family.specs.Member.{Member, m16}
+use Rattle.family.specs.Member.{Member}
 use Rattle.family.specs.Member as Family
-use Rattle.code.specs.Encoding.{knownRate}
-use Rattle.code.specs.Rates.{known-bounds}
 use Rattle.near.specs.Near.{blankLimit}
 use Rattle.near.specs.Reach.{Workable}
-use Rattle.near.specs.Here as Near
 
 pub record Model : Type 0 where
   pub member : Member
@@ -41,31 +35,3 @@ module _ (𝓓 : Model) where
 
   abbrev pub width : ℕ
   width = Family.symbols (𝓓 .member)
-
--- ---- the modem of 64 places
-
-pub known-workable : (k : ℕ) → knownRate k ≡ true → Workable m16 k
-known-workable k known = let b = known-bounds k known in Near.workable (omega (arith, b)) (omega (arith, b))
-
-pub known-doubt : (k : ℕ) → knownRate k ≡ true → Doubt.mostDoubt + blankLimit m16 k ≤ Family.places m16
-known-doubt k known = omega (arith, known-bounds k known, Near.blank-limit-is k, Near.m-is k)
-
-pub known-39 : knownRate 39 ≡ true
-unfolding knownRate
-known-39 = refl
-
-abbrev pub modem64 : Model
-modem64 =
-    record {
-      member = m16;
-      known = knownRate;
-      workable = known-workable;
-      mostDoubt = Doubt.mostDoubt;
-      doubt-fits = known-doubt;
-      first = 39;
-      first-known = known-39;
-      wide = 1;
-      counts-fit = lit< tt;
-      totals-fit = lit< tt;
-      tests-fit = lit< tt;
-    }

@@ -18,8 +18,8 @@ use Rattle.lists.specs.Count.{bit}
 use Rattle.lists.specs.Distinct.{among}
 use Rattle.lists.specs.Listed.{listed, listed-length, listed-at, listed-by, listed-ext}
 use Rattle.soft.specs.Column.{symbols}
-use Rattle.book.specs.Here.{places}
-use Rattle.book.specs.Engine.{unblankedBy}
+use Rattle.book64.specs.Here.{places}
+use Rattle.book64.specs.engine.Engine.{unblankedBy}
 use Rattle.agreement.specs.Faded.{fadedCost, fadedCosts}
 
 module _ (blanks word : List ℕ) where

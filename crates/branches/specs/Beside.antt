@@ -22,9 +22,9 @@ use Rattle.answer.specs.declared.Answer.{Answer}
 use Rattle.answer.specs.declared.Answer.the-variants.{NoneNear, Near}
 use Rattle.answers.specs.declared.Finding.{Finding}
 use Rattle.chase.specs.Call.{nearestOf}
-use Rattle.book.specs.Here.{places}
-use Rattle.book.specs.Engine.{engineOf}
-use Rattle.book.specs.EngineLaws.{EnginePassed, engine-nobody}
+use Rattle.book64.specs.Here.{places}
+use Rattle.book64.specs.engine.Engine.{engineOf}
+use Rattle.book64.specs.engine.EngineLaws.{EnginePassed, engine-nobody}
 use Rattle.agreement.specs.Agreement.{Agrees}
 use Rattle.agreement.specs.Both.{undoubted}
 use Rattle.agreement.specs.Faded.{fadedCosts, engine-tree}

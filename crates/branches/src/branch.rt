@@ -4,7 +4,7 @@ ghost use mathlib.Core.Path.{_≡_};
 ghost use Prim.Native.Nat.{_+_, _*_, _%_, _<_};
 ghost use lib.ListN.{getD};
 ghost use Rattle.soft.specs.Column.{symbols};
-ghost use Rattle.book.specs.Here.{places};
+ghost use Rattle.book64.specs.Here.{places};
 ghost use Rattle.agreement.specs.Faded.{fadedCost, fadedCosts};
 ghost use Rattle.branches.specs.Beside.{noCodeword, branchIn, branchOf, besideOf};
 use answer::Answer;

@@ -19,9 +19,9 @@ use Rattle.lists.specs.Block.{block}
 use Rattle.book.specs.Model.{Model, places, width}
 use Rattle.book.specs.Book.{Book, columnIn}
 use Rattle.book.specs.Columns.{column-free, Agree}
-use Rattle.book.specs.RowLaws.{none-above}
-use Rattle.book.specs.AnyCalls.{Answer, Call, closing, other, Others}
-use Rattle.book.specs.AnyCallLaws.{answer-alike}
+use Rattle.book.specs.rows.RowLaws.{none-above}
+use Rattle.book.specs.calls.Calls.{Answer, Call, closing, other, Others}
+use Rattle.book.specs.calls.CallLaws.{answer-alike}
 use Rattle.calls.specs.Held as Fields
 use Rattle.calls.specs.Keeping.{Keeping, bookOf, Good, book-taken, column-there, good-proper, one-session}
 use Rattle.calls.specs.Step.{Step}

@@ -12,16 +12,16 @@ use Rattle.lists.specs.Listed.{listed-length}
 use Rattle.lists.specs.Words.{Word}
 use Rattle.book.specs.Model.{Model, places, width}
 use Rattle.book.specs.Book.{Entry, Book, newBook, Outcome}
-use Rattle.book.specs.Alive.{sentRow, sentBook, sent-columns, sent-delivered, sent-closes}
-use Rattle.book.specs.Opening.{openOf}
-use Rattle.book.specs.OpeningLaws.{Known, list-fits}
-use Rattle.book.specs.Costs.{RowColumns}
-use Rattle.book.specs.Closing.{Closed, reportLength, closeOf}
-use Rattle.book.specs.AnyCalls.{Answer, Call, closing, Others, answers, afterAll}
-use Rattle.book.specs.AnyCallLaws.{AllFit, deliveries, row-calls}
+use Rattle.book.specs.sentences.Alive.{sentRow, sentBook, sent-columns, sent-delivered, sent-closes}
+use Rattle.book.specs.opening.Opening.{openOf}
+use Rattle.book.specs.opening.OpeningLaws.{Known, list-fits}
+use Rattle.book.specs.rows.Costs.{RowColumns}
+use Rattle.book.specs.closing.Closing.{Closed, reportLength, closeOf}
+use Rattle.book.specs.calls.Calls.{Answer, Call, closing, Others, answers, afterAll}
+use Rattle.book.specs.calls.CallLaws.{AllFit, deliveries, row-calls}
 use Rattle.book.specs.Machine.{fit-nil, fit-cons}
-use Rattle.book.specs.Table.{entriesOf}
-use Rattle.book.specs.TableSentences.{upTo}
+use Rattle.book.specs.tables.Table.{entriesOf}
+use Rattle.book.specs.tables.TableSentences.{upTo}
 use Rattle.calls.specs.Held.{newHeld}
 use Rattle.calls.specs.Keeping.{Keeping}
 use Rattle.calls.specs.Promises.{Opening}

@@ -24,17 +24,17 @@ use Rattle.book.specs.Model.{Model, places}
 use Rattle.book.specs.Book.{Book, newBook, Outcome}
 use Rattle.book.specs.Columns.{Agree, agree-sym, agree-trans, agree-path}
 use Rattle.book.specs.Entries.{Missing}
-use Rattle.book.specs.Opening.{fitDoubt, refusedOpening, openOf}
-use Rattle.book.specs.OpeningLaws.{Known, DoubtfulList}
-use Rattle.book.specs.RowLaws.{open-refused-rate, open-refused-list, open-accepted}
-use Rattle.book.specs.Delivery.{withEntry}
-use Rattle.book.specs.Withdrawal.{withoutPlace}
-use Rattle.book.specs.Closing.{reportLength}
-use Rattle.book.specs.Sentences.{IsNear, IsAnswer, Closes}
-use Rattle.book.specs.AnyCalls.{Answer, Call, deliver, withdraw, closing, Others, firstLent, secondLent, answer, after, answers, afterAll}
-use Rattle.book.specs.AnyCallLaws as laws
-use Rattle.book.specs.AnyCallLaws.{AllFit}
-use Rattle.book.specs.AnyUndone.{Spares, acceptedOf}
+use Rattle.book.specs.opening.Opening.{fitDoubt, refusedOpening, openOf}
+use Rattle.book.specs.opening.OpeningLaws.{Known, DoubtfulList}
+use Rattle.book.specs.rows.RowLaws.{open-refused-rate, open-refused-list, open-accepted}
+use Rattle.book.specs.rows.Delivery.{withEntry}
+use Rattle.book.specs.rows.Withdrawal.{withoutPlace}
+use Rattle.book.specs.closing.Closing.{reportLength}
+use Rattle.book.specs.sentences.Sentences.{IsNear, IsAnswer, Closes}
+use Rattle.book.specs.calls.Calls.{Answer, Call, deliver, withdraw, closing, Others, firstLent, secondLent, answer, after, answers, afterAll}
+use Rattle.book.specs.calls.CallLaws as laws
+use Rattle.book.specs.calls.CallLaws.{AllFit}
+use Rattle.book.specs.calls.Undone.{Spares, acceptedOf}
 use Rattle.calls.specs.Held.{newHeld}
 use Rattle.calls.specs.Keeping.{Keeping, bookOf, Good, one-session}
 use Rattle.calls.specs.Promises.{Opening}

@@ -27,13 +27,13 @@ use Rattle.near.specs.Reach.{Reach}
 use Rattle.book.specs.Model.{Model}
 use Rattle.book.specs.Book.{Book, newBook, Outcome}
 use Rattle.book.specs.Columns.{Agree, agree-sym, agree-path, agree-trans}
-use Rattle.book.specs.Closing.{Closed, reportLength, closeOf}
-use Rattle.book.specs.Opening.{openOf}
-use Rattle.book.specs.OpeningLaws.{Known, DoubtfulList}
-use Rattle.book.specs.Sentences.{blanksIn, Closes, closes, opening-accepts}
-use Rattle.book.specs.Costs.{RowColumns, new-costs}
-use Rattle.book.specs.AnyCalls.{Answer, Call, closing, Others, answer, answers, afterAll}
-use Rattle.book.specs.AnyCallLaws.{answer-alike, answers-alike, afterAll-alike, rate-held, AllFit}
+use Rattle.book.specs.closing.Closing.{Closed, reportLength, closeOf}
+use Rattle.book.specs.opening.Opening.{openOf}
+use Rattle.book.specs.opening.OpeningLaws.{Known, DoubtfulList}
+use Rattle.book.specs.sentences.Sentences.{blanksIn, Closes, closes, opening-accepts}
+use Rattle.book.specs.rows.Costs.{RowColumns, new-costs}
+use Rattle.book.specs.calls.Calls.{Answer, Call, closing, Others, answer, answers, afterAll}
+use Rattle.book.specs.calls.CallLaws.{answer-alike, answers-alike, afterAll-alike, rate-held, AllFit}
 use Rattle.calls.specs.Keeping.{Keeping, bookOf, Good, one-session}
 use Rattle.calls.specs.Promises.{Opening}
 use Rattle.calls.specs.Step.{Step}

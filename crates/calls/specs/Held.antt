@@ -23,7 +23,7 @@ use Rattle.lists.specs.Block.{block, putBlock}
 use Rattle.lists.specs.Padded.{padded}
 use Rattle.book.specs.Model.{Model, places, width}
 use Rattle.book.specs.Book.{Entry, Book}
-use Rattle.book.specs.Opening.{fitDoubt}
+use Rattle.book.specs.opening.Opening.{fitDoubt}
 
 pub record Held : Type 0 where
   pub rate : ℕ

@@ -39,16 +39,16 @@ use Rattle.soft.specs.ColumnLaws as ColumnLaws
 use Rattle.soft.specs.ColumnLaws.{cost-column}
 use Rattle.book.specs.Model.{Model, places, width}
 use Rattle.book.specs.Book.{Entry, Book, newBook, columnIn, present, taken, someMissing}
-use Rattle.book.specs.Opening.{fitDoubt}
-use Rattle.book.specs.OpeningLaws.{list-short}
-use Rattle.book.specs.Delivery.{withEntry}
-use Rattle.book.specs.Withdrawal.{freed, withoutPlace}
-use Rattle.book.specs.WithdrawalLaws.{freed-here, freed-other}
+use Rattle.book.specs.opening.Opening.{fitDoubt}
+use Rattle.book.specs.opening.OpeningLaws.{list-short}
+use Rattle.book.specs.rows.Delivery.{withEntry}
+use Rattle.book.specs.rows.Withdrawal.{freed, withoutPlace}
+use Rattle.book.specs.rows.WithdrawalLaws.{freed-here, freed-other}
 use Rattle.book.specs.Columns.{columnsOf, columns-taken, columns-none, none-free, taken-alike, columns-alike, Agree}
-use Rattle.book.specs.RowLaws.{wide, wide-append, Proper, snoc-here, snoc-other, new-proper, entry-proper}
-use Rattle.book.specs.Closing.{reportLength, refusedClosing, decodeOf, closeOf}
-use Rattle.book.specs.ClosingLaws.{fits-of, close-missing, close-decoded}
-use Rattle.book.specs.Table.{column-beyond}
+use Rattle.book.specs.rows.RowLaws.{wide, wide-append, Proper, snoc-here, snoc-other, new-proper, entry-proper}
+use Rattle.book.specs.closing.Closing.{reportLength, refusedClosing, decodeOf, closeOf}
+use Rattle.book.specs.closing.ClosingLaws.{fits-of, close-missing, close-decoded}
+use Rattle.book.specs.tables.Table.{column-beyond}
 use Rattle.calls.specs.Held.{Held, takenBelow, newHeld, allTaken, entryAt, entriesBelow, bookOf, withColumn, withoutColumn, Good}
 
 -- ---- columns of a table

@@ -15,7 +15,7 @@ use Rattle.lists.specs.Block.{block}
 use Rattle.book.specs.Model.{Model, width}
 use Rattle.book.specs.Book.{Book, columnIn, taken}
 use Rattle.book.specs.Columns.{Agree}
-use Rattle.book.specs.RowLaws.{Proper}
+use Rattle.book.specs.rows.RowLaws.{Proper}
 use Rattle.calls.specs.Held as Fields
 use Rattle.calls.specs.Held.{Held}
 use Rattle.calls.specs.HeldLaws as laws

@@ -20,19 +20,18 @@ use Rattle.refusals.specs.Refusal.{accepted, unknownRate, wrongSize, wrongDoubt
 use Rattle.lists.specs.Block.{block}
 use Rattle.soft.specs.Column.{columnOf}
 use Rattle.book.specs.Model.{Model, places, width}
-use Rattle.book.specs.Book.{Book, newBook, columnIn, Outcome}
+use Rattle.book.specs.Book.{Book, newBook, columnIn, Outcome, Filled}
 use Rattle.book.specs.Columns.{none-free, Agree, agree-path, agree-trans}
-use Rattle.book.specs.Opening.{fitDoubt, refusedOpening, openOf}
-use Rattle.book.specs.OpeningLaws.{DoubtfulList, list-fits, list-short}
-use Rattle.book.specs.Delivery.{deliverOf}
-use Rattle.book.specs.RowLaws.{deliver-above, deliver-taken, deliver-accepted, open-refused-rate, open-refused-list, open-accepted}
-use Rattle.book.specs.Withdrawal.{withoutPlace, withdrawOf}
-use Rattle.book.specs.WithdrawalLaws.{freed-here, withdraw-above, withdraw-free, withdraw-accepted, withdraw-only}
-use Rattle.book.specs.Writing.{Filled}
-use Rattle.book.specs.Closing.{Closed, reportLength, refusedClosing, decodeOf, closeOf}
-use Rattle.book.specs.ClosingLaws.{decode-kept, decode-sized}
-use Rattle.book.specs.Sentences.{closing-sizes}
-use Rattle.book.specs.AnyCalls.{Others}
+use Rattle.book.specs.opening.Opening.{fitDoubt, refusedOpening, openOf}
+use Rattle.book.specs.opening.OpeningLaws.{DoubtfulList, list-fits, list-short}
+use Rattle.book.specs.rows.Delivery.{deliverOf}
+use Rattle.book.specs.rows.RowLaws.{deliver-above, deliver-taken, deliver-accepted, open-refused-rate, open-refused-list, open-accepted}
+use Rattle.book.specs.rows.Withdrawal.{withoutPlace, withdrawOf}
+use Rattle.book.specs.rows.WithdrawalLaws.{freed-here, withdraw-above, withdraw-free, withdraw-accepted, withdraw-only}
+use Rattle.book.specs.closing.Closing.{Closed, reportLength, refusedClosing, decodeOf, closeOf}
+use Rattle.book.specs.closing.ClosingLaws.{decode-kept, decode-sized}
+use Rattle.book.specs.sentences.Sentences.{closing-sizes}
+use Rattle.book.specs.calls.Calls.{Others}
 use Rattle.calls.specs.Held as Fields
 use Rattle.calls.specs.Held.{newHeld, allTaken, withColumn, withoutColumn}
 use Rattle.calls.specs.HeldLaws as laws

@@ -20,10 +20,10 @@ use Rattle.refusals.specs.Refusal.{accepted}
 use Rattle.book.specs.Model.{Model}
 use Rattle.book.specs.Book.{Outcome}
 use Rattle.book.specs.Columns.{Agree}
-use Rattle.book.specs.Delivery.{deliverOf}
-use Rattle.book.specs.Withdrawal.{withdrawOf}
-use Rattle.book.specs.Closing.{closeOf}
-use Rattle.book.specs.AnyCalls.{Others}
+use Rattle.book.specs.rows.Delivery.{deliverOf}
+use Rattle.book.specs.rows.Withdrawal.{withdrawOf}
+use Rattle.book.specs.closing.Closing.{closeOf}
+use Rattle.book.specs.calls.Calls.{Others}
 use Rattle.calls.specs.Keeping.{Keeping, bookOf, Good}
 
 module _ (𝓓 : Model) {S : Type 0} (K : Keeping S) where

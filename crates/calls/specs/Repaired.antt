@@ -28,12 +28,12 @@ use Rattle.book.specs.Model.{Model, width}
 use Rattle.book.specs.Book.{Book, newBook}
 use Rattle.book.specs.Columns.{columnsOf}
 use Rattle.book.specs.Entries.{Missing}
-use Rattle.book.specs.Opening.{openOf}
-use Rattle.book.specs.OpeningLaws.{Known, DoubtfulList}
-use Rattle.book.specs.Closing.{Closed, reportLength, closeOf}
-use Rattle.book.specs.AnyCalls.{Answer, Call, closing, Others, afterAll}
-use Rattle.book.specs.AnyCallLaws.{rate-held, list-held}
-use Rattle.book.specs.Repairs.{FewWrong, notBest, Repaired, NoDearer, TooFar, RefusedAs, Alone, Sure, Never, always-repaired, always-refused, always-found, few-alone, always-alone, never-another}
+use Rattle.book.specs.opening.Opening.{openOf}
+use Rattle.book.specs.opening.OpeningLaws.{Known, DoubtfulList}
+use Rattle.book.specs.closing.Closing.{Closed, reportLength, closeOf}
+use Rattle.book.specs.calls.Calls.{Answer, Call, closing, Others, afterAll}
+use Rattle.book.specs.calls.CallLaws.{rate-held, list-held}
+use Rattle.book.specs.sentences.Repairs.{FewWrong, notBest, Repaired, NoDearer, TooFar, RefusedAs, Alone, Sure, Never, always-repaired, always-refused, always-found, few-alone, always-alone, never-another}
 use Rattle.calls.specs.Keeping.{Keeping}
 use Rattle.calls.specs.Promises.{Opening}
 use Rattle.calls.specs.PromiseLaws.{no-places}

@@ -21,9 +21,9 @@ use Rattle.book.specs.Machine as machine
 use Rattle.book.specs.Machine.{fit-nil, fit-cons}
 use Rattle.book.specs.Model.{Model, places, width}
 use Rattle.book.specs.Columns.{Agree}
-use Rattle.book.specs.Costs.{IsColumn}
-use Rattle.book.specs.AnyCalls.{Answer, Call, deliver, withdraw, closing, other, Others, answer, after, answers, afterAll}
-use Rattle.book.specs.AnyCallLaws.{likeness, refused-lent, lent-sized, Fits, AllFit}
+use Rattle.book.specs.rows.Costs.{IsColumn}
+use Rattle.book.specs.calls.Calls.{Answer, Call, deliver, withdraw, closing, other, Others, answer, after, answers, afterAll}
+use Rattle.book.specs.calls.CallLaws.{likeness, refused-lent, lent-sized, Fits, AllFit}
 use Rattle.calls.specs.Held.{withColumn, withoutColumn}
 use Rattle.calls.specs.Keeping.{Keeping, bookOf, Good, good-proper, one-session}
 use Rattle.calls.specs.Promises.{Delivery, Withdrawal, Closing, Asking}

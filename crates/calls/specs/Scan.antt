@@ -15,7 +15,7 @@ use lib.Seq.{drop-cons}
 use borrow.Author.Tests.{lt-ltb, le-ltb, le-leb, lt-leb, eq-eqb, ne-eqb}
 use Rattle.lists.specs.Distinct.{among, below}
 use Rattle.book.specs.Model.{Model, places}
-use Rattle.book.specs.Opening.{risingFrom, rising, fitPlaces, fitDoubt}
+use Rattle.book.specs.opening.Opening.{risingFrom, rising, fitPlaces, fitDoubt}
 
 -- ---- a search
 

@@ -20,9 +20,9 @@ use Rattle.refusals.specs.Refusal.{accepted}
 use Rattle.lists.specs.Distinct.{below, below-at}
 use Rattle.book.specs.Model.{Model, width}
 use Rattle.book.specs.Columns.{Agree, agree-path}
-use Rattle.book.specs.Costs.{IsColumn}
-use Rattle.book.specs.AnyCalls.{Answer, Call, deliver, withdraw, closing, other, Others, firstLent, secondLent, answer, after}
-use Rattle.book.specs.AnyCallLaws.{Fits}
+use Rattle.book.specs.rows.Costs.{IsColumn}
+use Rattle.book.specs.calls.Calls.{Answer, Call, deliver, withdraw, closing, other, Others, firstLent, secondLent, answer, after}
+use Rattle.book.specs.calls.CallLaws.{Fits}
 use Rattle.calls.specs.Keeping.{Keeping, bookOf, Good}
 use Rattle.calls.specs.Promises.{Delivery, Withdrawal, Closing, Asking}
 

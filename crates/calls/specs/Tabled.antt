@@ -27,20 +27,20 @@ use Rattle.refusals.specs.Refusal.{accepted}
 use Rattle.book.specs.Machine.{afterBy, carried, after-append, fit-cons}
 use Rattle.book.specs.Model.{Model, places}
 use Rattle.book.specs.Book.{Entry, Book, newBook, columnIn, present, taken, Outcome}
-use Rattle.book.specs.Delivery.{withEntry}
-use Rattle.book.specs.Withdrawal.{withoutPlace, withdrawOf}
-use Rattle.book.specs.WithdrawalLaws.{freed-here, freed-other, withdraw-free, withdraw-accepted}
+use Rattle.book.specs.rows.Delivery.{withEntry}
+use Rattle.book.specs.rows.Withdrawal.{withoutPlace, withdrawOf}
+use Rattle.book.specs.rows.WithdrawalLaws.{freed-here, freed-other, withdraw-free, withdraw-accepted}
 use Rattle.book.specs.Columns.{column-free, none-free, Agree}
-use Rattle.book.specs.RowLaws.{none-above, column-append, deliver-accepted}
-use Rattle.book.specs.Opening.{openOf}
-use Rattle.book.specs.OpeningLaws.{Known, fits-list}
-use Rattle.book.specs.Closing.{closeOf}
-use Rattle.book.specs.AnyCalls.{Answer, Call, deliver, closing, withdraw, Others, answer, after, afterAll}
-use Rattle.book.specs.AnyCallLaws.{Changes, only-changes, rate-held, list-held}
-use Rattle.book.specs.AnyUndone.{Spares}
-use Rattle.book.specs.Sentences.{closing-alike}
-use Rattle.book.specs.Table.{tableLength, tableColumns, pickedOf, tableOf, Delivered, picked-fit, table-as-session}
-use Rattle.book.specs.Below.{pickedBelow, tableBelowOf, doubtFor, doubt-for-most, below-picked, below-as-table}
+use Rattle.book.specs.rows.RowLaws.{none-above, column-append, deliver-accepted}
+use Rattle.book.specs.opening.Opening.{openOf}
+use Rattle.book.specs.opening.OpeningLaws.{Known, fits-list}
+use Rattle.book.specs.closing.Closing.{closeOf}
+use Rattle.book.specs.calls.Calls.{Answer, Call, deliver, closing, withdraw, Others, answer, after, afterAll}
+use Rattle.book.specs.calls.CallLaws.{Changes, only-changes, rate-held, list-held}
+use Rattle.book.specs.calls.Undone.{Spares}
+use Rattle.book.specs.sentences.Sentences.{closing-alike}
+use Rattle.book.specs.tables.Table.{tableLength, tableColumns, pickedOf, tableOf, Delivered, picked-fit, table-as-session}
+use Rattle.book.specs.tables.Below.{pickedBelow, tableBelowOf, doubtFor, doubt-for-most, below-picked, below-as-table}
 use Rattle.calls.specs.Keeping.{Keeping, bookOf, Good, good-proper}
 use Rattle.calls.specs.Promises.{Opening}
 use Rattle.calls.specs.Step.{Step}

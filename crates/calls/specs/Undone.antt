@@ -19,9 +19,9 @@ use Rattle.book.specs.Model.{Model, width}
 use Rattle.book.specs.Book.{Book}
 use Rattle.book.specs.Columns.{agree-sym, agree-trans, agree-path}
 use Rattle.book.specs.Machine.{afterBy, after-append, each-append, accepted-each}
-use Rattle.book.specs.AnyCalls.{Answer, Call, deliver, withdraw, Others, answer, after, afterAll}
-use Rattle.book.specs.AnyCallLaws.{AllFit}
-use Rattle.book.specs.AnyUndone.{Spares, accepts, acceptedOf, undone-calls}
+use Rattle.book.specs.calls.Calls.{Answer, Call, deliver, withdraw, Others, answer, after, afterAll}
+use Rattle.book.specs.calls.CallLaws.{AllFit}
+use Rattle.book.specs.calls.Undone.{Spares, accepts, acceptedOf, undone-calls}
 use Rattle.calls.specs.Keeping.{Keeping, bookOf, Good, one-session}
 use Rattle.calls.specs.PromiseLaws.{withdrawn-cleared}
 use Rattle.calls.specs.Step.{Step}

@@ -12,9 +12,9 @@ use lib.ListN.{length}
 use Rattle.lists.specs.Listed.{listed}
 use Rattle.soft.specs.CostBytes.{costBytes}
 use Rattle.book.specs.Book.{Entry}
-use Rattle.book.specs.Capture.{bodyLength, versionOf}
-use Rattle.book.specs.Model.{modem64}
-use Rattle.book.specs.Calls.{write, others64}
+use Rattle.book64.specs.captures.Capture.{bodyLength, versionOf}
+use Rattle.book64.specs.Modem64.{modem64}
+use Rattle.book64.specs.calls.Calls.{write, others64}
 use Rattle.calls.specs.Promises.{Asking}
 use Rattle.session.specs.declared.Session.{Session}
 use Rattle.session.specs.View.{keeping, entryAt}

@@ -7,12 +7,12 @@
 use mathlib.Core.Path.{_≡_, refl, sym, ap, _∙_}
 use mathlib.Core.List.{List, [], _∷_}
 use Rattle.refusals.specs.Refusal.{accepted}
-use Rattle.book.specs.Model.{modem64}
+use Rattle.book64.specs.Modem64.{modem64}
 use Rattle.book.specs.Book.{Entry, Outcome}
-use Rattle.book.specs.Here.{refusedOpening, deliverRow}
+use Rattle.book64.specs.Here.{refusedOpening, deliverRow}
 use Rattle.book.specs.Columns.{agree-refl, agree-sym, agree-trans}
-use Rattle.book.specs.RowDelivery.{row-none, row-on, row-refused}
-use Rattle.book.specs.AlikeDelivery.{Agreed, agreed-path, agreed-trans, row-alike}
+use Rattle.book.specs.rows.RowDelivery.{row-none, row-on, row-refused}
+use Rattle.book.specs.rows.AlikeDelivery.{Agreed, agreed-path, agreed-trans, row-alike}
 use Rattle.session.specs.declared.Session.{Session}
 use Rattle.session.specs.declared.Opened.{Opened}
 use Rattle.session.specs.declared.Delivered.{Delivered}

@@ -12,17 +12,17 @@ use Prim.Native.Nat.{ℕ}
 use lib.ListN.{length}
 use Rattle.refusals.specs.Refusal.{accepted}
 use Rattle.lists.specs.Distinct.{below}
-use Rattle.book.specs.Model.{modem64}
-use Rattle.book.specs.Book.{Outcome}
+use Rattle.book64.specs.Modem64.{modem64}
+use Rattle.book.specs.Book.{Outcome, Filled}
 use Rattle.book.specs.Columns.{agree-sym, agree-trans, agree-path}
-use Rattle.book.specs.Capture.{captureOf}
-use Rattle.book.specs.Writing.{Filled, writeOf}
-use Rattle.book.specs.CaptureOpening.{recordsIn, openCaptureOf}
-use Rattle.book.specs.CaptureCases.{capture-refused}
-use Rattle.book.specs.PlaceOrder.{InPlaceOrder, order-agree}
-use Rattle.book.specs.RoundTrip.{write-whole, written-opened}
-use Rattle.book.specs.WritingLaws.{writing-alike}
-use Rattle.book.specs.Here.{ordered}
+use Rattle.book64.specs.captures.Capture.{captureOf}
+use Rattle.book64.specs.captures.Writing.{writeOf}
+use Rattle.book64.specs.captures.CaptureOpening.{recordsIn, openCaptureOf}
+use Rattle.book64.specs.captures.CaptureCases.{capture-refused}
+use Rattle.book.specs.rows.PlaceOrder.{InPlaceOrder, order-agree}
+use Rattle.book64.specs.captures.RoundTrip.{write-whole, written-opened}
+use Rattle.book64.specs.captures.WritingLaws.{writing-alike}
+use Rattle.book64.specs.Here.{ordered}
 use Rattle.session.specs.declared.Session.{Session}
 use Rattle.session.specs.declared.Opened.{Opened}
 use Rattle.session.specs.View.{newSession, bookOf, Good}
@@ -44,7 +44,7 @@ write-then-open s before after r o good w n d = (
     written = sym (w .number good) ∙ n
 
     again : openCaptureOf after ≡ record { number = accepted; book = ordered (bookOf s) }
-    again = ap openCaptureOf (w .bytes good) ∙ Rattle.book.specs.RoundTrip.write-then-open (bookOf s) before (good-proper s good) written
+    again = ap openCaptureOf (w .bytes good) ∙ Rattle.book64.specs.captures.RoundTrip.write-then-open (bookOf s) before (good-proper s good) written
 
 pub open-then-write : (bytes before after : List ℕ) (r : ℕ) (o : Opened) → below 256 bytes ≡ true → Opening (openCaptureOf bytes) o
     → o .refusal ≡ accepted → length before ≡ length bytes → Writing (o .session) before r after
@@ -52,7 +52,7 @@ pub open-then-write : (bytes before after : List ℕ) (r : ℕ) (o : Opened) →
 open-then-write bytes before after r o b d n e w =
     let opened : openCaptureOf bytes .number ≡ accepted = sym (d .number) ∙ n in
     let again : writeOf (bookOf (o .session)) before ≡ record { number = accepted; bytes = captureOf (openCaptureOf bytes .book) } =
-    writing-alike (d .book) before ∙ Rattle.book.specs.RoundTrip.open-then-write bytes before b opened e in
+    writing-alike (d .book) before ∙ Rattle.book64.specs.captures.RoundTrip.open-then-write bytes before b opened e in
     let written : after ≡ captureOf (openCaptureOf bytes .book) = w .bytes (d .good) ∙ ap (λ (f : Filled). f .bytes) again in
     let order = written-opened bytes b opened in (
       w .number (d .good) ∙ ap (λ (f : Filled). f .number) again,

@@ -1,7 +1,7 @@
 // The layout of a capture: its versions, and where its parts stand and how many bytes they have. It knows of no code that writes or reads one.
 // What a capture holds is written in `book`; what writing and opening one answer, and their round trips, in specs/.
 ghost use mathlib.Core.Path.{_≡_};
-ghost use Rattle.book.specs.Capture.{isVersion, versionOf};
+ghost use Rattle.book64.specs.captures.Capture.{isVersion, versionOf};
 use doubt::MOST_DOUBT;
 
 // The versions of captures that are written and read, and the most doubtful places of the first one.

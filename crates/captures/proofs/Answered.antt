@@ -8,17 +8,17 @@ use lib.ListN.{length}
 use borrow.Author.Tests.{eq-eqb, ne-eqb}
 use Rattle.refusals.specs.Refusal.{accepted, wrongSize}
 use Rattle.soft.specs.Column.{costsFrom, columnOf}
-use Rattle.book.specs.Model.{modem64}
+use Rattle.book64.specs.Modem64.{modem64}
 use Rattle.book.specs.Book.{Entry, Outcome}
 use Rattle.book.specs.Columns.{agree-sym}
-use Rattle.book.specs.AlikeDelivery.{Agreed, agreed-path, agreed-trans, row-alike}
-use Rattle.book.specs.WritingLaws.{writing-alike}
-use Rattle.book.specs.Sentences.{closing-alike}
-use Rattle.book.specs.Closing.{refusedClosing}
-use Rattle.book.specs.Table.{closed, entriesOf}
-use Rattle.book.specs.Table as Table
-use Rattle.book.specs.Delivery as BookDelivery
-use Rattle.book.specs.Here.{places, width, tableLength, openOf, deliverRow}
+use Rattle.book.specs.rows.AlikeDelivery.{Agreed, agreed-path, agreed-trans, row-alike}
+use Rattle.book64.specs.captures.WritingLaws.{writing-alike}
+use Rattle.book.specs.sentences.Sentences.{closing-alike}
+use Rattle.book.specs.closing.Closing.{refusedClosing}
+use Rattle.book.specs.tables.Table.{closed, entriesOf}
+use Rattle.book.specs.tables.Table as Table
+use Rattle.book.specs.rows.Delivery as BookDelivery
+use Rattle.book64.specs.Here.{places, width, tableLength, openOf, deliverRow}
 use Rattle.session.specs.declared.Session.{Session}
 use Rattle.session.specs.declared.Opened.{Opened}
 use Rattle.session.specs.declared.Delivered.{Delivered}

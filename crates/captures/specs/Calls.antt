@@ -19,12 +19,12 @@ use Prim.Native.Nat.{ℕ, zero, suc}
 use lib.Dec.{eqb}
 use lib.ListN.{length}
 use Rattle.refusals.specs.Refusal.{accepted, wrongSize}
-use Rattle.book.specs.Book.{Entry, Book, Outcome}
-use Rattle.book.specs.Closing.{Closed, refusedClosing}
-use Rattle.book.specs.Table.{entriesOf}
-use Rattle.book.specs.Writing.{Filled, writeOf}
-use Rattle.book.specs.CaptureOpening.{openCaptureOf}
-use Rattle.book.specs.Here.{places, tableLength, tableColumns, refusedOpening, openOf, onAccepted, deliverRow, closeOf}
+use Rattle.book.specs.Book.{Entry, Book, Outcome, Filled}
+use Rattle.book.specs.closing.Closing.{Closed, refusedClosing}
+use Rattle.book.specs.tables.Table.{entriesOf}
+use Rattle.book64.specs.captures.Writing.{writeOf}
+use Rattle.book64.specs.captures.CaptureOpening.{openCaptureOf}
+use Rattle.book64.specs.Here.{places, tableLength, tableColumns, refusedOpening, openOf, onAccepted, deliverRow, closeOf}
 use Rattle.session.specs.declared.Opened.{Opened}
 use Rattle.session.specs.Calls.{Opening}
 

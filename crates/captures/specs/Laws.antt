@@ -19,19 +19,19 @@ use lib.ListN.{length}
 use borrow.Author.Tests.{eq-eqb, ne-eqb}
 use Rattle.refusals.specs.Refusal.{accepted, wrongSize}
 use Rattle.lists.specs.Distinct.{below}
-use Rattle.book.specs.Model.{modem64}
+use Rattle.book64.specs.Modem64.{modem64}
 use Rattle.book.specs.Book.{Book, Outcome}
-use Rattle.book.specs.Closing.{refusedClosing, closingFits}
-use Rattle.book.specs.ClosingLaws.{close-size, close-decoded}
-use Rattle.book.specs.Capture.{captureLength, captureOf}
-use Rattle.book.specs.Writing.{writeOf}
-use Rattle.book.specs.CaptureOpening.{recordsIn, openCaptureOf}
-use Rattle.book.specs.CaptureCases.{bookIn, capture-fit, capture-proper}
-use Rattle.book.specs.PlaceOrder.{InPlaceOrder, order-agree}
-use Rattle.book.specs.RoundTrip.{written-order, open-written, write-accepted, write-whole, none-missing, written-opened, open-then-write}
-use Rattle.book.specs.WritingLaws.{writing-alike}
-use Rattle.book.specs.Sentences.{closing-alike}
-use Rattle.book.specs.Here.{someMissing, columnsOf, Proper, ordered, decodeOf, closeOf}
+use Rattle.book.specs.closing.Closing.{refusedClosing, closingFits}
+use Rattle.book.specs.closing.ClosingLaws.{close-size, close-decoded}
+use Rattle.book64.specs.captures.Capture.{captureLength, captureOf}
+use Rattle.book64.specs.captures.Writing.{writeOf}
+use Rattle.book64.specs.captures.CaptureOpening.{recordsIn, openCaptureOf}
+use Rattle.book64.specs.captures.CaptureCases.{bookIn, capture-fit, capture-proper}
+use Rattle.book.specs.rows.PlaceOrder.{InPlaceOrder, order-agree}
+use Rattle.book64.specs.captures.RoundTrip.{written-order, open-written, write-accepted, write-whole, none-missing, written-opened, open-then-write}
+use Rattle.book64.specs.captures.WritingLaws.{writing-alike}
+use Rattle.book.specs.sentences.Sentences.{closing-alike}
+use Rattle.book64.specs.Here.{someMissing, columnsOf, Proper, ordered, decodeOf, closeOf}
 use Rattle.captures.specs.Calls.{filled, closeOpened, writeOpened, decodeCaptureOf, sortCaptureOf}
 
 module _ (bytes : List ℕ) where

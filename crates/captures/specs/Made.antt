@@ -22,19 +22,19 @@ use Rattle.lists.specs.Distinct.{below, distinct, among, and-both}
 use Rattle.soft.specs.ColumnLaws.{column-length}
 use Rattle.soft.specs.Doubt.{mostDoubt}
 use Rattle.code.specs.Encoding.{knownRate}
-use Rattle.book.specs.Model.{modem64}
+use Rattle.book64.specs.Modem64.{modem64}
 use Rattle.book.specs.Book.{Book}
-use Rattle.book.specs.Opening as BookOpening
-use Rattle.book.specs.Delivery as BookDelivery
-use Rattle.book.specs.RowLaws as BookRows
-use Rattle.book.specs.Table as BookTable
-use Rattle.book.specs.RowLaws.{open-refused-rate, open-refused-list, open-accepted}
-use Rattle.book.specs.Table.{Delivered, entriesOf, entries-places, order-delivered, order-accepted, delivered-none-missing, picked-fit, table-as-session}
-use Rattle.book.specs.Below.{below-fit, below-as-session}
-use Rattle.book.specs.Capture.{captureLength, captureOf}
-use Rattle.book.specs.CaptureOpening.{openCaptureOf}
-use Rattle.book.specs.RoundTrip.{open-written, write-size, write-accepted}
-use Rattle.book.specs.Here.{places, width, someMissing, fitDoubt, wide, Proper, ordered, closeOf, tableLength, tableColumns, pickedOf, pickedBelow, tableOf, tableBelowOf}
+use Rattle.book.specs.opening.Opening as BookOpening
+use Rattle.book.specs.rows.Delivery as BookDelivery
+use Rattle.book.specs.rows.RowLaws as BookRows
+use Rattle.book.specs.tables.Table as BookTable
+use Rattle.book.specs.rows.RowLaws.{open-refused-rate, open-refused-list, open-accepted}
+use Rattle.book.specs.tables.Table.{Delivered, entriesOf, entries-places, order-delivered, order-accepted, delivered-none-missing, picked-fit, table-as-session}
+use Rattle.book.specs.tables.Below.{below-fit, below-as-session}
+use Rattle.book64.specs.captures.Capture.{captureLength, captureOf}
+use Rattle.book64.specs.captures.CaptureOpening.{openCaptureOf}
+use Rattle.book64.specs.captures.RoundTrip.{open-written, write-size, write-accepted}
+use Rattle.book64.specs.Here.{places, width, someMissing, fitDoubt, wide, Proper, ordered, closeOf, tableLength, tableColumns, pickedOf, pickedBelow, tableOf, tableBelowOf}
 use Rattle.captures.specs.Calls.{filled, writeOpened, decodeCaptureOf, sortCaptureOf, upFrom, tableEntries, deliverTable, openTable, makeCaptureOf}
 use Rattle.captures.specs.Laws.{written-decodes, written-sorts}
 

@@ -2,8 +2,8 @@
 // Each makes calls on a session, one after the other, up to the first that is refused, and adds no check but that of the table's size.
 ghost use mathlib.Core.Path.{_≡_};
 ghost use Rattle.soft.specs.Column.{columnOf};
-ghost use Rattle.book.specs.Table.{closed};
-ghost use Rattle.book.specs.Here.{width, deliverRow};
+ghost use Rattle.book.specs.tables.Table.{closed};
+ghost use Rattle.book64.specs.Here.{width, deliverRow};
 ghost use Rattle.session.specs.View.{bookOf, Good};
 ghost use Rattle.session.specs.Calls.{Opening};
 ghost use Rattle.captures.specs.Calls.{filled, decodeCaptureOf, sortCaptureOf, tableEntries, openTable, makeCaptureOf, WritesOpened};

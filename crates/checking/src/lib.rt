@@ -6,7 +6,7 @@ use refusals::UNKNOWN_RATE;
 use refusals::WRONG_SIZE;
 use totals::report::REPORT_BYTES;
 ghost use mathlib.Core.Path.{_≡_};
-ghost use Rattle.book.specs.Here.{checksOf};
+ghost use Rattle.book64.specs.Here.{checksOf};
 
 // The refusal, or 0: by the lengths of what is given, beside the one wanted, of the message and of the report.
 pub fn checks(rate: usize, given: usize, wanted: usize, message: usize, report: usize) -> u8

@@ -22,9 +22,9 @@ use Rattle.answer.specs.declared.Margin.{Margin}
 use Rattle.answer.specs.Margin.{marginIs}
 use Rattle.code.specs.Encoding.{encodeOf, mostRate}
 use Rattle.near.specs.Here.{mOf, blankLimit, blanksIn}
-use Rattle.book.specs.Model.{modem64}
-use Rattle.book.specs.Table.{closed}
-use Rattle.book.specs.Here.{decodeOf}
+use Rattle.book64.specs.Modem64.{modem64}
+use Rattle.book.specs.tables.Table.{closed}
+use Rattle.book64.specs.Here.{decodeOf}
 use Rattle.answer.specs.declared.Answer.the-variants.{NoneNear, Near}
 use Rattle.answers.specs.declared.Finding.{Finding}
 use Rattle.search.specs.Result.{totalIs, total-near, nothingFound}

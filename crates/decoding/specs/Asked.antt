@@ -7,7 +7,7 @@ use Prim.Native.Nat.{ℕ, _<_, _≤_}
 use native.Mathlib.Omega.{arith}
 use Rattle.soft.specs.Column.{symbols, columnOf}
 use Rattle.near.specs.Here.{blankLimit, blanksIn}
-use Rattle.book.specs.Model.{modem64}
+use Rattle.book64.specs.Modem64.{modem64}
 use Rattle.answering.specs.Asked as Answering
 use Rattle.chase.specs.Call.{Asked}
 

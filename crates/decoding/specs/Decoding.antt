@@ -3,7 +3,7 @@
 --   Decodable, unansweredOf   mean what they mean in `answering` Decoding
 use mathlib.Core.List.{List}
 use Prim.Native.Nat.{ℕ}
-use Rattle.book.specs.Model.{modem64}
+use Rattle.book64.specs.Modem64.{modem64}
 use Rattle.answering.specs.Decoding as Answering
 
 abbrev pub Decodable : ℕ → List ℕ → List ℕ → ℕ → List ℕ → List ℕ → Type 0

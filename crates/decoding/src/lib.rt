@@ -19,8 +19,8 @@ ghost use Rattle.code.specs.Encoding.{knownRate};
 ghost use Rattle.soft.specs.Column.{places, symbols, columnOf};
 ghost use Rattle.soft.specs.Blank.{flagsOf};
 ghost use Rattle.summary.specs.Summary.{SummaryOf};
-ghost use Rattle.book.specs.Table.{closed};
-ghost use Rattle.book.specs.Here.{decodeOf};
+ghost use Rattle.book.specs.tables.Table.{closed};
+ghost use Rattle.book64.specs.Here.{decodeOf};
 ghost use Rattle.decoding.specs.Decoding.{Decodable, unansweredOf};
 
 // Why nothing was found: more places are blank than leave a T, or no codeword is near.

@@ -43,9 +43,9 @@ use Rattle.candidate.specs.declared.Candidate.{Candidate}
 use Rattle.candidate.specs.Candidate.{CandidateOf}
 use Rattle.elimination.specs.declared.solving.Solved.{Solved}
 use Rattle.elimination.specs.Solving.{SolvedOf}
-use Rattle.book.specs.Here.{places}
-use Rattle.book.specs.Engine.{unblankedBy, eliminated, engineChecks, engineOf}
-use Rattle.book.specs.EngineLaws.{EnginePassed, engine-passed, engine-refused, engine-none, engine-some, unblanked-count}
+use Rattle.book64.specs.Here.{places}
+use Rattle.book64.specs.engine.Engine.{unblankedBy, eliminated, engineChecks, engineOf}
+use Rattle.book64.specs.engine.EngineLaws.{EnginePassed, engine-passed, engine-refused, engine-none, engine-some, unblanked-count}
 use Rattle.engine.specs.declared.Solution.{Solution}
 use Rattle.engine.specs.Solution.{openFlag, SolutionOf}
 open Field K16 using (_⊗_)

@@ -16,7 +16,7 @@ use Rattle.near.specs.Near.{codewordNear}
 use Rattle.near.specs.Interpolated.{nodesOf}
 use Rattle.near.specs.Here.{mOf, reachOf}
 use Rattle.interpolant.specs.LeastQ.{readingOf}
-use Rattle.book.specs.Engine.{unblankedBy}
+use Rattle.book64.specs.engine.Engine.{unblankedBy}
 use Rattle.engine.specs.declared.Solution.{Solution}
 
 abbrev pub openFlag : List ℕ → ℕ → ℕ

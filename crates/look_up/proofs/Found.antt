@@ -5,10 +5,10 @@ use Prim.Native.Nat.{ℕ, _+_, _-_, _*_, _<_}
 use native.Mathlib.Omega.{arith}
 use lib.ListN.{take, drop}
 use Rattle.refusals.specs.Refusal.{accepted}
-use Rattle.book.specs.CaptureOpening.{doubtIn, openCaptureOf}
-use Rattle.book.specs.LookUp.{recordWith, costsBegin, lookUpOf}
-use Rattle.book.specs.LookUpLaws.{look-up-part}
-use Rattle.book.specs.Here.{places}
+use Rattle.book64.specs.captures.CaptureOpening.{doubtIn, openCaptureOf}
+use Rattle.book64.specs.captures.LookUp.{recordWith, costsBegin, lookUpOf}
+use Rattle.book64.specs.captures.LookUpLaws.{look-up-part}
+use Rattle.book64.specs.Here.{places}
 
 pub part-found : (bytes : List ℕ) (p i : ℕ) → p < places → openCaptureOf bytes .number ≡ accepted
     → i ≡ recordWith p places (drop (5 + doubtIn bytes) bytes)

@@ -8,9 +8,9 @@ use lib.Dec.{eqb}
 use lib.ListN.{getD, drop}
 use lib.Seq.{drop-drop}
 use borrow.Author.Tests.{eq-eqb, ne-eqb}
-use Rattle.book.specs.Capture.{recordLength}
-use Rattle.book.specs.LookUp.{recordWith}
-use Rattle.book.specs.Here.{places}
+use Rattle.book64.specs.captures.Capture.{recordLength}
+use Rattle.book64.specs.captures.LookUp.{recordWith}
+use Rattle.book64.specs.Here.{places}
 use Rattle.capture.specs.Rest.{rest-first}
 
 module _ (p : ℕ) (records : List ℕ) (i : ℕ) (h : i < places) where

@@ -3,9 +3,9 @@
 ghost use mathlib.Core.Path.{_≡_};
 ghost use Prim.Native.Nat.{_*_};
 ghost use lib.ListN.{length};
-ghost use Rattle.book.specs.Capture.{recordLength};
-ghost use Rattle.book.specs.LookUp.{recordWith, lookUpOf};
-ghost use Rattle.book.specs.Here.{places};
+ghost use Rattle.book64.specs.captures.Capture.{recordLength};
+ghost use Rattle.book64.specs.captures.LookUp.{recordWith, lookUpOf};
+ghost use Rattle.book64.specs.Here.{places};
 use capture::COLUMN_BYTES;
 use capture::DOUBT_AT;
 use capture::HEAD_BYTES;

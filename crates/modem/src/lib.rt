@@ -2,8 +2,8 @@
 ghost use mathlib.Core.Path.{_≡_};
 ghost use Rattle.family.specs.Calls.{outcome};
 ghost use Rattle.code.specs.Calls.{encodeCall, readBackCall};
-ghost use Rattle.book.specs.Table.{closed};
-ghost use Rattle.book.specs.Here.{tableOf, bitsOf, tableBelowOf};
+ghost use Rattle.book.specs.tables.Table.{closed};
+ghost use Rattle.book64.specs.Here.{tableOf, bitsOf, tableBelowOf};
 ghost use Rattle.superframe.specs.Superframe.{buildOf, taken, takenOf};
 ghost use Rattle.captures.specs.Calls.{filled, decodeCaptureOf, sortCaptureOf, makeCaptureOf};
 

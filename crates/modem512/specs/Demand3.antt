@@ -26,19 +26,19 @@ use Rattle.book.specs.Model.{places, width}
 use Rattle.book.specs.Book.{Book, newBook}
 use Rattle.book.specs.Columns.{Agree}
 use Rattle.book.specs.Entries.{Missing}
-use Rattle.book.specs.Opening.{openOf}
-use Rattle.book.specs.OpeningLaws.{Known, DoubtfulList}
-use Rattle.book.specs.Delivery.{withEntry}
-use Rattle.book.specs.Withdrawal.{withoutPlace}
-use Rattle.book.specs.Closing.{reportLength}
-use Rattle.book.specs.Sentences.{IsNear, IsAnswer}
-use Rattle.book.specs.Table.{tableLength}
+use Rattle.book.specs.opening.Opening.{openOf}
+use Rattle.book.specs.opening.OpeningLaws.{Known, DoubtfulList}
+use Rattle.book.specs.rows.Delivery.{withEntry}
+use Rattle.book.specs.rows.Withdrawal.{withoutPlace}
+use Rattle.book.specs.closing.Closing.{reportLength}
+use Rattle.book.specs.sentences.Sentences.{IsNear, IsAnswer}
+use Rattle.book.specs.tables.Table.{tableLength}
 use Rattle.book.specs.Machine as machine
-use Rattle.book.specs.AnyCalls as book
-use Rattle.book.specs.AnyCalls.{Answer, deliver, withdraw, closing, Others, noOthers}
-use Rattle.book.specs.AnyCallLaws as laws
-use Rattle.book.specs.AnyUndone as undoing
-use Rattle.book.specs.AnyUndone.{Spares}
+use Rattle.book.specs.calls.Calls as book
+use Rattle.book.specs.calls.Calls.{Answer, deliver, withdraw, closing, Others, noOthers}
+use Rattle.book.specs.calls.CallLaws as laws
+use Rattle.book.specs.calls.Undone as undoing
+use Rattle.book.specs.calls.Undone.{Spares}
 use Rattle.calls.specs.Held as Fields
 use Rattle.calls.specs.Held.{newHeld}
 use Rattle.calls.specs.Keeping.{Keeping, bookOf, Good}

@@ -21,11 +21,11 @@ use Rattle.near.specs.Near.{mOf, blankLimit, reachOf}
 use Rattle.near.specs.Reach.{Workable, Reach, reach-is}
 use Rattle.book.specs.Model.{Model, places, width}
 use Rattle.book.specs.Book.{newBook}
-use Rattle.book.specs.Opening.{refusedOpening}
-use Rattle.book.specs.OpeningLaws.{DoubtfulList}
-use Rattle.book.specs.Closing.{reportLength}
-use Rattle.book.specs.Table.{tableLength}
-use Rattle.book.specs.Report.{numberIn, pinnedIn, changedIn, runnerIn, marginIn, markIn, number-byte}
+use Rattle.book.specs.opening.Opening.{refusedOpening}
+use Rattle.book.specs.opening.OpeningLaws.{DoubtfulList}
+use Rattle.book.specs.closing.Closing.{reportLength}
+use Rattle.book.specs.tables.Table.{tableLength}
+use Rattle.book.specs.closing.Report.{numberIn, pinnedIn, changedIn, runnerIn, marginIn, markIn, number-byte}
 use Rattle.member64.specs.Member64.{m64}
 use Rattle.modem512.specs.Ground.{genus-8, workable-512, reaches-512, limits-512}
 

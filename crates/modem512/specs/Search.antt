@@ -16,7 +16,6 @@ use borrow.Author.Tests.{eqb-true}
 use Rattle.soft.specs.Blank.{blanksOf}
 use Rattle.soft.specs.Column.{columnOf}
 use Rattle.near.specs.Near.{blankLimit}
-use Rattle.near.specs.Reach.{Workable}
 use Rattle.near.specs.Tree.{Places}
 use Rattle.search.specs.Result.{Finding}
 use Rattle.search.specs.Call.{Scope, NearestCall}

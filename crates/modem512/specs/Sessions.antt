@@ -23,14 +23,14 @@ use Rattle.soft.specs.BlankLaws.{unblanked-length}
 use Rattle.near.specs.Reach.{Reach}
 use Rattle.near.specs.Rivals.{FewDoubtful, genus-few}
 use Rattle.book.specs.Book.{newBook}
-use Rattle.book.specs.Opening.{openOf}
-use Rattle.book.specs.OpeningLaws.{Known, DoubtfulList}
-use Rattle.book.specs.AnyCalls.{Answer, closing}
-use Rattle.book.specs.Report.{ReportedIn}
-use Rattle.book.specs.Marked.{CheapestIn}
-use Rattle.book.specs.Repairs.{FewWrong, notBest, Sure, Alone, Never, RefusedAs}
-use Rattle.book.specs.Table.{pickedOf, tableOf}
-use Rattle.book.specs.Below.{pickedBelow, tableBelowOf}
+use Rattle.book.specs.opening.Opening.{openOf}
+use Rattle.book.specs.opening.OpeningLaws.{Known, DoubtfulList}
+use Rattle.book.specs.calls.Calls.{Answer, closing}
+use Rattle.book.specs.closing.Report.{ReportedIn}
+use Rattle.book.specs.sentences.Marked.{CheapestIn}
+use Rattle.book.specs.sentences.Repairs.{FewWrong, notBest, Sure, Alone, Never, RefusedAs}
+use Rattle.book.specs.tables.Table.{pickedOf, tableOf}
+use Rattle.book.specs.tables.Below.{pickedBelow, tableBelowOf}
 use Rattle.calls.specs.Keeping.{Keeping}
 use Rattle.calls.specs.Promises.{Opening}
 use Rattle.calls.specs.Follows.{closedBy}

@@ -10,16 +10,16 @@ use borrow.Author.Tests.{le-leb, lt-leb, eq-eqb, ne-eqb}
 use Rattle.refusals.specs.Refusal.{accepted, wrongDoubt, wrongVersion, wrongLength}
 use Rattle.lists.specs.Distinct.{and-both}
 use Rattle.soft.specs.Doubt.{mostDoubt}
-use Rattle.book.specs.Model.{modem64}
+use Rattle.book64.specs.Modem64.{modem64}
 use Rattle.book.specs.Book.{Outcome}
 use Rattle.book.specs.Columns.{agree-sym}
-use Rattle.book.specs.Capture.{bodyLength, captureLength, isVersion, versionOf, recordsOf}
-use Rattle.book.specs.CaptureOpening.{versionIn, rateIn, doubtIn, listIn, recordsIn, sizeFits, versionFits, lengthIn, lengthFits, openWith, openCaptureOf}
-use Rattle.book.specs.CaptureCases.{open-size, open-version, open-length, open-refused, with-on, capture-refused}
-use Rattle.book.specs.Versions.{misfit-refused, suited-opens}
-use Rattle.book.specs.Sentences.{opening-only}
-use Rattle.book.specs.AlikeDelivery.{agreed-path, agreed-trans, row-alike}
-use Rattle.book.specs.Here.{places, openOf, deliverRow}
+use Rattle.book64.specs.captures.Capture.{bodyLength, captureLength, isVersion, versionOf, recordsOf}
+use Rattle.book64.specs.captures.CaptureOpening.{versionIn, rateIn, doubtIn, listIn, recordsIn, sizeFits, versionFits, lengthIn, lengthFits, openWith, openCaptureOf}
+use Rattle.book64.specs.captures.CaptureCases.{open-size, open-version, open-length, open-refused, with-on, capture-refused}
+use Rattle.book64.specs.captures.Versions.{misfit-refused, suited-opens}
+use Rattle.book.specs.sentences.Sentences.{opening-only}
+use Rattle.book.specs.rows.AlikeDelivery.{agreed-path, agreed-trans, row-alike}
+use Rattle.book64.specs.Here.{places, openOf, deliverRow}
 use Rattle.session.specs.declared.Opened.{Opened}
 use Rattle.session.specs.View.{bookOf}
 use Rattle.session.specs.Calls.{refusedWith, openedOf, Opening}

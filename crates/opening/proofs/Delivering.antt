@@ -7,9 +7,9 @@ use lib.ListN.{getD, take, drop}
 use lib.Seq.{drop-drop}
 use Rattle.refusals.specs.Refusal.{accepted}
 use Rattle.book.specs.Book.{Entry, Outcome}
-use Rattle.book.specs.Capture.{recordLength, recordsOf}
-use Rattle.book.specs.Here.{places, width, deliverRow}
-use Rattle.book.specs.AlikeDelivery.{Agreed, agreed-path, agreed-trans}
+use Rattle.book64.specs.captures.Capture.{recordLength, recordsOf}
+use Rattle.book64.specs.Here.{places, width, deliverRow}
+use Rattle.book.specs.rows.AlikeDelivery.{Agreed, agreed-path, agreed-trans}
 use Rattle.soft.specs.Column.{costsFrom}
 use Rattle.session.specs.declared.Session.{Session}
 use Rattle.session.specs.declared.Delivered.{Delivered}

@@ -3,9 +3,9 @@
 ghost use mathlib.Core.Path.{_≡_};
 ghost use Prim.Native.Nat.{_*_};
 ghost use lib.ListN.{length};
-ghost use Rattle.book.specs.Capture.{recordsOf, recordLength};
-ghost use Rattle.book.specs.CaptureOpening.{openCaptureOf};
-ghost use Rattle.book.specs.Here.{places, deliverRow};
+ghost use Rattle.book64.specs.captures.Capture.{recordsOf, recordLength};
+ghost use Rattle.book64.specs.captures.CaptureOpening.{openCaptureOf};
+ghost use Rattle.book64.specs.Here.{places, deliverRow};
 ghost use Rattle.session.specs.View.{bookOf, Good};
 ghost use Rattle.session.specs.Calls.{Opening};
 use capture::BODY_AT;

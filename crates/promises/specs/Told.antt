@@ -27,24 +27,24 @@ use Rattle.soft.specs.ColumnLaws.{column-length, cost-column}
 use Rattle.soft.specs.CostBytes.{costBytes}
 use Rattle.soft.specs.Doubt.{doubtfulOf}
 use Rattle.code.specs.Encoding.{knownRate}
-use Rattle.book.specs.Model.{modem64}
+use Rattle.book64.specs.Modem64.{modem64}
 use Rattle.book.specs.AlikeCalls.{writing-alike}
-use Rattle.book.specs.Book.{columnIn}
-use Rattle.book.specs.CaptureOpening.{recordsIn, openCaptureOf}
-use Rattle.book.specs.Closing.{Closed}
-use Rattle.book.specs.ClosingLaws.{refused-number, close-report}
-use Rattle.book.specs.LookUp.{lookUpOf}
-use Rattle.book.specs.LookUpLaws.{look-up-column}
-use Rattle.book.specs.Marked.{Cheapest, table-marked, shows-cheapest, close-word}
-use Rattle.book.specs.PlaceOrder.{InPlaceOrder}
-use Rattle.book.specs.Report.{ShowsFor, Reported, table-shows, report-shows}
-use Rattle.book.specs.OpeningLaws.{list-short}
-use Rattle.book.specs.Table.{closed, table-rate, checks-passed}
-use Rattle.book.specs.Below.{below-accepted, below-as-table, below-picked, doubtFor}
-use Rattle.book.specs.Bits.{bits-as-table, bits-refused, made-columns}
-use Rattle.book.specs.Table as Table
-use Rattle.book.specs.Writing.{Filled, writeOf}
-use Rattle.book.specs.Here.{places, width, markIn, mark-byte, columnsOf, closeOf, tableColumns, pickedOf, pickedBelow, tableOf, tableBelowOf, frameLength, power, tableMade, bitsOf, checksOf, AreColumns}
+use Rattle.book.specs.Book.{columnIn, Filled}
+use Rattle.book64.specs.captures.CaptureOpening.{recordsIn, openCaptureOf}
+use Rattle.book.specs.closing.Closing.{Closed}
+use Rattle.book.specs.closing.ClosingLaws.{refused-number, close-report}
+use Rattle.book64.specs.captures.LookUp.{lookUpOf}
+use Rattle.book64.specs.captures.LookUpLaws.{look-up-column}
+use Rattle.book.specs.sentences.Marked.{Cheapest, table-marked, shows-cheapest, close-word}
+use Rattle.book.specs.rows.PlaceOrder.{InPlaceOrder}
+use Rattle.book.specs.closing.Report.{ShowsFor, Reported, table-shows, report-shows}
+use Rattle.book.specs.opening.OpeningLaws.{list-short}
+use Rattle.book.specs.tables.Table.{closed, table-rate, checks-passed}
+use Rattle.book.specs.tables.Below.{below-accepted, below-as-table, below-picked, doubtFor}
+use Rattle.book.specs.tables.Bits.{bits-as-table, bits-refused, made-columns}
+use Rattle.book.specs.tables.Table as Table
+use Rattle.book64.specs.captures.Writing.{writeOf}
+use Rattle.book64.specs.Here.{places, width, markIn, mark-byte, columnsOf, closeOf, tableColumns, pickedOf, pickedBelow, tableOf, tableBelowOf, frameLength, power, tableMade, bitsOf, checksOf, AreColumns}
 use Rattle.session.specs.declared.Session.{Session}
 use Rattle.session.specs.declared.Opened.{Opened}
 use Rattle.session.specs.Answering.{Closing}

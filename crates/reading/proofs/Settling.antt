@@ -23,8 +23,8 @@ use Rattle.family.specs.Nodes.{Node, node}
 use Rattle.near.specs.Here.{mOf, m-is}
 use Rattle.interpolant.specs.LeastQ.{readingOf}
 use Rattle.values.specs.Settled.{settled, settled-nil, settled-suc}
-use Rattle.book.specs.Reading.{isSettled, settledAt, settledBelow, settledOf}
-use Rattle.book.specs.Here.{places}
+use Rattle.book64.specs.readings.Reading.{isSettled, settledAt, settledBelow, settledOf}
+use Rattle.book64.specs.Here.{places}
 use Rattle.session.specs.declared.Session.{Session}
 use Rattle.session.specs.View.{bookOf, Good}
 use Rattle.session.specs.Table.{settled-taken, settled-table}

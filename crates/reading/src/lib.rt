@@ -2,7 +2,7 @@
 // It keeps nothing between calls and writes nothing but the buffer; how Q is found is `interpolation`'s.
 ghost use mathlib.Core.Path.{_≡_};
 ghost use Rattle.lists.specs.Listed.{listed};
-ghost use Rattle.book.specs.Here.{places};
+ghost use Rattle.book64.specs.Here.{places};
 ghost use Rattle.session.specs.Answering.{Reading};
 ghost use Rattle.reading.specs.Flags.{flagOf, readFlag};
 use doubt::MOST_DOUBT;

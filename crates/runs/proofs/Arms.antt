@@ -4,7 +4,7 @@
 use mathlib.Core.Path.{_≡_, refl, sym, subst}
 use mathlib.Core.List.{List, []}
 use Prim.Native.Nat.{ℕ}
-use Rattle.book.specs.Calls.{deliver, reading, writing, closing, withdraw}
+use Rattle.book64.specs.calls.Calls.{deliver, reading, writing, closing, withdraw}
 use Rattle.session.specs.declared.Session.{Session}
 use Rattle.runs.specs.declared.Kind.{Kind}
 use Rattle.runs.specs.declared.Kind.the-variants.{Deliver, Read, Write, Close, Withdraw}

@@ -12,11 +12,11 @@ use mathlib.Core.List.{List}
 use Prim.Native.Nat.{ℕ, _<_}
 use lib.ListN.{take, getD}
 use Rattle.lists.specs.Block.{block}
-use Rattle.book.specs.Model.{modem64}
+use Rattle.book64.specs.Modem64.{modem64}
 use Rattle.book.specs.Book.{Book}
-use Rattle.book.specs.AnyCalls.{Answer}
-use Rattle.book.specs.Calls.{Call, others64, reading, writing, closing}
-use Rattle.book.specs.Here.{places, width}
+use Rattle.book.specs.calls.Calls.{Answer}
+use Rattle.book64.specs.calls.Calls.{Call, others64, reading, writing, closing}
+use Rattle.book64.specs.Here.{places, width}
 use Rattle.calls.specs.Alike as any
 use Rattle.session.specs.declared.Session.{Session}
 use Rattle.session.specs.View.{keeping}

@@ -9,10 +9,10 @@ use Prim.Native.Nat.{ℕ}
 use lib.ListN.{length}
 use Rattle.refusals.specs.Refusal.{accepted}
 use Rattle.lists.specs.Words.{Word}
-use Rattle.book.specs.OpeningLaws.{Rate, rate-known}
-use Rattle.book.specs.AnyCalls.{Answer}
-use Rattle.book.specs.Calls.{Call, others64, closing}
-use Rattle.book.specs.Here.{reportLength, openOf}
+use Rattle.book64.specs.Rates.{Rate, rate-known}
+use Rattle.book.specs.calls.Calls.{Answer}
+use Rattle.book64.specs.calls.Calls.{Call, others64, closing}
+use Rattle.book64.specs.Here.{reportLength, openOf}
 use Rattle.calls.specs.Alive as any
 use Rattle.session.specs.declared.Session.{Session}
 use Rattle.session.specs.declared.Opened.{Opened}

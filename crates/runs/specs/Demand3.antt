@@ -19,17 +19,17 @@ use Rattle.refusals.specs.Refusal.{accepted, placeMissing, noneNear, tooBlank}
 use Rattle.near.specs.Here.{m-is, blankLimit, IsReach, t-is}
 use Rattle.book.specs.Book.{Book, columnIn}
 use Rattle.book.specs.Columns.{Agree}
-use Rattle.book.specs.PlaceOrder.{InPlaceOrder}
-use Rattle.book.specs.Delivery.{withEntry}
-use Rattle.book.specs.Withdrawal.{withoutPlace}
-use Rattle.book.specs.CaptureOpening.{recordsIn}
-use Rattle.book.specs.OpeningLaws.{Rate, rate-known, rate-39, rate-49, rate-blanks, rate-reaches}
-use Rattle.book.specs.AnyCalls.{Answer}
-use Rattle.book.specs.Calls.{Call, others64, deliver, writing, closing, withdraw, firstLent, secondLent, answer, after, answers, afterAll}
-use Rattle.book.specs.Here.{openOf, reportLength, Missing, DoubtfulList, IsNear, IsAnswer}
+use Rattle.book.specs.rows.PlaceOrder.{InPlaceOrder}
+use Rattle.book.specs.rows.Delivery.{withEntry}
+use Rattle.book.specs.rows.Withdrawal.{withoutPlace}
+use Rattle.book64.specs.captures.CaptureOpening.{recordsIn}
+use Rattle.book64.specs.Rates.{Rate, rate-known, rate-39, rate-49, rate-blanks, rate-reaches}
+use Rattle.book.specs.calls.Calls.{Answer}
+use Rattle.book64.specs.calls.Calls.{Call, others64, deliver, writing, closing, withdraw, firstLent, secondLent, answer, after, answers, afterAll}
+use Rattle.book64.specs.Here.{openOf, reportLength, Missing, DoubtfulList, IsNear, IsAnswer}
 use Rattle.calls.specs.Demand3 as any
-use Rattle.book.specs.CallLaws.{AllFit}
-use Rattle.book.specs.Undone.{Spares, acceptedOf}
+use Rattle.book64.specs.calls.CallLaws.{AllFit}
+use Rattle.book64.specs.calls.Undone.{Spares, acceptedOf}
 use Rattle.session.specs.declared.Session.{Session}
 use Rattle.session.specs.declared.Opened.{Opened}
 use Rattle.session.specs.View.{keeping, bookOf, Good}

@@ -22,18 +22,18 @@ use Prim.Native.Nat.{ℕ}
 use Rattle.refusals.specs.Refusal.{accepted}
 use Rattle.lists.specs.Distinct.{below}
 use Rattle.near.specs.Here.{IsReach}
-use Rattle.book.specs.Model.{modem64}
+use Rattle.book64.specs.Modem64.{modem64}
 use Rattle.book.specs.Book.{Book, newBook}
 use Rattle.book.specs.Columns.{agree-path, agree-trans}
-use Rattle.book.specs.CaptureOpening.{rateIn, listIn, recordsIn, openCaptureOf}
+use Rattle.book64.specs.captures.CaptureOpening.{rateIn, listIn, recordsIn, openCaptureOf}
 use Rattle.code.specs.Encoding.{knownRate}
-use Rattle.book.specs.OpeningLaws.{Rate, rate-known, known-rate}
-use Rattle.book.specs.AnyCalls.{Answer}
-use Rattle.book.specs.Calls.{Call, others64, answers, afterAll}
-use Rattle.book.specs.Sentences.{opening-only}
-use Rattle.book.specs.Here.{openOf, DoubtfulList, RowColumns}
-use Rattle.book.specs.CallLaws.{rate-held}
-use Rattle.book.specs.Captured.{deliveries, capture-opens, capture-costs}
+use Rattle.book64.specs.Rates.{Rate, rate-known, known-rate}
+use Rattle.book.specs.calls.Calls.{Answer}
+use Rattle.book64.specs.calls.Calls.{Call, others64, answers, afterAll}
+use Rattle.book.specs.sentences.Sentences.{opening-only}
+use Rattle.book64.specs.Here.{openOf, DoubtfulList, RowColumns}
+use Rattle.book64.specs.calls.CallLaws.{rate-held}
+use Rattle.book64.specs.captures.Captured.{deliveries, capture-opens, capture-costs}
 use Rattle.session.specs.declared.Session.{Session}
 use Rattle.session.specs.declared.Opened.{Opened}
 use Rattle.session.specs.View.{keeping}

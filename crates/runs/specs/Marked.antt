@@ -9,11 +9,11 @@ use Prim.Native.Nat.{ℕ}
 use Rattle.refusals.specs.Refusal.{accepted}
 use Rattle.book.specs.Book.{Book, newBook}
 use Rattle.book.specs.Columns.{Agree}
-use Rattle.book.specs.OpeningLaws.{Rate}
-use Rattle.book.specs.AnyCalls.{Answer}
-use Rattle.book.specs.Calls.{Call, others64, closing, afterAll}
+use Rattle.book64.specs.Rates.{Rate}
+use Rattle.book.specs.calls.Calls.{Answer}
+use Rattle.book64.specs.calls.Calls.{Call, others64, closing, afterAll}
 use Rattle.calls.specs.Marked as any
-use Rattle.book.specs.Here.{openOf, DoubtfulList, RowColumns, markIn, mark-byte, CheapestIn}
+use Rattle.book64.specs.Here.{openOf, DoubtfulList, RowColumns, markIn, mark-byte, CheapestIn}
 use Rattle.session.specs.declared.Session.{Session}
 use Rattle.session.specs.declared.Opened.{Opened}
 use Rattle.session.specs.View.{keeping, bookOf, Good}

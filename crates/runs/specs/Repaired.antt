@@ -25,14 +25,14 @@ use lib.ListN.{length}
 use Rattle.refusals.specs.Refusal.{accepted, noneNear}
 use Rattle.lists.specs.Words.{Word}
 use Rattle.near.specs.Here.{blankLimit, reachOf}
-use Rattle.book.specs.Model.{modem64}
+use Rattle.book64.specs.Modem64.{modem64}
 use Rattle.book.specs.Book.{Book, newBook}
-use Rattle.book.specs.OpeningLaws.{Rate, rate-known}
-use Rattle.book.specs.AnyCalls.{Answer}
-use Rattle.book.specs.Calls.{Call, others64, closing, afterAll}
+use Rattle.book64.specs.Rates.{Rate, rate-known}
+use Rattle.book.specs.calls.Calls.{Answer}
+use Rattle.book64.specs.calls.Calls.{Call, others64, closing, afterAll}
 use Rattle.calls.specs.Repaired as any
-use Rattle.book.specs.Repairs.{few-alone}
-use Rattle.book.specs.Here.{openOf, columnsOf, Missing, reportLength, DoubtfulList, FewWrong, FewDoubtful, Alone, notBest, TooFar, Repaired, NoDearer, Sure, RefusedAs, Never}
+use Rattle.book.specs.sentences.Repairs.{few-alone}
+use Rattle.book64.specs.Here.{openOf, columnsOf, Missing, reportLength, DoubtfulList, FewWrong, FewDoubtful, Alone, notBest, TooFar, Repaired, NoDearer, Sure, RefusedAs, Never}
 use Rattle.session.specs.declared.Session.{Session}
 use Rattle.session.specs.declared.Opened.{Opened}
 use Rattle.session.specs.View.{keeping}

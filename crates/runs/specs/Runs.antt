@@ -9,9 +9,9 @@
 -- the contracts of `session::deliver`, `session::withdraw`, `reading::read_interpolant`, `writing::write_capture` and `closing::close`.
 use mathlib.Core.Path.{_≡_}
 use mathlib.Core.List.{List}
-use Rattle.book.specs.AnyCalls.{Answer}
-use Rattle.book.specs.Calls.{Call, others64, answers}
-use Rattle.book.specs.CallLaws.{AllFit}
+use Rattle.book.specs.calls.Calls.{Answer}
+use Rattle.book64.specs.calls.Calls.{Call, others64, answers}
+use Rattle.book64.specs.calls.CallLaws.{AllFit}
 use Rattle.calls.specs.Runs as any
 use Rattle.session.specs.declared.Session.{Session}
 use Rattle.session.specs.View.{keeping, bookOf, Good}

@@ -16,20 +16,19 @@ use Prim.Native.Nat.{ℕ}
 use lib.ListN.{length}
 use Rattle.refusals.specs.Refusal.{accepted}
 use Rattle.interpolant.specs.LeastQ.{readingLength}
-use Rattle.book.specs.Book.{Book, newBook, columnIn}
+use Rattle.book.specs.Book.{Book, newBook, columnIn, Filled}
 use Rattle.book.specs.Columns.{Agree}
-use Rattle.book.specs.PlaceOrder.{InPlaceOrder}
-use Rattle.book.specs.Writing.{Filled}
-use Rattle.book.specs.CaptureOpening.{recordsIn, openCaptureOf}
-use Rattle.book.specs.OpeningLaws.{Rate, known-rate}
-use Rattle.book.specs.AnyCalls.{Answer}
-use Rattle.book.specs.Calls.{Call, others64, reading, writing, closing, afterAll}
-use Rattle.book.specs.AnyCalls as any
+use Rattle.book.specs.rows.PlaceOrder.{InPlaceOrder}
+use Rattle.book64.specs.captures.CaptureOpening.{recordsIn, openCaptureOf}
+use Rattle.book64.specs.Rates.{Rate, known-rate}
+use Rattle.book.specs.calls.Calls.{Answer}
+use Rattle.book64.specs.calls.Calls.{Call, others64, reading, writing, closing, afterAll}
+use Rattle.book.specs.calls.Calls as any
 use Rattle.calls.specs.Shown as shown
-use Rattle.book.specs.CallLaws.{answer-alike}
-use Rattle.book.specs.RoundTrip.{write-whole, write-accepted, written-order, written-columns, written-opened, open-then-write}
-use Rattle.book.specs.Here.{openOf, DoubtfulList, RowColumns, ReportedIn}
-use Rattle.book.specs.ReadingSentences.{Reads, reading-least}
+use Rattle.book64.specs.calls.CallLaws.{answer-alike}
+use Rattle.book64.specs.captures.RoundTrip.{write-whole, write-accepted, written-order, written-columns, written-opened, open-then-write}
+use Rattle.book64.specs.Here.{openOf, DoubtfulList, RowColumns, ReportedIn}
+use Rattle.book64.specs.readings.ReadingSentences.{Reads, reading-least}
 use Rattle.session.specs.declared.Session.{Session}
 use Rattle.session.specs.declared.Opened.{Opened}
 use Rattle.session.specs.View.{keeping, bookOf, Good}

@@ -14,10 +14,10 @@ use mathlib.Core.List.{List, []}
 use Prim.Native.Nat.{ℕ}
 use lib.ListN.{length}
 use Rattle.lists.specs.Distinct.{below}
-use Rattle.book.specs.Model.{modem64}
-use Rattle.book.specs.AnyCalls.{Answer}
-use Rattle.book.specs.Calls.{Call, others64, deliver, reading, writing, closing, withdraw}
-use Rattle.book.specs.Here.{width, IsColumn}
+use Rattle.book64.specs.Modem64.{modem64}
+use Rattle.book.specs.calls.Calls.{Answer}
+use Rattle.book64.specs.calls.Calls.{Call, others64, deliver, reading, writing, closing, withdraw}
+use Rattle.book64.specs.Here.{width, IsColumn}
 use Rattle.calls.specs.Step as any
 use Rattle.session.specs.declared.Session.{Session}
 use Rattle.session.specs.declared.Delivered.{Delivered}

@@ -8,8 +8,8 @@
 use mathlib.Core.Path.{_≡_}
 use mathlib.Core.List.{List, []}
 use Prim.Native.Nat.{ℕ}
-use Rattle.book.specs.AnyCalls.{Answer}
-use Rattle.book.specs.Calls.{Call, deliver, reading, writing, closing, withdraw}
+use Rattle.book.specs.calls.Calls.{Answer}
+use Rattle.book64.specs.calls.Calls.{Call, deliver, reading, writing, closing, withdraw}
 use Rattle.session.specs.declared.Session.{Session}
 use Rattle.runs.specs.declared.Kind.{Kind}
 use Rattle.runs.specs.declared.Kind.the-variants.{Deliver, Read, Write, Close, Withdraw}

@@ -20,13 +20,13 @@ use Prim.Native.Nat.{ℕ, _<_, _≤_}
 use lib.ListN.{length}
 use Rattle.refusals.specs.Refusal.{accepted}
 use Rattle.soft.specs.Doubt.{mostDoubt}
-use Rattle.book.specs.Model.{modem64}
+use Rattle.book64.specs.Modem64.{modem64}
 use Rattle.book.specs.Book.{Entry, Book, newBook, columnIn}
-use Rattle.book.specs.OpeningLaws.{Rate, rate-known}
-use Rattle.book.specs.AnyCalls.{Answer}
-use Rattle.book.specs.Calls.{Call, others64, deliver, closing, afterAll}
-use Rattle.book.specs.Undone.{Spares}
-use Rattle.book.specs.Here.{places, openOf, tableLength, tableColumns, pickedOf, tableOf, pickedBelow, tableBelowOf}
+use Rattle.book64.specs.Rates.{Rate, rate-known}
+use Rattle.book.specs.calls.Calls.{Answer}
+use Rattle.book64.specs.calls.Calls.{Call, others64, deliver, closing, afterAll}
+use Rattle.book64.specs.calls.Undone.{Spares}
+use Rattle.book64.specs.Here.{places, openOf, tableLength, tableColumns, pickedOf, tableOf, pickedBelow, tableBelowOf}
 use Rattle.calls.specs.Tabled as any
 use Rattle.session.specs.declared.Session.{Session}
 use Rattle.session.specs.declared.Opened.{Opened}

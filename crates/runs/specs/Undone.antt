@@ -16,11 +16,11 @@ use lib.ListN.{getD, replicate}
 use Rattle.refusals.specs.Refusal.{accepted}
 use Rattle.lists.specs.Block.{block}
 use Rattle.book.specs.Book.{Book}
-use Rattle.book.specs.AnyCalls.{Answer}
-use Rattle.book.specs.Calls.{Call, others64, deliver, withdraw, answer, after, afterAll}
-use Rattle.book.specs.CallLaws.{AllFit}
-use Rattle.book.specs.Undone.{Spares, acceptedOf}
-use Rattle.book.specs.Here.{width}
+use Rattle.book.specs.calls.Calls.{Answer}
+use Rattle.book64.specs.calls.Calls.{Call, others64, deliver, withdraw, answer, after, afterAll}
+use Rattle.book64.specs.calls.CallLaws.{AllFit}
+use Rattle.book64.specs.calls.Undone.{Spares, acceptedOf}
+use Rattle.book64.specs.Here.{width}
 use Rattle.calls.specs.Undone as any
 use Rattle.session.specs.declared.Session.{Session}
 use Rattle.session.specs.View.{keeping, Good}

@@ -2,8 +2,8 @@
 // The list starts from `open` or `open_capture`, and `step` makes its calls, each on the session that the one before it left. A later call
 // is one kind and one arm more. How a call answers is the business of its own crate; nothing here looks into a session.
 ghost use mathlib.Core.List.{[]};
-ghost use Rattle.book.specs.Calls.{deliver, reading, writing, closing, withdraw};
-ghost use Rattle.book.specs.Here.{openOf};
+ghost use Rattle.book64.specs.calls.Calls.{deliver, reading, writing, closing, withdraw};
+ghost use Rattle.book64.specs.Here.{openOf};
 ghost use Rattle.session.specs.Calls.{Opening};
 ghost use Rattle.runs.specs.Follows.{ByCapture};
 ghost use Rattle.runs.specs.Step.{Step, answerWith};

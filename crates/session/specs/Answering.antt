@@ -8,8 +8,8 @@
 -- and hand none back, so the caller's session is as it was: closing may be repeated.
 use mathlib.Core.List.{List}
 use Prim.Native.Nat.{ℕ}
-use Rattle.book.specs.Model.{modem64}
-use Rattle.book.specs.Calls.{read, others64}
+use Rattle.book64.specs.Modem64.{modem64}
+use Rattle.book64.specs.calls.Calls.{read, others64}
 use Rattle.calls.specs.Promises as promises
 use Rattle.session.specs.declared.Session.{Session}
 use Rattle.session.specs.View.{keeping}

@@ -13,12 +13,12 @@ use Rattle.refusals.specs.Refusal.{accepted, wrongSize, placeMissing}
 use Rattle.soft.specs.Column.{symbols, columnOf}
 use Rattle.near.specs.Here.{mOf}
 use Rattle.interpolant.specs.LeastQ.{readingOf, readingLength}
-use Rattle.book.specs.Model.{modem64}
-use Rattle.book.specs.Reading.{settledOf}
-use Rattle.book.specs.ReadingLaws.{read-size, read-accepted}
-use Rattle.book.specs.Closing.{Closed}
-use Rattle.book.specs.Here.{reportLength, decodeOf}
-use Rattle.book.specs.Calls.{read, others64}
+use Rattle.book64.specs.Modem64.{modem64}
+use Rattle.book64.specs.readings.Reading.{settledOf}
+use Rattle.book64.specs.readings.ReadingLaws.{read-size, read-accepted}
+use Rattle.book.specs.closing.Closing.{Closed}
+use Rattle.book64.specs.Here.{reportLength, decodeOf}
+use Rattle.book64.specs.calls.Calls.{read, others64}
 use Rattle.session.specs.declared.Session.{Session}
 use Rattle.session.specs.View.{keeping, allTaken, bookOf, Good}
 use Rattle.session.specs.Answering.{Reading, Closing}

@@ -15,8 +15,8 @@ use Prim.Native.Nat.{ℕ}
 use Rattle.refusals.specs.Refusal.{accepted, unknownRate, wrongDoubt}
 use Rattle.code.specs.Encoding.{knownRate}
 use Rattle.book.specs.Book.{Outcome}
-use Rattle.book.specs.Model.{modem64}
-use Rattle.book.specs.Here.{fitDoubt}
+use Rattle.book64.specs.Modem64.{modem64}
+use Rattle.book64.specs.Here.{fitDoubt}
 use Rattle.calls.specs.Promises as promises
 use Rattle.session.specs.declared.Session.{Session}
 use Rattle.session.specs.declared.Opened.{Opened}

@@ -21,10 +21,10 @@ use Rattle.refusals.specs.Refusal.{accepted, unknownRate, wrongDoubt, noPlace, 
 use Rattle.lists.specs.Listed.{listed}
 use Rattle.lists.specs.Block.{putBlock}
 use Rattle.code.specs.Encoding.{knownRate}
-use Rattle.book.specs.Model.{modem64}
+use Rattle.book64.specs.Modem64.{modem64}
 use Rattle.book.specs.Book.{taken}
 use Rattle.book.specs.Columns.{Agree}
-use Rattle.book.specs.Here.{places, width, fitDoubt, refusedOpening, openOf, wide, Proper}
+use Rattle.book64.specs.Here.{places, width, fitDoubt, refusedOpening, openOf, wide, Proper}
 use Rattle.session.specs.declared.Session.{Session}
 use Rattle.session.specs.View.{newSession, held, keeping, entryAt, bookOf, Good}
 use Rattle.session.specs.Calls.{refusedWith, openedOf, declinedWith, Opening, Delivery, deniedWith, Withdrawal}

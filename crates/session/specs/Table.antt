@@ -13,9 +13,9 @@ use Rattle.lists.specs.Distinct.{among}
 use Rattle.soft.specs.Column.{symbols, bestOf, columnOf}
 use Rattle.soft.specs.Blank.{openAt}
 use Rattle.family.specs.Nodes.{node}
-use Rattle.book.specs.Model.{modem64}
-use Rattle.book.specs.Reading.{isSettled, settledAt}
-use Rattle.book.specs.Here.{someMissing, columnsOf}
+use Rattle.book64.specs.Modem64.{modem64}
+use Rattle.book64.specs.readings.Reading.{isSettled, settledAt}
+use Rattle.book64.specs.Here.{someMissing, columnsOf}
 use Rattle.session.specs.declared.Session.{Session}
 use Rattle.session.specs.View.{held, allTaken, bookOf, Good}
 use Rattle.session.specs.Laws.{book-taken}

@@ -14,9 +14,9 @@ use Prim.Native.Nat.{ℕ, _*_}
 use lib.ListN.{length, replicate}
 use Rattle.lists.specs.Padded.{padded}
 use Rattle.soft.specs.Doubt.{mostDoubt}
-use Rattle.book.specs.Model.{modem64}
+use Rattle.book64.specs.Modem64.{modem64}
 use Rattle.book.specs.Book.{Entry, Book}
-use Rattle.book.specs.Here.{places, width}
+use Rattle.book64.specs.Here.{places, width}
 use Rattle.session.specs.declared.Session.{Session}
 use Rattle.calls.specs.Held as Fields
 use Rattle.calls.specs.Held.{Held}

@@ -7,7 +7,7 @@ ghost use Rattle.lists.specs.Distinct.{among};
 ghost use Rattle.lists.specs.Block.{putBlock};
 ghost use Rattle.lists.specs.Padded.{padded};
 ghost use Rattle.soft.specs.Doubt.{mostDoubt};
-ghost use Rattle.book.specs.Here.{places, width, fitPlaces};
+ghost use Rattle.book64.specs.Here.{places, width, fitPlaces};
 ghost use Rattle.session.specs.View.{newSession, allTaken};
 ghost use Rattle.session.specs.Calls.{refusedWith, openedOf, declinedWith, Delivery, deniedWith, Withdrawal};
 use columns::costs::COSTS;

@@ -19,12 +19,12 @@ use borrow.Author.Tests.{eq-eqb, ne-eqb}
 use Rattle.refusals.specs.Refusal.{accepted}
 use Rattle.code.specs.Encoding.{knownRate}
 use Rattle.code.specs.Rates.{known-bounds}
-use Rattle.book.specs.Model.{modem64}
+use Rattle.book64.specs.Modem64.{modem64}
 use Rattle.book.specs.Book.{Book, Outcome}
 use Rattle.book.specs.Columns.{Agree}
-use Rattle.book.specs.Closing.{Closed}
-use Rattle.book.specs.Sentences.{closing-alike}
-use Rattle.book.specs.Here.{reportLength, closeOf}
+use Rattle.book.specs.closing.Closing.{Closed}
+use Rattle.book.specs.sentences.Sentences.{closing-alike}
+use Rattle.book64.specs.Here.{reportLength, closeOf}
 use Rattle.session.specs.declared.Session.{Session}
 use Rattle.calls.specs.Held as Fields
 use Rattle.session.specs.View.{bookOf, Good}

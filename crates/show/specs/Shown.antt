@@ -19,10 +19,10 @@ use Rattle.refusals.specs.Refusal.{accepted}
 use Rattle.soft.specs.Total.{totalOf, pinnedOf, changedOf}
 use Rattle.code.specs.Encoding.{encodeOf}
 use Rattle.book.specs.Book.{Book, Outcome}
-use Rattle.book.specs.CaptureOpening.{openCaptureOf}
-use Rattle.book.specs.Closing.{Closed}
-use Rattle.book.specs.Here.{reportLength, columnsOf, testsFor, marginFor, closeOf, ReportedIn}
-use Rattle.book.specs.Captured.{capture-shows}
+use Rattle.book64.specs.captures.CaptureOpening.{openCaptureOf}
+use Rattle.book.specs.closing.Closing.{Closed}
+use Rattle.book64.specs.Here.{reportLength, columnsOf, testsFor, marginFor, closeOf, ReportedIn}
+use Rattle.book64.specs.captures.Captured.{capture-shows}
 use Rattle.text.specs.Text.{space, numberLine, marginText, headingOf, heading-shows, messageLine, refusedLine}
 
 unfoldable pub answerLines : Book → Closed → List ℕ

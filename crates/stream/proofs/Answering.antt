@@ -14,9 +14,9 @@ use lib.ListN.{length, take, drop, length-drop}
 use lib.Seq.{take-all}
 use borrow.Author.Tests.{eq-eqb, ne-eqb, lt-ltb, le-ltb}
 use Rattle.soft.specs.Column.{symbols, costsFrom}
-use Rattle.book.specs.CaptureOpening.{openCaptureOf}
-use Rattle.book.specs.AnyCalls.{after}
-use Rattle.book.specs.Here.{openOf}
+use Rattle.book64.specs.captures.CaptureOpening.{openCaptureOf}
+use Rattle.book.specs.calls.Calls.{after}
+use Rattle.book64.specs.Here.{openOf}
 use Rattle.session.specs.declared.Session.{Session}
 use Rattle.runs.specs.declared.Kind.{Kind}
 use Rattle.runs.specs.declared.Kind.the-variants.{Deliver, Read, Write, Close, Withdraw}

@@ -21,8 +21,8 @@ use lib.ListN.{length, getD, drop}
 use Rattle.soft.specs.Column.{symbols, costsFrom}
 use Rattle.book.specs.Book.{Book}
 use Rattle.book.specs.Columns.{Agree}
-use Rattle.book.specs.CaptureOpening.{openCaptureOf}
-use Rattle.book.specs.Here.{openOf, deliverOf, withdrawOf}
+use Rattle.book64.specs.captures.CaptureOpening.{openCaptureOf}
+use Rattle.book64.specs.Here.{openOf, deliverOf, withdrawOf}
 use Rattle.session.specs.declared.Session.{Session}
 use Rattle.session.specs.View.{bookOf, Good}
 use Rattle.runs.specs.declared.Kind.{Kind}

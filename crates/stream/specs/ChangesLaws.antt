@@ -6,7 +6,7 @@
 use mathlib.Core.Path.{_≡_, sym, ap, subst}
 use Rattle.book.specs.Book.{Book}
 use Rattle.book.specs.Columns.{agree-sym, agree-trans, agree-path}
-use Rattle.book.specs.Here.{deliverOf, withdrawOf}
+use Rattle.book64.specs.Here.{deliverOf, withdrawOf}
 use Rattle.session.specs.declared.Session.{Session}
 use Rattle.session.specs.View.{bookOf, Good}
 use Rattle.session.specs.Laws.{one-session}

@@ -10,8 +10,8 @@ use session::Session;
 ghost use mathlib.Core.Path.{_≡_};
 ghost use Prim.Native.Nat.{_≤_};
 ghost use Rattle.soft.specs.Column.{symbols, costsFrom};
-ghost use Rattle.book.specs.CaptureOpening.{openCaptureOf};
-ghost use Rattle.book.specs.Here.{openOf};
+ghost use Rattle.book64.specs.captures.CaptureOpening.{openCaptureOf};
+ghost use Rattle.book64.specs.Here.{openOf};
 ghost use Rattle.stream.specs.Changes.{delivered, withdrawn, changeBy, numberedChange, changeOf, StandsFor, Leaves};
 
 fn write_number(number: usize) {

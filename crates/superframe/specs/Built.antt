@@ -34,8 +34,8 @@ use Rattle.family.specs.Calls.{outcome}
 use Rattle.code.specs.Encoding.{encodeOf, knownRate}
 use Rattle.code.specs.Rates.{known-bounds}
 use Rattle.near.specs.Here.{reachOf}
-use Rattle.book.specs.Engine.{unblankedBy}
-use Rattle.book.specs.EngineLaws.{IsWithin}
+use Rattle.book64.specs.engine.Engine.{unblankedBy}
+use Rattle.book64.specs.engine.EngineLaws.{IsWithin}
 use Rattle.superframe.specs.Superframe.{words, headLength, symbolCount, frameLength, version, lengthHigh, lengthLow, sentWord, symbolOf, frameOf, builtOf, buildOf, symbolIn, wordIn, answerAt, noneNearIn, messagesOf, taken, takenOf}
 use Rattle.superframe.specs.Checks.{build-fits}
 use Rattle.superframe.specs.Hard.{within-near}

@@ -39,9 +39,9 @@ use Rattle.code.specs.Encoding.{encodeOf}
 use Rattle.near.specs.Near.{nearTo}
 use Rattle.near.specs.Governing.{governed-only, only-far}
 use Rattle.near.specs.Here.{mOf, reachOf, genus-4, reaches}
-use Rattle.book.specs.OpeningLaws.{known-rate, rate-workable, rate-reach}
-use Rattle.book.specs.Engine.{unblankedBy}
-use Rattle.book.specs.EngineLaws.{unblanked-count}
+use Rattle.book64.specs.Rates.{known-rate, rate-workable, rate-reach}
+use Rattle.book64.specs.engine.Engine.{unblankedBy}
+use Rattle.book64.specs.engine.EngineLaws.{unblanked-count}
 use Rattle.superframe.specs.Superframe.{words, headLength, symbolCount, frameLength, sentWord, builtOf, symbolIn, wordIn, taken, takenOf}
 use Rattle.superframe.specs.Hard.{none-blank, fit-none}
 use Rattle.superframe.specs.Laws.{word-long, word-at, Passed, word-none-near}

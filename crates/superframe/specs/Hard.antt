@@ -35,15 +35,15 @@ use Rattle.near.specs.Laws.{word-answers}
 use Rattle.near.specs.Codeword.{near-one}
 use Rattle.near.specs.Governing.{only-near}
 use Rattle.near.specs.Here.{reachOf, blankLimit, blanksIn, answerOf}
-use Rattle.book.specs.Model.{modem64}
-use Rattle.book.specs.Opening as Opening
-use Rattle.book.specs.OpeningLaws.{known-rate, rate-workable}
-use Rattle.book.specs.Closing.{Closed, refusedClosing}
-use Rattle.book.specs.ClosingLaws.{decode-none, decode-some, decode-sized}
-use Rattle.book.specs.Here.{width, fitPlaces, reportLength, decodeOf}
-use Rattle.book.specs.Engine.{unblankedBy, nearBy}
-use Rattle.book.specs.EngineLaws.{IsWithin, within-found, found-within, unblanked-repairs}
-use Rattle.book.specs.Single.{BlankAt, same-number, answer-one}
+use Rattle.book64.specs.Modem64.{modem64}
+use Rattle.book.specs.opening.Opening as Opening
+use Rattle.book64.specs.Rates.{known-rate, rate-workable}
+use Rattle.book.specs.closing.Closing.{Closed, refusedClosing}
+use Rattle.book.specs.closing.ClosingLaws.{decode-none, decode-some, decode-sized}
+use Rattle.book64.specs.Here.{width, fitPlaces, reportLength, decodeOf}
+use Rattle.book64.specs.engine.Engine.{unblankedBy, nearBy}
+use Rattle.book64.specs.engine.EngineLaws.{IsWithin, within-found, found-within, unblanked-repairs}
+use Rattle.book64.specs.engine.Single.{BlankAt, same-number, answer-one}
 use Rattle.soft.specs.Hard as Hard
 use Rattle.superframe.specs.Superframe.{hardColumn, hardColumns}
 

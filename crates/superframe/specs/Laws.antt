@@ -34,10 +34,10 @@ use Rattle.lists.specs.Words.{allBelow, allBelow-at, allBelow-from}
 use Rattle.refusals.specs.Refusal.{accepted, noneNear}
 use Rattle.soft.specs.Column.{places, symbols}
 use Rattle.code.specs.Encoding.{knownRate}
-use Rattle.book.specs.Closing.{Closed, refusedClosing}
-use Rattle.book.specs.Here.{reportLength}
-use Rattle.book.specs.Engine.{nearBy}
-use Rattle.book.specs.EngineLaws.{IsWithin}
+use Rattle.book.specs.closing.Closing.{Closed, refusedClosing}
+use Rattle.book64.specs.Here.{reportLength}
+use Rattle.book64.specs.engine.Engine.{nearBy}
+use Rattle.book64.specs.engine.EngineLaws.{IsWithin}
 use Rattle.superframe.specs.Superframe.{words, headLength, symbolCount, frameLength, symbolIn, wordIn, hardColumns, answerAt, noneNearIn, statusOf, messagesOf, headOf, Taken, taken, takenOf}
 use Rattle.superframe.specs.Checks.{Headed, headed, apart-head, apart-rate, apart-size, apart-symbol, apart-fits}
 use Rattle.superframe.specs.Hard.{hard-none, hard-some, hard-long, within-near, near-within}

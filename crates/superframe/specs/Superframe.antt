@@ -31,8 +31,8 @@ use Rattle.soft.specs.Column.{places, symbols}
 use Rattle.soft.specs.Hard as Hard
 use Rattle.family.specs.Calls.{Answered, outcome}
 use Rattle.code.specs.Encoding.{encodeOf, knownRate}
-use Rattle.book.specs.Closing.{Closed}
-use Rattle.book.specs.Here.{reportLength, decodeOf}
+use Rattle.book.specs.closing.Closing.{Closed}
+use Rattle.book64.specs.Here.{reportLength, decodeOf}
 
 abbrev pub words : ℕ
 words = 8

@@ -7,8 +7,8 @@ use refusals::ACCEPTED;
 use refusals::WRONG_DOUBT;
 use summary::summary_of;
 ghost use mathlib.Core.Path.{_≡_};
-ghost use Rattle.book.specs.Table.{closed};
-ghost use Rattle.book.specs.Here.{tableOf};
+ghost use Rattle.book.specs.tables.Table.{closed};
+ghost use Rattle.book64.specs.Here.{tableOf};
 
 // The two bytes of a cost for each symbol of each place.
 pub const TABLE_BYTES: usize = 2048;

@@ -29,11 +29,11 @@ use Rattle.family.specs.Evaluation.{encode-length, encode-symbols}
 use Rattle.code.specs.Encoding.{knownRate}
 use Rattle.code.specs.Calls.{readBackCall}
 use Rattle.code.specs.CallLaws.{accepted-codeword}
-use Rattle.book.specs.Engine.{unblankedBy}
-use Rattle.book.specs.EngineLaws.{IsWithin}
-use Rattle.book.specs.Closing.{Closed}
-use Rattle.book.specs.Table.{closed}
-use Rattle.book.specs.Here.{reportLength, decodeOf}
+use Rattle.book64.specs.engine.Engine.{unblankedBy}
+use Rattle.book64.specs.engine.EngineLaws.{IsWithin}
+use Rattle.book.specs.closing.Closing.{Closed}
+use Rattle.book.specs.tables.Table.{closed}
+use Rattle.book64.specs.Here.{reportLength, decodeOf}
 use Rattle.decoding.specs.Decoding.{Decodable}
 use Rattle.soft.specs.Hard.{hardCost, hardColumn}
 use Rattle.superframe.specs.Superframe.{words, headLength, wordIn, hardColumns, answerAt, noneNearIn, statusOf, messagesOf, Taken, taken, takenOf}

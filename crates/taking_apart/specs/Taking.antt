@@ -8,7 +8,7 @@ use mathlib.Core.Path.{_≡_}
 use mathlib.Core.List.{List, []}
 use Prim.Native.Nat.{ℕ}
 use lib.ListN.{replicate}
-use Rattle.book.specs.Here.{reportLength, decodeOf}
+use Rattle.book64.specs.Here.{reportLength, decodeOf}
 use Rattle.superframe.specs.Superframe as Superframe
 use Rattle.superframe.specs.Superframe.{words, hardColumns, answerAt, noneNearIn, statusOf, messagesOf}
 use Rattle.taking_apart.specs.declared.Taken.{Taken}

@@ -16,8 +16,8 @@ use mathlib.Core.Option.{Option, none, some}
 use Prim.Native.Nat.{ℕ, zero, suc, _/_, _%_}
 use lib.Dec.{ltb, eqb}
 use Rattle.io.specs.Digits.{glyph}
-use Rattle.book.specs.Report.{totalIn, testsIn, runnerOf, amountOf}
-use Rattle.book.specs.Here.{pinnedIn, changedIn, runnerIn, marginIn, pinned-byte, changed-byte, runner-byte, margin-bytes, Shows}
+use Rattle.book.specs.closing.Report.{totalIn, testsIn, runnerOf, amountOf}
+use Rattle.book64.specs.Here.{pinnedIn, changedIn, runnerIn, marginIn, pinned-byte, changed-byte, runner-byte, margin-bytes, Shows}
 
 abbrev pub space : ℕ
 space = 32

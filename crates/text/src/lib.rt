@@ -5,8 +5,8 @@ ghost use mathlib.Core.Path.{_≡_};
 ghost use mathlib.Core.List.{map, _++_};
 ghost use Prim.Native.Nat.{_+_, _*_, _≤_, _<_};
 ghost use lib.ListN.{length};
-ghost use Rattle.book.specs.Report.{totalIn, testsIn};
-ghost use Rattle.book.specs.Here.{marginIn};
+ghost use Rattle.book.specs.closing.Report.{totalIn, testsIn};
+ghost use Rattle.book64.specs.Here.{marginIn};
 ghost use Rattle.text.specs.Text.{space, decimalOf, hexOf, numberLine, marginLine, headingOf, messageLine, refusedLine};
 ghost use Rattle.text.specs.Appended.{Appended};
 

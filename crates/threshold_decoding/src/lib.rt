@@ -8,8 +8,8 @@ use refusals::WRONG_DOUBT;
 use summary::summary_of;
 use table_decoding::TABLE_BYTES;
 ghost use mathlib.Core.Path.{_≡_};
-ghost use Rattle.book.specs.Table.{closed};
-ghost use Rattle.book.specs.Here.{tableBelowOf};
+ghost use Rattle.book.specs.tables.Table.{closed};
+ghost use Rattle.book64.specs.Here.{tableBelowOf};
 
 pub fn decode_table_below(
     rate: usize,

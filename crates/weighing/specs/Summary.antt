@@ -1,6 +1,5 @@
 -- What the columns of a table say of each place, in arrays by place, for any number of places and symbols.
 --
---   PlaceBy columns p best least gap counts   the best symbol of place p, its cost, the plain gap, and 1 where the place is not blank, else 0
 --   SummaryBy places symbols columns best least gaps counts   lists of them of all places, in columns of costs for all symbols
 --   least-at, gap-at, counts-at   their entries
 --   summary-second         the second cost of a place is the best cost and the gap
@@ -9,20 +8,13 @@ use mathlib.Core.List.{List}
 use Prim.Native.Nat.{ℕ, _+_, _<_}
 use native.Mathlib.Omega.{arith}
 use lib.ListN.{length, getD}
-use Rattle.lists.specs.Count.{bit}
 use Rattle.lists.specs.Listed.{listed, listed-at}
-use Rattle.soft.specs.Column.{costOf, bestOf, secondOf}
+use Rattle.soft.specs.Column.{costOf, secondOf}
 use Rattle.soft.specs.ColumnLaws.{gap-cost}
 use Rattle.soft.specs.Blank.{openAt, flagsOf, flagAt}
 use Rattle.soft.specs.BlankLaws.{flags-at}
 use Rattle.soft.specs.TestWord.{bestWord}
 use Rattle.soft.specs.Mark.{bestCost, plainGap}
-
-pub record PlaceBy (columns : ℕ → List ℕ) (p b l g c : ℕ) : Type 0 where
-  pub best : b ≡ bestOf (columns p)
-  pub least : l ≡ bestCost columns p
-  pub gap : g ≡ plainGap columns p
-  pub counts : c ≡ bit (openAt columns p)
 
 pub record SummaryBy (places symbols : ℕ) (columns : ℕ → List ℕ) (b l g c : List ℕ) : Type 0 where
   pub wide : (p : ℕ) → p < places → length (columns p) ≡ symbols

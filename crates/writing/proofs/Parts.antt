@@ -12,9 +12,9 @@ use Rattle.lists.specs.Block.{block}
 use Rattle.lists.specs.Stored.{stored-one, stored-part}
 use Rattle.soft.specs.CostBytes.{costBytes, cost-bytes-append, cost-bytes-length}
 use Rattle.book.specs.Book.{Entry}
-use Rattle.book.specs.Capture.{recordLength, rowBytes}
-use Rattle.book.specs.CaptureLaws.{row-bytes-append, row-bytes-length}
-use Rattle.book.specs.Here.{places, width}
+use Rattle.book64.specs.captures.Capture.{recordLength, rowBytes}
+use Rattle.book64.specs.captures.CaptureLaws.{row-bytes-append, row-bytes-length}
+use Rattle.book64.specs.Here.{places, width}
 use Rattle.session.specs.View.{entryAt}
 use Rattle.session.specs.Laws.{row-wide}
 use Rattle.calls.specs.Held as Fields

@@ -8,14 +8,13 @@ use lib.ListN.{length, take}
 use Rattle.refusals.specs.Refusal.{accepted, wrongSize, placeMissing}
 use Rattle.lists.specs.Listed.{listed-ext}
 use Rattle.soft.specs.Doubt.{mostDoubt}
-use Rattle.book.specs.Model.{modem64}
-use Rattle.book.specs.Book.{Entry}
-use Rattle.book.specs.Capture.{rowBytes, captureLength, captureOf}
-use Rattle.book.specs.Writing.{Filled}
-use Rattle.book.specs.PlaceOrder.{recordOf}
-use Rattle.book.specs.PlaceOrder as Ordering
-use Rattle.book.specs.RoundTrip.{write-size, write-missing, write-accepted}
-use Rattle.book.specs.Here.{places, width, someMissing, inPlaceOrder}
+use Rattle.book64.specs.Modem64.{modem64}
+use Rattle.book.specs.Book.{Entry, Filled}
+use Rattle.book64.specs.captures.Capture.{rowBytes, captureLength, captureOf}
+use Rattle.book.specs.rows.PlaceOrder.{recordOf}
+use Rattle.book.specs.rows.PlaceOrder as Ordering
+use Rattle.book64.specs.captures.RoundTrip.{write-size, write-missing, write-accepted}
+use Rattle.book64.specs.Here.{places, width, someMissing, inPlaceOrder}
 use Rattle.session.specs.declared.Session.{Session}
 use Rattle.session.specs.View.{entryAt, allTaken, bookOf, Good}
 use Rattle.session.specs.Laws.{list-length}

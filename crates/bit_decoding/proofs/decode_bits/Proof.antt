@@ -3,10 +3,10 @@ use mathlib.Core.Path.{sym}
 use native.Mathlib.Omega.{arith}
 use borrow.Author.Needs.{needs}
 use Rattle.soft.specs.Bits.{bits}
-use Rattle.book.specs.Model.{modem64}
-use Rattle.book.specs.Closing.{refusedClosing}
-use Rattle.book.specs.Bits.{bits-refused, bits-doubt}
-use Rattle.book.specs.Here.{power}
+use Rattle.book64.specs.Modem64.{modem64}
+use Rattle.book.specs.closing.Closing.{refusedClosing}
+use Rattle.book.specs.tables.Bits.{bits-refused, bits-doubt}
+use Rattle.book64.specs.Here.{power}
 use Rattle.answering.specs.Checks.{passed, refused}
 use Rattle.doubt.specs.Picked.{picked-in}
 use Rattle.answering.specs.Made.{bits-askable, bits-answers}

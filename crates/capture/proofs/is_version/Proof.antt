@@ -1,6 +1,6 @@
 -- `capture::is_version` meets its contract, by its two tests.
 use borrow.Author.Tests.{eq-eqb, ne-eqb}
-use Rattle.book.specs.Capture.{firstVersion, isVersion}
+use Rattle.book64.specs.captures.Capture.{firstVersion, isVersion}
 use Rattle.capture.proofs.is_version.Statement.{statement}
 use Rattle.capture.proofs.is_version.Tie as tie
 

@@ -1,6 +1,6 @@
 -- `capture::version_of` meets its contract, by its test.
 use mathlib.Core.Path.{sym}
-use Rattle.book.specs.Versions.{version-one, version-two}
+use Rattle.book64.specs.captures.Versions.{version-one, version-two}
 use Rattle.capture.proofs.version_of.Statement.{statement}
 use Rattle.capture.proofs.version_of.Tie as tie
 

@@ -4,8 +4,8 @@ use mathlib.Core.Path.{refl}
 use Prim.Native.Nat.{_-_, _≤_}
 use native.Mathlib.Omega.{arith}
 use Rattle.soft.specs.Column.{columnOf}
-use Rattle.book.specs.AlikeDelivery.{Agreed, agreed-path}
-use Rattle.book.specs.Here.{places, width, deliverRow}
+use Rattle.book.specs.rows.AlikeDelivery.{Agreed, agreed-path}
+use Rattle.book64.specs.Here.{places, width, deliverRow}
 use Rattle.session.specs.View.{bookOf, Good}
 use Rattle.captures.specs.Calls.{tableEntries}
 use Rattle.captures.proofs.Answered.{columnsFrom, turn, stop, finish}

@@ -5,8 +5,8 @@ use mathlib.Core.Logic.{inl, inr}
 use borrow.Author.Tests.{not-true, not-false}
 use borrow.Author.Needs.{needs}
 use Rattle.code.specs.Encoding.{knownRate}
-use Rattle.book.specs.Model.{modem64}
-use Rattle.book.specs.Table.{checks-rate, checks-size, checks-fit}
+use Rattle.book64.specs.Modem64.{modem64}
+use Rattle.book.specs.tables.Table.{checks-rate, checks-size, checks-fit}
 use Rattle.checking.proofs.checks.Statement.{statement}
 use Rattle.checking.proofs.checks.Tie as tie
 

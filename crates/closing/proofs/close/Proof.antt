@@ -5,7 +5,7 @@ use native.Mathlib.Omega.{arith}
 use lib.ListN.{length, take}
 use lib.Seq.{length-take-le}
 use Rattle.soft.specs.Doubt.{mostDoubt}
-use Rattle.book.specs.Model.{modem64}
+use Rattle.book64.specs.Modem64.{modem64}
 use Rattle.session.specs.declared.Session.{Session}
 use Rattle.session.specs.declared.Opened.{Opened}
 use Rattle.session.specs.AnsweringLaws.{closing-by-hand, closing-wrong-size, closing-early, closing-decoded}

@@ -5,10 +5,10 @@ use lib.ListN.{length}
 use Rattle.soft.specs.Column.{places}
 use Rattle.code.specs.Encoding.{mostRate}
 use Rattle.code.specs.Rates.{known-bounds}
-use Rattle.book.specs.Here.{reportLength}
+use Rattle.book64.specs.Here.{reportLength}
 use Rattle.answers.specs.Result.{total-near}
 use Rattle.chase.specs.Laws.{nearest-call}
-use Rattle.book.specs.Model.{modem64}
+use Rattle.book64.specs.Modem64.{modem64}
 use Rattle.answering.specs.Answered.{markable}
 use Rattle.decoding.proofs.Answered.{tests-few, answered-none, decoded-near}
 use borrow.Author.Needs.{needs}

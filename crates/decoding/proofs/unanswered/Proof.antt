@@ -2,7 +2,7 @@
 use native.Mathlib.Omega.{arith}
 use borrow.Author.Needs.{needs}
 use Rattle.code.specs.Rates.{known-bounds}
-use Rattle.book.specs.Model.{modem64}
+use Rattle.book64.specs.Modem64.{modem64}
 use Rattle.answering.specs.Answered.{told-near, told-blank}
 use Rattle.decoding.proofs.unanswered.Statement.{statement}
 use Rattle.decoding.proofs.unanswered.Tie as tie

@@ -4,7 +4,7 @@ use mathlib.Core.Path.{_≡_, sym, _∙_}
 use native.Mathlib.Omega.{arith}
 use borrow.Author.Tests.{not-true, not-false, eq-eqb, ne-eqb}
 use Rattle.candidate.specs.Ranged.{known-range}
-use Rattle.book.specs.EngineLaws.{checks-rate, checks-size, checks-symbol, checks-list, checks-blank, checks-fit}
+use Rattle.book64.specs.engine.EngineLaws.{checks-rate, checks-size, checks-symbol, checks-list, checks-blank, checks-fit}
 use borrow.Author.Needs.{needs}
 use Rattle.engine.proofs.checks.Statement.{statement}
 use Rattle.engine.proofs.checks.Tie as tie

@@ -1,7 +1,7 @@
 -- Refused by a check, none near, or both buffers written.
 use mathlib.Core.Path.{sym, _∙_}
 use borrow.Author.Tests.{not-true, not-false}
-use Rattle.book.specs.EngineLaws.{engine-passed}
+use Rattle.book64.specs.engine.EngineLaws.{engine-passed}
 use Rattle.engine.proofs.Deciding.{refused-left, may-decide, none-left, some-left}
 use borrow.Author.Needs.{needs}
 use Rattle.engine.proofs.eliminate.Statement.{statement}

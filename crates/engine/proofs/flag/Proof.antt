@@ -1,7 +1,7 @@
 -- A place of the list has 0, any other 1.
 use mathlib.Core.Path.{sym, _∙_}
 use borrow.Author.Tests.{lt-ltb, not-true, not-false}
-use Rattle.book.specs.Engine.{unblankedBy}
+use Rattle.book64.specs.engine.Engine.{unblankedBy}
 use borrow.Author.Needs.{needs}
 use Rattle.engine.proofs.flag.Statement.{statement}
 use Rattle.engine.proofs.flag.Tie as tie

@@ -6,10 +6,10 @@ use Prim.Native.Nat.{ℕ, _+_, _<_}
 use native.Mathlib.Omega.{arith}
 use lib.ListN.{drop}
 use Rattle.refusals.specs.Refusal.{accepted}
-use Rattle.book.specs.CaptureOpening.{doubtIn, openCaptureOf}
-use Rattle.book.specs.LookUp.{recordWith}
-use Rattle.book.specs.LookUpLaws.{Located, located, look-up-above, look-up-refused}
-use Rattle.book.specs.Here.{places}
+use Rattle.book64.specs.captures.CaptureOpening.{doubtIn, openCaptureOf}
+use Rattle.book64.specs.captures.LookUp.{recordWith}
+use Rattle.book64.specs.captures.LookUpLaws.{Located, located, look-up-above, look-up-refused}
+use Rattle.book64.specs.Here.{places}
 use Rattle.capture.specs.Rest.{rest-whole, rest-length}
 use Rattle.look_up.proofs.Found.{part-found}
 use Rattle.look_up.proofs.look_up.Statement.{statement}

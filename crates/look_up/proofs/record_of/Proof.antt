@@ -4,8 +4,8 @@ use mathlib.Core.Path.{_≡_}
 use Prim.Native.Nat.{_+_, _*_, _-_, _≤_}
 use native.Mathlib.Omega.{arith}
 use lib.ListN.{drop}
-use Rattle.book.specs.LookUp.{recordWith}
-use Rattle.book.specs.Here.{places}
+use Rattle.book64.specs.captures.LookUp.{recordWith}
+use Rattle.book64.specs.Here.{places}
 use Rattle.look_up.proofs.Searching.{search-start, search-here, search-next, search-end}
 use Rattle.look_up.proofs.record_of.Statement.{statement}
 use Rattle.look_up.proofs.record_of.Tie as tie

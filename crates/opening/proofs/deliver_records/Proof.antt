@@ -4,9 +4,9 @@ use mathlib.Core.Path.{refl}
 use Prim.Native.Nat.{_-_, _*_, _≤_}
 use native.Mathlib.Omega.{arith}
 use lib.ListN.{drop}
-use Rattle.book.specs.Capture.{recordsOf}
-use Rattle.book.specs.AlikeDelivery.{Agreed, agreed-path}
-use Rattle.book.specs.Here.{places, deliverRow}
+use Rattle.book64.specs.captures.Capture.{recordsOf}
+use Rattle.book.specs.rows.AlikeDelivery.{Agreed, agreed-path}
+use Rattle.book64.specs.Here.{places, deliverRow}
 use Rattle.session.specs.View.{bookOf, Good}
 use Rattle.opening.proofs.Delivering.{turn, stop, finish}
 use Rattle.opening.proofs.deliver_records.Statement.{statement}

@@ -6,9 +6,9 @@ use mathlib.Core.List.{List}
 use Prim.Native.Nat.{ℕ, _+_, _*_, _-_}
 use native.Mathlib.Omega.{arith}
 use lib.ListN.{length, take, drop}
-use Rattle.book.specs.Capture.{bodyLength, recordLength, recordsOf}
-use Rattle.book.specs.CaptureOpening.{rateIn, doubtIn, lengthIn, openCaptureOf}
-use Rattle.book.specs.Here.{places, deliverRow}
+use Rattle.book64.specs.captures.Capture.{bodyLength, recordLength, recordsOf}
+use Rattle.book64.specs.captures.CaptureOpening.{rateIn, doubtIn, lengthIn, openCaptureOf}
+use Rattle.book64.specs.Here.{places, deliverRow}
 use Rattle.session.specs.declared.Opened.{Opened}
 use Rattle.session.specs.View.{bookOf, Good}
 use Rattle.session.specs.Calls.{refusedWith, openedOf, Opening}

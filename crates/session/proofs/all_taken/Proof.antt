@@ -5,7 +5,7 @@ use mathlib.Core.Bool.{true}
 use mathlib.Core.Path.{_≡_}
 use Prim.Native.Nat.{_-_, _≤_}
 use native.Mathlib.Omega.{arith}
-use Rattle.book.specs.Model.{modem64}
+use Rattle.book64.specs.Modem64.{modem64}
 use Rattle.calls.specs.Held.{takenBelow}
 use Rattle.calls.specs.Flags.{taken-start, taken-next, taken-missed, taken-end}
 use Rattle.session.proofs.all_taken.Statement.{statement}

@@ -4,8 +4,8 @@ use mathlib.Core.Path.{_≡_}
 use Prim.Native.Nat.{_-_, _≤_}
 use native.Mathlib.Omega.{arith}
 use lib.ListN.{length, drop}
-use Rattle.book.specs.Here.{fitPlaces}
-use Rattle.book.specs.Model.{modem64}
+use Rattle.book64.specs.Here.{fitPlaces}
+use Rattle.book64.specs.Modem64.{modem64}
 use Rattle.calls.specs.Scan.{fitsFrom, fits-start, fits-next, fits-above, fits-fallen, fits-end}
 use Rattle.session.proofs.fit_places.Statement.{statement}
 use Rattle.session.proofs.fit_places.Tie as tie

@@ -5,7 +5,7 @@ use native.Mathlib.Omega.{arith}
 use borrow.Author.Tests.{not-true, not-false}
 use Rattle.code.specs.Rates.{known-bounds}
 use Rattle.session.specs.declared.Session.{Session}
-use Rattle.book.specs.Model.{modem64}
+use Rattle.book64.specs.Modem64.{modem64}
 use Rattle.calls.specs.Scan.{long-unfit, short-fit}
 use Rattle.session.specs.Laws.{opened-rate, opened-list, opened-new}
 use Rattle.session.proofs.open.Statement.{statement}

@@ -1,6 +1,6 @@
 -- The lines are those of the capture's book, opened or refused.
 use mathlib.Core.Path.{_∙_, ap, sym}
-use Rattle.book.specs.CaptureOpening.{openCaptureOf}
+use Rattle.book64.specs.captures.CaptureOpening.{openCaptureOf}
 use Rattle.text.specs.Text.{refusedLine}
 use Rattle.text.specs.Appended.{appended-as}
 use Rattle.show.specs.Shown.{shownOf}

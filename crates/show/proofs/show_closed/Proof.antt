@@ -3,7 +3,7 @@ use mathlib.Core.Path.{refl, ap}
 use Prim.Native.Nat.{ℕ}
 use native.Mathlib.Omega.{arith}
 use lib.ListN.{length, replicate, length-replicate}
-use Rattle.book.specs.Here.{reportLength}
+use Rattle.book64.specs.Here.{reportLength}
 use Rattle.text.specs.Appended.{appended-as}
 use Rattle.show.proofs.Showing.{shows-refused, shows-closed}
 use borrow.Author.Needs.{needs}

@@ -2,9 +2,9 @@
 use mathlib.Core.Path.{sym}
 use native.Mathlib.Omega.{arith}
 use borrow.Author.Needs.{needs}
-use Rattle.book.specs.Model.{modem64}
-use Rattle.book.specs.Closing.{refusedClosing}
-use Rattle.book.specs.Table.{checks-refused, table-doubt}
+use Rattle.book64.specs.Modem64.{modem64}
+use Rattle.book.specs.closing.Closing.{refusedClosing}
+use Rattle.book.specs.tables.Table.{checks-refused, table-doubt}
 use Rattle.answering.specs.Checks.{passed, refused}
 use Rattle.doubt.specs.Picked.{picked-in}
 use Rattle.answering.specs.Tabled.{table-askable, table-answers}

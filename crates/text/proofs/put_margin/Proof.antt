@@ -5,7 +5,7 @@ use mathlib.Core.List.{List, [], _∷_}
 use Prim.Native.Nat.{ℕ}
 use native.Mathlib.Omega.{arith}
 use borrow.Author.Tests.{eq-eqb, ne-eqb}
-use Rattle.book.specs.Here.{runnerIn, marginIn}
+use Rattle.book64.specs.Here.{runnerIn, marginIn}
 use Rattle.text.specs.Text.{newline, dash, numberLine, marginLine}
 use Rattle.text.specs.Appended.{appended-as}
 use borrow.Author.Needs.{needs}

@@ -3,9 +3,9 @@ use mathlib.Core.Path.{sym}
 use mathlib.Core.Logic.{inl, inr}
 use native.Mathlib.Omega.{arith}
 use borrow.Author.Needs.{needs}
-use Rattle.book.specs.Model.{modem64}
-use Rattle.book.specs.Closing.{refusedClosing}
-use Rattle.book.specs.Below.{below-refused, below-doubt}
+use Rattle.book64.specs.Modem64.{modem64}
+use Rattle.book.specs.closing.Closing.{refusedClosing}
+use Rattle.book.specs.tables.Below.{below-refused, below-doubt}
 use Rattle.answering.specs.Checks.{passed, refused}
 use Rattle.doubt.specs.Picked.{picked-in}
 use Rattle.answering.specs.Below.{below-askable, below-answers}

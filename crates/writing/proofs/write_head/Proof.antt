@@ -9,7 +9,7 @@ use lib.Seq.{length-take-le}
 use borrow.Rule.Slice.PartMut.{same-len-mid}
 use Rattle.lists.specs.Over.{over-same}
 use Rattle.soft.specs.Doubt.{mostDoubt}
-use Rattle.book.specs.Capture.{bodyLength, versionOf}
+use Rattle.book64.specs.captures.Capture.{bodyLength, versionOf}
 use Rattle.capture.specs.Calls.{headBytes}
 use Rattle.capture.specs.Rest.{rest-length}
 use Rattle.writing.proofs.Parts.{five-stores, head-end}

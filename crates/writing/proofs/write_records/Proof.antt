@@ -5,7 +5,7 @@ use mathlib.Core.List.{List, _++_}
 use Prim.Native.Nat.{ℕ, _-_, _*_, _≤_}
 use native.Mathlib.Omega.{arith}
 use lib.ListN.{length, drop}
-use Rattle.book.specs.Capture.{rowBytes}
+use Rattle.book64.specs.captures.Capture.{rowBytes}
 use Rattle.capture.specs.Calls.{rowOf}
 use Rattle.writing.proofs.Parts.{records-start, records-turn, records-end}
 use Rattle.writing.proofs.write_records.Statement.{statement}

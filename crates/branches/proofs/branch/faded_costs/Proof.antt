@@ -2,7 +2,7 @@
 use mathlib.Core.Path.{_≡_, _∙_}
 use Prim.Native.Nat.{_≤_, _-_}
 use Rattle.branches.proofs.Fading.{fadingCosts, fading-start, fading-turn, fading-end}
-use Rattle.book.specs.Here.{places}
+use Rattle.book64.specs.Here.{places}
 use borrow.Author.Needs.{needs}
 use Rattle.branches.proofs.branch.faded_costs.Statement.{statement}
 use Rattle.branches.proofs.branch.faded_costs.Tie as tie

@@ -1,0 +1,11 @@
+pub mod Capture
+pub mod Writing
+pub mod CaptureOpening
+pub mod LookUp
+pub mod CaptureLaws
+pub mod CaptureCases
+pub mod Versions
+pub mod RoundTrip
+pub mod LookUpLaws
+pub mod WritingLaws
+pub mod Captured

@@ -1,0 +1,4 @@
+pub mod Sharp
+pub mod Bench
+pub mod Numbers
+pub mod Faded
