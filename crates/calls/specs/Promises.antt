@@ -7,7 +7,7 @@
 --                            and it stays good; a refused one leaves the session that was given, whatever that was
 --   Closing s message report n message′ report′   closing the session s into two buffers: of a good session the number and both buffers afterwards are the
 --                            book's
---   Asking s x n after       another call of the modem's (`book` AnyCalls Others): of a good session the number and the buffer afterwards are the book's
+--   Asking s x n after       another call of the modem's (`book` Calls Others): of a good session the number and the buffer afterwards are the book's
 --
 -- Whatever the session, a refused call leaves the buffers as they were, and no buffer changes its length. Closing and the other calls leave the session as it
 -- was, so closing may be repeated. 'Agrees' (book Columns): the same rate and list, and the same column at each place. A session does not hold the order

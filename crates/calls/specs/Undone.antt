@@ -1,5 +1,5 @@
 -- 'A delivery shall be undone: the named place becomes free again, its costs return to zero, and the session answers and reads as if that delivery, and every
--- call refused since, had never been made. It need not be the latest one.' (`book` AnyUndone, of the sessions of every modem.)
+-- call refused since, had never been made. It need not be the latest one.' (`book` Undone, of the sessions of every modem.)
 --
 --   step-frees           an accepted withdrawal leaves the place free, and its costs zero
 --   undone               after a delivery that is accepted, calls that spare its place and the withdrawal of that place, the session is the one that those of

@@ -59,7 +59,7 @@ asked-512 rate costs doubtful doubt = (there, back)
       A .few,
       A .fit,
       ⊎-elim (λ (h : rate ≡ 289). inl (h, omega (arith, A .few-blank, ap (blankLimit m64) h, limits-512 .0)))
-          (λ (h : rate ≡ 409). inr (h, omega (arith, A .few-blank, ap (blankLimit m64) h, limits-512 .2))) (known-rates rate (A .known)),
+          (λ (h : rate ≡ 409). inr (h, omega (arith, A .few-blank, ap (blankLimit m64) h, limits-512 .2))) (known-rates rate .0 (A .known)),
     )
 
     back : InNumbers rate costs doubtful doubt → Asked rate costs doubtful doubt

@@ -28,7 +28,7 @@ use Rattle.soft.specs.CostBytes.{costBytes}
 use Rattle.soft.specs.Doubt.{doubtfulOf}
 use Rattle.code.specs.Encoding.{knownRate}
 use Rattle.book64.specs.Modem64.{modem64}
-use Rattle.book.specs.AlikeCalls.{writing-alike}
+use Rattle.book64.specs.captures.WritingLaws.{writing-alike}
 use Rattle.book.specs.Book.{columnIn, Filled}
 use Rattle.book64.specs.captures.CaptureOpening.{recordsIn, openCaptureOf}
 use Rattle.book.specs.closing.Closing.{Closed}

@@ -1,4 +1,4 @@
--- What document 01 says of every call and every list of calls, of the book of the modem of 64 places (AnyCallLaws).
+-- What document 01 says of every call and every list of calls, of the book of the modem of 64 places (`book` CallLaws).
 --
 --   answer-alike         books that agree answer every call alike
 --   only-closing-blank   no call but a closing gives 12; of openings Sentences (opening-never-blank) and CaptureCases (capture-never-blank) say the same

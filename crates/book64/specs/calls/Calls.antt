@@ -1,4 +1,4 @@
--- The calls of the modem of 64 places (AnyCalls): beside deliveries, withdrawals and closings it has interpolant readings and capture writings.
+-- The calls of the modem of 64 places (`book` Calls): beside deliveries, withdrawals and closings it has interpolant readings and capture writings.
 --
 --   Other                its other calls: interpolant reading and capture writing, each with the buffer as it is lent
 --   others64             what the book answers to them: other-alike, other-kept, other-sized, other-blank

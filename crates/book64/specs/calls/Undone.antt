@@ -1,5 +1,5 @@
 -- 'A delivery shall be undone: … the session answers and reads as if that delivery, and every call refused since, had never been made. It need not be the
--- latest one.' Each sentence a theorem of the book of the modem of 64 places (AnyUndone).
+-- latest one.' Each sentence a theorem of the book of the modem of 64 places (`book` Undone).
 --
 --   Spares p calls       no call of the list withdraws the place p
 --   acceptedOf book calls   those of the calls that the book accepts, each of which finds the book that the call before it left
