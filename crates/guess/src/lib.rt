@@ -132,12 +132,12 @@ fn wrong_place(word: Word, told: Sums) -> usize
     place_at(x, y)
 }
 
-// The codeword that a word shows, known and not yet asked.
-fn known_of(word: Word, k: usize) -> Finding
+// The codeword that values show, known and not yet asked.
+fn known_of(values: Planes, k: usize) -> Finding
     requires { ⌜ Ranged k ⌝ }
     ensures { λ r. ⌜ KnownFirst k r ⌝ }
 {
-    let held = shown(planes(word), k);
+    let held = shown(values, k);
     let message = held.message;
     let codeword = held.codeword;
     Finding {
@@ -159,7 +159,7 @@ fn mended(word: Word, told: Sums, k: usize) -> Finding
     }
     let mut out = word;
     out[place] ^= told.all;
-    known_of(out, k)
+    known_of(planes(out), k)
 }
 
 // The sums of a codeword are zero. Where the word is neither one nor one but for a symbol, by these sums, the zero word is known.
@@ -177,5 +177,9 @@ pub fn first_known(word: Word, k: usize) -> Finding
     if told.squares != 0 {
         return none_near();
     }
-    known_of(word, k)
+    let values = planes(word);
+    if all_of(times(values, ys())) != 0 {
+        return none_near();
+    }
+    known_of(values, k)
 }

@@ -12,6 +12,9 @@ returns-2 c = known-nothing (c .before .before .before .before .before .before .
 returns-3 : tie.Need-returns-3
 returns-3 c = known-nothing (c .before .before .before .before .before .before .before .before .pre .most) (ap fieldsOf (c .none-near2 .ensures))
 
+returns-4 : tie.Need-returns-4
+returns-4 c = known-nothing (c .before .before .before .before .before .before .before .before .before .before .before .before .before .pre .most) (c .none-near3 .ensures)
+
 pub first-known-spec : {M : Type 1} → statement M
 first-known-spec =
     tie.close
@@ -23,5 +26,11 @@ first-known-spec =
     returns-2
     (λ c κs. search needs)
     returns-3
+    (λ c κs. search needs)
+    (λ c κs. search needs)
+    (λ c κs. search needs)
+    (λ c κs. search needs)
+    (λ c κs. search needs)
+    returns-4
     (λ c κs. search needs)
     (λ c. search needs))

@@ -8,4 +8,4 @@ returns : tie.Need-returns
 returns c = known-shown (c .before .before .shown .ensures)
 
 pub known-of-spec : {M : Type 1} → statement M
-known-of-spec = tie.close (tie.spec (λ c κs. search needs) (λ c κs. search needs) returns)
+known-of-spec = tie.close (tie.spec (λ c κs. search needs) returns)
