@@ -13,7 +13,7 @@ returns-3 : tie.Need-returns-3
 returns-3 c = known-nothing (c .before .before .before .before .before .before .before .before .pre .most) (ap fieldsOf (c .none-near2 .ensures))
 
 returns-4 : tie.Need-returns-4
-returns-4 c = known-nothing (c .before .before .before .before .before .before .before .before .before .before .before .before .before .pre .most) (c .none-near3 .ensures)
+returns-4 c = known-nothing (c .before .before .before .before .before .before .before .before .before .before .before .before .before .pre .most) (ap fieldsOf (c .none-near3 .ensures))
 
 pub first-known-spec : {M : Type 1} → statement M
 first-known-spec =
