@@ -1,4 +1,4 @@
--- The better of two answers.
+-- The better of two answers, for every modem of the family.
 --
 --   isBetter k t m u n    whether the total t with the message m is better than u with n: it is cheaper, or as dear and its message the smaller one
 --   betterFor k x y a b   of two findings with the answers x and y the one with the better answer, whose rival the other is; if neither is better,

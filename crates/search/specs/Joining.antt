@@ -1,4 +1,10 @@
--- The order of messages, and the cases of two answers.
+-- The order of messages, and the cases of two answers, for every modem of the family.
+--
+--   before-yes, before-no, before-next, before-end   which of two messages is the smaller one, from symbol t on
+--   lesser-absent, lesser-alone, lesser-one, lesser-other   the lesser of two margins, by their cases
+--   join-other, join-first   two findings of which one has no answer
+--   join-cheaper, join-dearer   two answers with different totals: the other is a rival
+--   join-before, join-after, join-same   two with one total: by their messages, and where these are one
 use mathlib.Core.Bool.{Bool, true, false, cond, _&&_, _||_}
 use mathlib.Core.Path.{_≡_, refl, sym, ap, ap₂, _∙_}
 use mathlib.Core.List.{List, [], _∷_}
