@@ -1,4 +1,6 @@
 // That the elimination engine and the tree agree on a test word, of both calls by name.
+#![tactic(auto)]
+
 ghost use Rattle.agreement.specs.Both.{BothAgree};
 
 use answers::Finding;
@@ -7,7 +9,7 @@ use doubt::MOST_DOUBT;
 use engine::eliminate;
 
 // What the engine answers, and what the tree finds.
-#[derive(Drop)]
+#[derive(Clone, Copy)]
 pub struct Both {
     pub number: u8,
     pub found: Finding,

@@ -1,5 +1,7 @@
 // What a search has found: an answer with its message and codeword, and the better of two. It knows nothing of how codewords are found, and
 // of no tree, no rows and no costs: a total is a number.
+#![tactic(auto)]
+
 ghost use Rattle.std.specs.Prelude.{◌≡◌, ◌+◌, ◌≤◌, take};
 ghost use Rattle.lists.specs.Margin.{lesser};
 ghost use Rattle.lists.specs.Words.{is_before};
@@ -16,7 +18,7 @@ use encoding::MOST_RATE;
 
 // The message in the first k entries, where k is the rate, and its codeword; and how many test words have a codeword within T. In a search a
 // codeword stands beside 'none near' too: one that is known, near or not.
-#[derive(Drop)]
+#[derive(Clone, Copy)]
 pub struct Finding {
     pub answer: Answer,
     pub message: Message,

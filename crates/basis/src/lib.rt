@@ -1,5 +1,7 @@
 // The eight rows of a basis, each by its values at the places, and one step of Kötter's algorithm on them. It knows of no rate and no order of
 // terms: which polynomials the rows hold, and why a step is right, stands in `values` and `interpolation`.
+#![tactic(auto)]
+
 pub mod step;
 
 use planes::rows::Row;

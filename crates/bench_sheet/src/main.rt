@@ -1,5 +1,7 @@
 // Runs R1 to R6 of document 01's bench sheet on the library, by table and by session. A line is the name, the call's number, the bytes of the
 // report, and whether a bit is set anywhere in the message buffer, both as the call left them: they are lent filled with 1.
+#![tactic(auto)]
+
 ghost use Rattle.std.specs.Prelude.{◌≤◌};
 
 use libc::STDOUT_FILENO;

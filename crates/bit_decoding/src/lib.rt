@@ -1,5 +1,7 @@
 // Decoding from bit values: table decoding's checks in their order, and then decoding by the columns that the frame makes and the doubtful places picked from them.
 // It makes no table of bytes, and answers as table decoding of it does.
+#![tactic(auto)]
+
 ghost use Rattle.std.specs.Prelude.{◌≡◌};
 ghost use Rattle.book.specs.tables.Table.{closed};
 ghost use Rattle.book64.specs.Here.{bits_of};

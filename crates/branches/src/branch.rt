@@ -18,7 +18,7 @@ use stream::bytes::LENT;
 const NOT_ASKED: u8 = 255;
 
 // The number of a call that answers so, and its codeword; the bytes of a lent buffer where there is none.
-#[derive(Drop)]
+#[derive(Clone, Copy)]
 pub struct Branch {
     pub number: u8,
     pub codeword: [u8; PLACES],

@@ -1,5 +1,7 @@
 // Sends a superframe of eight messages at rate 39 through a burst at each start, and prints after how many of them all messages came back: after all
 // bursts of 48 symbols, and not after all of 49.
+#![tactic(auto)]
+
 ghost use Rattle.std.specs.Prelude.{◌≤◌};
 
 use io::print_decimal;

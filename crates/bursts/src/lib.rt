@@ -1,5 +1,7 @@
 // What a user of superframes may rely on, as functions: eight messages are built into a superframe, a burst that the caller gives is written over
 // its symbols, and it is taken apart. It calls `build` and `take_apart`, and knows of nothing below them.
+#![tactic(auto)]
+
 ghost use Rattle.std.specs.Prelude.{◌≡◌, ◌+◌, ◌≤◌, leb, length};
 ghost use Rattle.superframe.specs.Superframe.{symbol_count, frame_length};
 ghost use Rattle.taking_apart.specs.Taking.{taken_by};

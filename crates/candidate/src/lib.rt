@@ -1,4 +1,6 @@
 // The candidate of a row: the message that it holds, by division, and its codeword. It knows of no costs, no tree and no answer.
+#![tactic(auto)]
+
 pub mod rate;
 
 ghost use Rattle.std.specs.Prelude.{◌≡◌, ◌≤◌, take};
@@ -26,7 +28,7 @@ pub type Message = [u8; MOST_RATE];
 // A symbol for each place.
 pub type Word = [u8; PLACES];
 
-#[derive(Drop)]
+#[derive(Clone, Copy)]
 pub struct Candidate {
     pub message: Message,
     pub codeword: Word,

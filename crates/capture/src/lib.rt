@@ -1,5 +1,7 @@
 // The layout of a capture: its versions, and where its parts stand and how many bytes they have. It knows of no code that writes or reads one.
 // What a capture holds is written in `book`; what writing and opening one answer, and their round trips, in specs/.
+#![tactic(auto)]
+
 ghost use Rattle.std.specs.Prelude.{◌≡◌};
 ghost use Rattle.book64.specs.captures.Capture.{is_version, version_of};
 

@@ -1,5 +1,7 @@
 // Calls on whole captures, for C: decoding one, putting one into place order, making one from a table.
 // Each makes calls on a session, one after the other, up to the first that is refused, and adds no check but that of the table's size.
+#![tactic(auto)]
+
 ghost use Rattle.std.specs.Prelude.{◌≡◌};
 ghost use Rattle.soft.specs.Column.{column_of};
 ghost use Rattle.book.specs.tables.Table.{closed};

@@ -1,5 +1,7 @@
 // The search for the nearest codeword as one call: what may be asked, a codeword that is guessed, the settled places' basis, and the tree from
 // there. Blank places are neither settled nor doubled. It knows of no session and no buffers, and not how the guess is made.
+#![tactic(auto)]
+
 ghost use Rattle.std.specs.Prelude.{◌≡◌, ◌≤◌, take};
 ghost use Rattle.soft.specs.Column.{symbols, column_of};
 ghost use Rattle.soft.specs.Blank.{flag_at, unblanked};

@@ -1,5 +1,7 @@
 // What decoding of a table, by doubt or by threshold, and of bit values checks first: the rate, and then the sizes of what is given and of the two lent
 // buffers. It knows of no doubt and of no column.
+#![tactic(auto)]
+
 ghost use Rattle.std.specs.Prelude.{◌≡◌};
 ghost use Rattle.book64.specs.Here.{checks_of};
 

@@ -1,5 +1,7 @@
 // Closing a session: document 01's checks in their order, and then decoding by the session's table and doubtful list.
 // It knows of no codeword: what is near is `decoding`'s.
+#![tactic(auto)]
+
 ghost use Rattle.session.specs.Answering.{Closing};
 
 use decoding::decode;

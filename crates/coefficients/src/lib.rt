@@ -1,4 +1,6 @@
 // The coefficients of a function by order, read off its values at the places, in planes. It knows of no polynomials in z.
+#![tactic(auto)]
+
 pub mod fibres;
 pub mod orders;
 pub mod tables;

@@ -11,7 +11,7 @@ use crate::least::{larger, lesser};
 const ABOVE: u32 = 65536 * SYMBOLS as u32;
 
 // The numbers of the best and of the second symbol.
-#[derive(Drop)]
+#[derive(Clone, Copy)]
 struct Two {
     best: u32,
     second: u32,

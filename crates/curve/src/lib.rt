@@ -1,4 +1,6 @@
 // The constant points by place: place 4X + r has x = X and the r-th smallest y on the curve.
+#![tactic(auto)]
+
 ghost use Rattle.std.specs.Prelude.{◌≡◌, ◌%◌};
 ghost use Rattle.lists.specs.Listed.{listed};
 ghost use Rattle.curve.specs.Curve.{x_of, y_of};

@@ -1,5 +1,7 @@
 // Decoding of a table of costs, with a summary of its columns, by a doubtful list: 'too many blank', 'none near', or the answer's message and its report.
 // It knows of no session and checks no argument; the search is `chase`'s, and nothing here knows how it goes.
+#![tactic(auto)]
+
 ghost use Rattle.std.specs.Prelude.{true, ◌≡◌, List, ℕ, take};
 ghost use Rattle.code.specs.Encoding.{known_rate};
 ghost use Rattle.soft.specs.Column.{places, symbols, column_of};

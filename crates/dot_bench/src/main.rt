@@ -1,5 +1,7 @@
 // Why there are two products: a thousand dot products of 134 bytes by the table for an argument 'table', by computing for any
 // other, and the last of them printed. `bench/products` counts the instructions of each.
+#![tactic(auto)]
+
 ghost use Rattle.std.specs.Prelude.{◌≡◌};
 ghost use Rattle.dot_bench.specs.Dot.{dot};
 

@@ -1,5 +1,7 @@
 // The doubtful places of a table: of those that are not blank the ones of smallest gap, as it counts for choosing, so many as are asked for or as
 // a threshold takes in. It knows of no word and no code.
+#![tactic(auto)]
+
 ghost use Rattle.std.specs.Prelude.{◌≡◌, cond, List, ℕ, ◌+◌, ◌<◌, length, set};
 ghost use Rattle.lists.specs.Least.{least_of};
 ghost use Rattle.soft.specs.Column.{places, symbols, column_of, counted_gap};
@@ -23,7 +25,7 @@ pub const MOST_DOUBT: usize = 12;
 const FAR: u32 = 65536 * PLACES as u32;
 
 // Places from the front of an array, and how many they are.
-#[derive(Drop)]
+#[derive(Clone, Copy)]
 pub struct Picked {
     pub places: [u8; MOST_DOUBT],
     pub count: usize,

@@ -11,7 +11,7 @@ use planes::rows::{Row, added, multiples, whole};
 pub type Pivots = [Row; PLACES];
 
 // A row, and the place of its first value among those that count; past the last place if it has none.
-#[derive(Drop)]
+#[derive(Clone, Copy)]
 pub struct Reduced {
     pub place: usize,
     pub row: Row,

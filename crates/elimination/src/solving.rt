@@ -12,7 +12,7 @@ use planes::{PLACES, Planes};
 const NO_TERM: usize = PLACES + 1;
 
 // A key, and the row of the polynomial that leads there.
-#[derive(Drop)]
+#[derive(Clone, Copy)]
 pub struct Solved {
     pub key: usize,
     pub row: Row,

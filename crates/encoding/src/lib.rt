@@ -1,5 +1,7 @@
 // Encoding: a message as a function, symbol t at the t-th present order, and its values at all places; and the call.
 // It knows of no costs, no doubt and no session.
+#![tactic(auto)]
+
 ghost use Rattle.std.specs.Prelude.{◌≡◌, ◌+◌, ◌%◌, min, replicate};
 ghost use Rattle.lists.specs.Filled.{Filled};
 ghost use Rattle.lists.specs.Over.{over};

@@ -1,5 +1,7 @@
 // The elimination engine as one call: of one test word the codeword within T of it and the least Q through it, by elimination. It knows of no
 // session, no costs and no tree.
+#![tactic(auto)]
+
 ghost use Rattle.std.specs.Prelude.{false, ◌≡◌, ◌+◌, ◌<◌, ◌≤◌, length};
 ghost use Rattle.lists.specs.Count.{count};
 ghost use Rattle.lists.specs.Listed.{listed};
@@ -23,7 +25,7 @@ use refusals::{ACCEPTED, NO_SYMBOL, NONE_NEAR, TOO_BLANK, UNKNOWN_RATE, WRONG_DO
 use session::{fit_places, is_among};
 
 // Whether a codeword is near, and then its symbols and the bytes of the least Q.
-#[derive(Drop)]
+#[derive(Clone, Copy)]
 struct Solution {
     near: bool,
     codeword: Word,

@@ -1,6 +1,8 @@
 // Answers calls of the elimination engine on its standard input, one after the other, on its standard output, and what the tree finds
 // for each word beside it, so that another decoder can make the same calls and compare. reference/src/engine.rs has the layout.
 // The input ends at the first call that is cut short or too long. Without input the program compares the two on words of its own.
+#![tactic(auto)]
+
 mod own;
 
 use branches::calls::answer_next;

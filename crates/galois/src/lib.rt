@@ -3,6 +3,8 @@
 //
 // A constant is built anew at every call of the function that names it: `product_by_table`, `inverse` and `power` are for calls
 // that are rare, and inner loops use `product`, which computes (`bench/products` shows the difference).
+#![tactic(auto)]
+
 ghost use Rattle.std.specs.Prelude.{◌≡◌};
 ghost use Rattle.galois.specs.Gf16.{times, alpha, inverse};
 ghost use Rattle.galois.specs.Carryless.{carryless, reduced};

@@ -1,5 +1,7 @@
 // The field as it runs, in hexadecimal: for each a its products with 0 to 15 by computing, the same by the table, and its
 // inverse; then the powers of α. What it must print was made by multiplying polynomials.
+#![tactic(auto)]
+
 use libc::STDOUT_FILENO;
 
 fn digit(x: u8) {

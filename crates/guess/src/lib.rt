@@ -1,5 +1,7 @@
 // A codeword known before the search: the one that the best symbols are, all of them or all but one. It need not be near: what it tells is
 // asked of it later, as of any codeword that is known. It knows of no costs.
+#![tactic(auto)]
+
 ghost use Rattle.std.specs.Prelude.{◌≡◌, ◌<◌};
 ghost use Rattle.lists.specs.XorSum.{xor_sum};
 ghost use Rattle.galois.specs.Field16.{value};
@@ -72,7 +74,7 @@ fn sum_of(word: Word) -> u8
 }
 
 // Sums over all places: of the symbols, of the symbols times x, and of the symbols times the square of x.
-#[derive(Drop)]
+#[derive(Clone, Copy)]
 struct Sums {
     all: u8,
     across: u8,

@@ -1,5 +1,7 @@
 // Interpolation: the basis of the polynomials Q0 + Q1 z that vanish at the places given, and the least of them. It knows of no costs
 // and no session. M is the weight of z and the limit a key, so no rate is named.
+#![tactic(auto)]
+
 pub mod node;
 pub mod reading;
 pub mod settle;

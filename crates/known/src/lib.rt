@@ -1,5 +1,7 @@
 // A known codeword at a node of the tree, near or not: whether it is the only one that can be near the test words below, how many of them it
 // is near, and the answer there. It knows of no rows and no basis.
+#![tactic(auto)]
+
 ghost use Rattle.std.specs.Prelude.{◌&&◌, ◌≡◌, ◌≤◌, eqb};
 ghost use Rattle.lists.specs.Count.{bit};
 ghost use Rattle.lists.specs.Choices.{choices_of};
@@ -20,7 +22,7 @@ use doubt::MOST_DOUBT;
 use totals::total::total;
 
 // The doubtful places that a node has still to decide: of the first `doubt` in the list the last `left`.
-#[derive(Drop)]
+#[derive(Clone, Copy)]
 pub struct Undecided {
     pub doubtful: [u8; MOST_DOUBT],
     pub doubt: usize,

@@ -1,5 +1,7 @@
 // Facts on lists and computed tests that loops and tables of any crate ask for, and the one loop that copies bytes. It knows of no field,
 // no curve and no code.
+#![tactic(auto)]
+
 ghost use Rattle.std.specs.Prelude.{◌≡◌, min};
 ghost use Rattle.lists.specs.Over.{over};
 

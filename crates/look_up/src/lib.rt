@@ -1,5 +1,7 @@
 // Looking one place up in a capture: its column's bytes, where they lie.
 // It knows of no session and of no column: whether a capture is accepted is `opening`'s to say.
+#![tactic(auto)]
+
 ghost use Rattle.std.specs.Prelude.{◌≡◌, ◌*◌, length};
 ghost use Rattle.book64.specs.captures.Capture.{record_length};
 ghost use Rattle.book64.specs.captures.LookUp.{record_with, look_up_of};

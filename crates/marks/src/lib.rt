@@ -1,6 +1,8 @@
 // The mark of a word that no codeword of its rate undercuts, near or not: what it costs over all best costs is no more than the smallest gaps of
 // its unchanged places add up to. It knows of no code: how many places another codeword differs in at least is a number. Best costs and gaps come
 // from a summary of the columns.
+#![tactic(auto)]
+
 ghost use Rattle.std.specs.Prelude.{◌≡◌, cond, List, ℕ, ◌+◌, ◌-◌, ◌*◌, ◌≤◌, eqb, ltb, leb};
 ghost use Rattle.lists.specs.Count.{bit};
 ghost use Rattle.lists.specs.Listed.{listed};

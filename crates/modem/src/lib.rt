@@ -1,4 +1,6 @@
 // What the modem's firmware calls from C, on numbers and byte slices, each returning the refusal or 0. Nothing else stands here.
+#![tactic(auto)]
+
 ghost use Rattle.std.specs.Prelude.{◌≡◌};
 ghost use Rattle.family.specs.Calls.{outcome};
 ghost use Rattle.code.specs.Calls.{encode_call, read_back_call};

@@ -1,5 +1,7 @@
 // Opening a capture as a session: the checks in document 01's order, then a session opened with its rate and list and its records delivered.
 // It knows a session only by `open` and `deliver`, and a column only as the bytes that `columns` reads.
+#![tactic(auto)]
+
 ghost use Rattle.std.specs.Prelude.{◌≡◌, ◌*◌, length};
 ghost use Rattle.book64.specs.captures.Capture.{records_of, record_length};
 ghost use Rattle.book64.specs.captures.CaptureOpening.{open_capture_of};

@@ -1,4 +1,6 @@
 // Bits of a word of symbols, sixteen symbols at a time. It knows of no field and no planes.
+#![tactic(auto)]
+
 ghost use Rattle.std.specs.Prelude.{◌≡◌, ◌<◌, ◌≤◌};
 ghost use Rattle.packing.specs.Sixteens.{bits_apart, sixteen_of, joined_of};
 

@@ -1,4 +1,6 @@
 // One page for a rate. A theorem is named by crate, file and name, as in docs/CLAIMS.md; tests/statement looks each of them up.
+#![tactic(auto)]
+
 ghost use Rattle.std.specs.Prelude.{◌≤◌};
 ghost use Rattle.candidate.specs.Ranged.{Ranged};
 

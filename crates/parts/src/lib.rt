@@ -1,5 +1,7 @@
 // The two parts of the polynomial Q0 + Q1 z that a row of values holds, by order, and the bytes that show it. How a row is found, step by
 // step or by elimination, is not known here: both ways lead through this crate.
+#![tactic(auto)]
+
 pub mod bytes;
 pub mod orders;
 

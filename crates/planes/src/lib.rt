@@ -1,5 +1,7 @@
 // Values at the 64 places, kept in bit planes: bit p of plane b is bit b of the value at place p, so that one operation on a plane works
 // at all places. It knows of no polynomials and no word.
+#![tactic(auto)]
+
 pub mod constants;
 pub mod lanes;
 pub mod rows;

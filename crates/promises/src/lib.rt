@@ -1,6 +1,8 @@
 // What a call's report holds and what its mark means, as promises of functions that make the call and nothing else: where it is accepted, the report's bytes hold
 // the numbers of the answer, none of them cut, and an answer with the mark is the cheapest of all codewords. And what a look-up hands back is the column's bytes, and what opening a capture and writing the session gives is the capture in place order.
 // That bytes are bytes and costs have 16 bits is taken from the types (`ranges`), so that nothing is left to the caller.
+#![tactic(auto)]
+
 ghost use Rattle.book.specs.tables.Table.{closed};
 ghost use Rattle.promises.specs.Told.{TableTold, BelowTold, BitsTold, SessionTold, ColumnTold, WrittenAgain};
 

@@ -1,5 +1,7 @@
 // What the types say of the elements of a slice, as a fact that a proof can use: a byte is below 256, and a cost of 16 bits below 65536.
 // Nothing is computed here, and a call of these functions costs nothing.
+#![tactic(auto)]
+
 ghost use Rattle.std.specs.Prelude.{true, ◌≡◌};
 ghost use Rattle.lists.specs.Distinct.{below};
 

@@ -1,5 +1,7 @@
 // Interpolant reading of a session: the least Q through its settled places, into the caller's 98 bytes.
 // It keeps nothing between calls and writes nothing but the buffer; how Q is found is `interpolation`'s.
+#![tactic(auto)]
+
 ghost use Rattle.std.specs.Prelude.{◌≡◌};
 ghost use Rattle.lists.specs.Listed.{listed};
 ghost use Rattle.book64.specs.Here.{places};

@@ -1,4 +1,6 @@
 // Reading back: the message is read off the word's coefficients by order, encoded again and compared.
+#![tactic(auto)]
+
 ghost use Rattle.std.specs.Prelude.{true, ◌≡◌, length};
 ghost use Rattle.lists.specs.Words.{all_below};
 ghost use Rattle.code.specs.Rates.{longest};

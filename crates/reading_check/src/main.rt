@@ -1,5 +1,7 @@
 // Prints the readings of R7: a new session's, and that of place 0 settled with best symbol 0; then one after 64 settled places, and one after
 // a blank place, which is not interpolated: it is the new session's.
+#![tactic(auto)]
+
 use io::print_decimal;
 use libc::STDOUT_FILENO;
 use session::Session;

@@ -1,4 +1,6 @@
 // The refusals, by who can cause them: document 01's numbers under one name each. A call that is accepted returns 0.
+#![tactic(auto)]
+
 pub const ACCEPTED: u8 = 0;
 
 // The caller.

@@ -2,12 +2,14 @@
 // the same calls and compare. The session is carried from call to call; the first is a new one of rate 39.
 // A call is a letter, two bytes of length and that many bytes of arguments; reference/src/calls.rs has the letters.
 // The input ends at the first call that is cut short or too long.
+#![tactic(auto)]
+
 use session::Session;
 use stream::answers::answer;
 use stream::bytes::{MOST_BYTES, number, read};
 
 // The session after a call, and whether there was one.
-#[derive(Drop)]
+#[derive(Clone, Copy)]
 struct Turn {
     called: bool,
     session: Session,

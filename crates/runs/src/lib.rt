@@ -1,6 +1,8 @@
 // Runs: lists of calls from an opened session, and the theorem that their answers are the book's (specs/Demand3.antt).
 // The list starts from `open` or `open_capture`, and `step` makes its calls, each on the session that the one before it left. A later call
 // is one kind and one arm more. How a call answers is the business of its own crate; nothing here looks into a session.
+#![tactic(auto)]
+
 ghost use Rattle.std.specs.Prelude.{[]};
 ghost use Rattle.book64.specs.calls.Calls.{deliver, reading, writing, closing, withdraw};
 ghost use Rattle.book64.specs.Here.{open_of};
@@ -13,7 +15,7 @@ use columns::costs::SYMBOLS;
 use session::{Opened, Session};
 
 // The calls that a list is made of.
-#[derive(Drop)]
+#[derive(Clone, Copy)]
 pub enum Kind {
     Deliver,
     Read,
@@ -23,7 +25,7 @@ pub enum Kind {
 }
 
 // What a call answers beside its lent buffers: 0 or the refusal's number, and the session.
-#[derive(Drop)]
+#[derive(Clone, Copy)]
 pub struct Stepped {
     pub refusal: u8,
     pub session: Session,

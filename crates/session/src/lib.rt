@@ -1,6 +1,8 @@
 // A session by value: opening one, delivering one place and its column of sixteen costs, and withdrawing one place.
 // It holds the columns by place, and nothing of the order of arrival: sessions from openings that hold the same are equal.
 // It knows of no codeword and no interpolant; what a session stands for is its book (specs/View.antt).
+#![tactic(auto)]
+
 ghost use Rattle.std.specs.Prelude.{◌≡◌, ◌<◌};
 ghost use Rattle.lists.specs.Distinct.{among};
 ghost use Rattle.lists.specs.Block.{put_block};
@@ -14,7 +16,7 @@ use columns::costs::{COSTS, PLACES, SYMBOLS};
 use doubt::MOST_DOUBT;
 use lists::copy;
 
-#[derive(Drop)]
+#[derive(Clone, Copy)]
 pub struct Session {
     pub rate: u8,
     pub doubt: usize,
@@ -24,21 +26,21 @@ pub struct Session {
 }
 
 // What an opening answers: 0 or the refusal's number, and the session.
-#[derive(Drop)]
+#[derive(Clone, Copy)]
 pub struct Opened {
     pub refusal: u8,
     pub session: Session,
 }
 
 // What a delivery answers: 0 or the refusal's number, and the session.
-#[derive(Drop)]
+#[derive(Clone, Copy)]
 pub struct Delivered {
     pub refusal: u8,
     pub session: Session,
 }
 
 // What a withdrawal answers: 0 or the refusal's number, and the session.
-#[derive(Drop)]
+#[derive(Clone, Copy)]
 pub struct Withdrawn {
     pub refusal: u8,
     pub session: Session,

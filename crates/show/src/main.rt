@@ -1,5 +1,7 @@
 // Reads a capture from standard input and prints what its session closes with: `rate d total tests pinned changed margin`, then the
 // message in hexadecimal digits; or `refused N`. No more than 4,096 bytes are read: a capture is shorter, and a longer input is refused by its size.
+#![tactic(auto)]
+
 ghost use Rattle.std.specs.Prelude.{◌≡◌, ◌≤◌, length, replicate};
 ghost use Rattle.session.specs.View.{book_of, Good};
 ghost use Rattle.text.specs.Appended.{Appended};

@@ -1,5 +1,7 @@
 // Prints what the bench sheet's columns C9 and C10 read, the doubtful places of a small table with doubt 3, how many they are, what the zero word costs there,
 // and what columns from bit values read and cost.
+#![tactic(auto)]
+
 use columns::{bits, column, costs};
 use io::print_decimal;
 use libc::STDOUT_FILENO;

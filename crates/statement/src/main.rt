@@ -1,6 +1,8 @@
 // What the decoder always repairs and always refuses at a rate, for a tender: reads one line from standard input. For a rate it writes the
 // page of that rate, for `all` the tables of all of them, and for anything else a sentence. The numbers come from the functions that the
 // decoder itself goes by.
+#![tactic(auto)]
+
 mod table;
 
 ghost use Rattle.std.specs.Prelude.{◌≤◌, ◌<◌, length};

@@ -1,5 +1,7 @@
 // What a table's columns say of each place, read off them once: the best symbol, its cost, the gap, and whether the place is not blank.
 // It knows of no doubtful place, no word and no code.
+#![tactic(auto)]
+
 ghost use Rattle.std.specs.Prelude.{cond, ◌≡◌, ◌+◌, ◌*◌, ◌<◌, ◌≤◌, min, max, ltb, length};
 ghost use Rattle.lists.specs.Count.{bit};
 ghost use Rattle.lists.specs.Least.{least_of};
@@ -14,7 +16,7 @@ use columns::blank::is_open;
 use columns::costs::{CEILING, COSTS, PLACES, SYMBOLS, number_at};
 
 // By place the best of the symbols passed, its cost, and the next cost.
-#[derive(Drop)]
+#[derive(Clone, Copy)]
 struct Held {
     best: [u16; PLACES],
     least: [u16; PLACES],
@@ -22,7 +24,7 @@ struct Held {
 }
 
 // By place the best symbol, its cost, the plain gap, and a flag of 1 where the place is not blank.
-#[derive(Drop)]
+#[derive(Clone, Copy)]
 pub struct Summary {
     pub best: [u8; PLACES],
     pub least: [u16; PLACES],

@@ -1,4 +1,6 @@
 // Superframes: eight codewords of one rate in one frame, with their symbols interleaved; what one is, and building one. It knows of no decoding.
+#![tactic(auto)]
+
 use columns::costs::PLACES;
 
 pub mod building;

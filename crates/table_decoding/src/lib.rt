@@ -1,5 +1,7 @@
 // Table decoding: document 01's checks in their order, and then decoding by the table's columns and the doubtful places picked from them.
 // It knows of no session and of no codeword: what is near is `decoding`'s.
+#![tactic(auto)]
+
 ghost use Rattle.std.specs.Prelude.{◌≡◌};
 ghost use Rattle.book.specs.tables.Table.{closed};
 ghost use Rattle.book64.specs.Here.{table_of};

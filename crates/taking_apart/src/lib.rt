@@ -1,4 +1,6 @@
 // Taking a superframe apart: each word by its own columns, and each message into its own part of one buffer. It knows of no tree and no session.
+#![tactic(auto)]
+
 ghost use Rattle.std.specs.Prelude.{true, cond, ◌≡◌, ◌*◌, ◌<◌, eqb, length};
 ghost use Rattle.refusals.specs.Refusal.{none_near};
 ghost use Rattle.soft.specs.Column.{places, symbols, column_of};
@@ -20,7 +22,7 @@ use superframe::{
 };
 
 // What taking apart answers: 0 or the refusal's number, and which words have no codeword near, word v as 2^v.
-#[derive(Drop)]
+#[derive(Clone, Copy)]
 pub struct Taken {
     pub refusal: u8,
     pub status: u8,

@@ -1,5 +1,7 @@
 // What `show` prints, as text in a lent buffer: each function puts some behind the first `at` bytes and answers where the text then ends.
 // It knows of no session: a report is its bytes.
+#![tactic(auto)]
+
 ghost use Rattle.std.specs.Prelude.{◌≡◌, map, ◌++◌, ◌+◌, ◌*◌, ◌≤◌, ◌<◌, length};
 ghost use Rattle.book.specs.closing.Report.{total_in, tests_in};
 ghost use Rattle.book64.specs.Here.{margin_in};

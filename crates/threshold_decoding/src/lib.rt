@@ -1,5 +1,7 @@
 // Table decoding with a threshold: table decoding's checks in their order, the maximum in the place of the doubt, and then decoding by the table's columns and
 // the places that the threshold makes doubtful. It knows of no session and of no codeword.
+#![tactic(auto)]
+
 ghost use Rattle.std.specs.Prelude.{◌≡◌};
 ghost use Rattle.book.specs.tables.Table.{closed};
 ghost use Rattle.book64.specs.Here.{table_below_of};

@@ -1,5 +1,7 @@
 // The tree of test words: the doubtful places are doubled one after the other, until a row of the basis decides which codeword alone can be
 // near the test words below. It knows of no session and no buffers, and not which places are doubtful.
+#![tactic(auto)]
+
 ghost use Rattle.std.specs.Prelude.{◌⊎◌, ◌≡◌, ◌<◌, ◌≤◌};
 ghost use Rattle.basis.specs.Choice.{lead_at};
 ghost use Rattle.basis.specs.Step.{classes};

@@ -1,5 +1,7 @@
 // Writing a session as a capture: the checks in document 01's order, then the head and the records in rising place order.
 // It knows a session only by its fields, and a column only as sixteen costs.
+#![tactic(auto)]
+
 ghost use Rattle.std.specs.Prelude.{◌≡◌, ◌*◌, ◌≤◌, length, take};
 ghost use Rattle.soft.specs.Doubt.{most_doubt};
 ghost use Rattle.soft.specs.CostBytes.{cost_bytes};
