@@ -4,9 +4,11 @@
 
 ghost use Rattle.std.specs.Prelude.{◌≤◌};
 
-use libc::STDOUT_FILENO;
 use session::Session;
 use totals::report::REPORT_BYTES;
+
+// The descriptor of standard output.
+const STDOUT_FILENO: i32 = 1;
 
 // Is place p one of the first m of the places 0, 10, 20, 30, 40, 50, 60?
 fn leaning(place: usize, m: usize) -> bool {

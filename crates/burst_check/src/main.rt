@@ -5,7 +5,9 @@
 ghost use Rattle.std.specs.Prelude.{◌≤◌};
 
 use io::print_decimal;
-use libc::STDOUT_FILENO;
+
+// The descriptor of standard output.
+const STDOUT_FILENO: i32 = 1;
 
 // Symbols with no order to see, others for each seed.
 fn fill(out: &mut [u8], seed: u16) {

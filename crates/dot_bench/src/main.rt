@@ -5,7 +5,9 @@
 ghost use Rattle.std.specs.Prelude.{◌≡◌};
 ghost use Rattle.dot_bench.specs.Dot.{dot};
 
-use libc::STDOUT_FILENO;
+// The descriptor of standard output.
+const STDOUT_FILENO: i32 = 1;
+
 
 fn dot_by_table(a: [u8; 134], b: [u8; 134]) -> u8
     ensures { result ≡ dot 134 a b }
@@ -44,11 +46,10 @@ fn thousand(by_table: bool) -> u8 {
     last
 }
 
-fn main() {
-    for i in 1..os::arg_count() {
-        let mut word = [0u8; 8];
-        os::arg(i, &mut word);
-        io::print_decimal(STDOUT_FILENO, thousand(word[0] == b't') as u64);
+fn main(rt: HostRuntime) -> std::io::Result<()> {
+    for word in std::env::args(&rt)?.skip(1) {
+        io::print_decimal(STDOUT_FILENO, thousand(word.starts_with('t')) as u64);
         io::write_all(STDOUT_FILENO, b"\n");
     }
+    Ok(())
 }

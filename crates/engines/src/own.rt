@@ -7,9 +7,11 @@ use agreement::compare;
 use branches::branch::{Branch, branch_in, faded_costs};
 use columns::costs::{PLACES, byte_at};
 use encoding::{LEAST_RATE, MOST_RATE};
-use libc::STDOUT_FILENO;
 use refusals::{ACCEPTED, NONE_NEAR};
 use stream::bytes::{LENT, write, write_byte};
+
+// The descriptor of standard output.
+const STDOUT_FILENO: i32 = 1;
 
 // The bytes of Q.
 const Q_BYTES: usize = 98;

@@ -6,7 +6,9 @@ ghost use Rattle.candidate.specs.Ranged.{Ranged};
 use crate::chance::chance;
 use crate::sums::{bits_within, never_another, sure_doubt, whole_reach};
 use candidate::rate::{blank_limit, least_distance, reach};
-use libc::STDOUT_FILENO;
+
+// The descriptor of standard output.
+const STDOUT_FILENO: i32 = 1;
 
 pub fn write(text: &[u8]) {
     io::write_all(STDOUT_FILENO, text);

@@ -3,8 +3,10 @@
 #![tactic(auto)]
 
 use io::print_decimal;
-use libc::STDOUT_FILENO;
 use session::Session;
+
+// The descriptor of standard output.
+const STDOUT_FILENO: i32 = 1;
 
 fn show(n: u64) {
     print_decimal(STDOUT_FILENO, n);

@@ -7,9 +7,14 @@ ghost use Rattle.session.specs.View.{book_of, Good};
 ghost use Rattle.text.specs.Appended.{Appended};
 ghost use Rattle.show.specs.Shown.{closed_lines, shown_of, Shown};
 
-use libc::{STDIN_FILENO, STDOUT_FILENO};
 use session::Session;
 use totals::report::REPORT_BYTES;
+
+// The descriptor of standard input.
+const STDIN_FILENO: i32 = 0;
+
+// The descriptor of standard output.
+const STDOUT_FILENO: i32 = 1;
 
 // Closes a session into a message buffer of zeros, as long as its rate asks for.
 fn show_closed(opened: Session, message: &mut [u8], out: &mut [u8]) -> usize

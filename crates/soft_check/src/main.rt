@@ -4,8 +4,10 @@
 
 use columns::{bits, column, costs};
 use io::print_decimal;
-use libc::STDOUT_FILENO;
 use totals::total;
+
+// The descriptor of standard output.
+const STDOUT_FILENO: i32 = 1;
 
 fn show(n: u64) {
     print_decimal(STDOUT_FILENO, n);

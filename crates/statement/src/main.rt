@@ -8,8 +8,10 @@ mod table;
 ghost use Rattle.std.specs.Prelude.{◌≤◌, ◌<◌, length};
 
 use encoding::known_rate;
-use libc::STDIN_FILENO;
 use numbers::told::write;
+
+// The descriptor of standard input.
+const STDIN_FILENO: i32 = 0;
 
 // Where the first line ends.
 fn line_end(bytes: &[u8]) -> usize
