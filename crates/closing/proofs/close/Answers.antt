@@ -1,0 +1,77 @@
+-- `close` meets its contract: each return is a case of closing, and the tests on the way say which.
+use mathlib.Core.Path.{◌≡◌, sym, ap, ◌∙◌}
+use mathlib.Core.Logic.{inl, inr}
+use native.Mathlib.Omega.{arith}
+use lib.ListN.{length, take}
+use lib.Seq.{length-take-le}
+use Rattle.soft.specs.Doubt.{most_doubt}
+use Rattle.book64.specs.Modem64.{modem64}
+use Rattle.session.specs.declared.Session.{Session}
+use Rattle.session.specs.declared.Opened.{Opened}
+use Rattle.session.specs.AnsweringLaws.{closing-by-hand, closing-wrong-size, closing-early, closing-decoded}
+use Rattle.session.specs.Laws.{opens}
+use Rattle.answering.specs.Asked.{askable-fit}
+use Rattle.answering.specs.Opened.{fit_opened, opened-fit}
+use borrow.Author.Rules.{rules}
+use borrow.Author.Tests.{not-true, not-false}
+use Rattle.closing.proofs.close.Goals as goal
+
+pub returns-then-message-rate : goal.returns-then-message-rate
+returns-then-message-rate c = closing-wrong-size _ _ _ (inl c.if-message-rate.true)
+
+pub returns-then-report-ne-REPORT_BYTES : goal.returns-then-report-ne-REPORT_BYTES
+returns-then-report-ne-REPORT_BYTES c = closing-wrong-size _ _ _ (inr c.if-report-ne-REPORT_BYTES.true)
+
+pub returns-then-not-all_taken : goal.returns-then-not-all_taken
+returns-then-not-all_taken c =
+    closing-early c.args.session _ _ c.if-message-rate.false c.if-report-ne-REPORT_BYTES.false
+    (sym c.all_taken.ensures ∙ not-true _ c.if-not-all_taken.true)
+
+pub returns-then-doubt-gt-MOST_DOUBT : goal.returns-then-doubt-gt-MOST_DOUBT
+returns-then-doubt-gt-MOST_DOUBT c = closing-by-hand _ _ _ _ (λ good. omega (arith, good.doubt_fits, c.if-doubt-gt-MOST_DOUBT.true))
+
+pub slice_bounds-doubtful-end : goal.slice_bounds-doubtful-end
+slice_bounds-doubtful-end c =
+    let l : length c.args.session.doubtful ≡ most_doubt = search rules in
+    omega arith
+
+pub slice_bounds-open-end : goal.slice_bounds-open-end
+slice_bounds-open-end c =
+    let s : Session = c.args.session in
+    let l : length s.doubtful ≡ most_doubt = search rules in
+    sym (length-take-le s.doubt s.doubtful (omega arith))
+
+pub returns-then-opened-ne-ACCEPTED : goal.returns-then-opened-ne-ACCEPTED
+returns-then-opened-ne-ACCEPTED c =
+    closing-by-hand _ _ _ _
+    (λ good. c.if-opened-ne-ACCEPTED.true (fit_opened modem64 _ _ (ap (λ (o : Opened). o.refusal) c.before.before.«open».ensures ∙ (opens _ _).number) good.rate_known good.list_fit))
+
+pub slice_bounds-summary_of-end : goal.slice_bounds-summary_of-end
+slice_bounds-summary_of-end c =
+    let table_room : length c.args.session.costs ≡ 1024 =
+        search rules in
+    sym (table_room)
+
+pub slice_bounds-decode-end : goal.slice_bounds-decode-end
+slice_bounds-decode-end c =
+    let table_room : length c.args.session.costs ≡ 1024 =
+        search rules in
+    sym (table_room)
+
+pub decode-requires : goal.decode-requires
+decode-requires c =
+    let table_room : length c.args.session.costs ≡ 1024 =
+        search rules in
+    let s : Session = c.args.session in
+    let f = opened-fit modem64 s.rate (take s.doubt s.doubtful) (ap (λ (o : Opened). o.refusal) c.before.before.before.before.before.before.before.before.«open».ensures ∙ (opens _ _).number) c.if-opened-ne-ACCEPTED.false in (
+      record {
+        askable = askable-fit modem64 s.rate s.costs s.doubtful s.doubt f.0 f.1 (table_room) c.if-doubt-gt-MOST_DOUBT.false;
+        message_long = c.if-message-rate.false;
+        report_long = c.if-report-ne-REPORT_BYTES.false;
+      },
+      c.summary_of-summary.ensures,
+    )
+
+pub returns : goal.returns
+returns c =
+    closing-decoded _ _ _ c.if-message-rate.false c.if-report-ne-REPORT_BYTES.false (sym c.all_taken.ensures ∙ not-false _ c.if-not-all_taken.false) c.decode.ensures

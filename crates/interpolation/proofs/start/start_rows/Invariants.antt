@@ -1,0 +1,15 @@
+use mathlib.Core.Path.{◌≡◌}
+use mathlib.Core.List.{[]}
+use Prim.Native.Nat.{◌-◌}
+use lib.ListN.{length}
+use Rattle.lists.specs.Passed.{Passed}
+use Rattle.basis.specs.Step.{classes}
+use Rattle.interpolation.specs.Start.{YPowers}
+use Rattle.interpolation.proofs.Starting.{FirstRow}
+use Rattle.interpolation.proofs.start.start_rows.Given as goal
+
+abbrev pub invariant-loop-r : goal.invariant-loop-r
+invariant-loop-r l = YPowers l.powers × (length l.initial.rows ≡ classes) × (length l.rows ≡ classes) × Passed [] (FirstRow l.m l.symbols) 0 l.r l.initial.rows l.rows
+
+abbrev pub decreases-loop-r : goal.decreases-loop-r
+decreases-loop-r l = classes - l.r

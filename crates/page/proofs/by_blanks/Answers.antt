@@ -1,0 +1,10 @@
+-- `by_blanks` ends, and no line is beyond the limit.
+use native.Mathlib.Omega.{arith}
+use Rattle.numbers.specs.Most.{limit-few}
+use Rattle.page.proofs.by_blanks.Goals as goal
+
+pub blank_limit-blanks-end-requires : goal.blank_limit-blanks-end-requires
+blank_limit-blanks-end-requires c = omega (arith, c.blank-limit.ensures, limit-few c.args.k)
+
+pub overflow_step-blanks : goal.overflow_step-blanks
+overflow_step-blanks c = omega (arith, limit-few c.args.k)

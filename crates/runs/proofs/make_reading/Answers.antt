@@ -1,0 +1,6 @@
+-- `make_reading` meets its contract: what reading ensures is a step that leaves the session as it was.
+use Rattle.runs.specs.Step.{reading_step}
+use Rattle.runs.proofs.make_reading.Goals as goal
+
+pub returns : goal.returns
+returns c = reading_step c.read_interpolant-refusal.ensures

@@ -1,0 +1,6 @@
+-- `make_withdrawal` meets its contract: what a withdrawal ensures is a step.
+use Rattle.runs.specs.Step.{withdrawal-step}
+use Rattle.runs.proofs.make_withdrawal.Goals as goal
+
+pub returns : goal.returns
+returns c = withdrawal-step c.withdraw-withdrawn.ensures

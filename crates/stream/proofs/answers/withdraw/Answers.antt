@@ -1,0 +1,7 @@
+-- The session is the one that the withdrawal leaves.
+use Rattle.stream.specs.Changes.{change_by}
+use Rattle.stream.proofs.answers.withdraw.Goals as goal
+
+pub returns : goal.returns
+unfolding change_by
+returns c = c.lend.ensures

@@ -1,0 +1,15 @@
+use mathlib.Core.Path.{◌≡◌}
+use mathlib.Core.List.{◌++◌}
+use Prim.Native.Nat.{◌≤◌, ◌-◌}
+use lib.ListN.{drop}
+use Rattle.lists.specs.Count.{bit}
+use Rattle.lists.specs.Listed.{listed}
+use Rattle.weighing.specs.Changed.{changed_in}
+use Rattle.totals.proofs.total.changed_places.Given as goal
+
+abbrev pub invariant-loop-place : goal.invariant-loop-place
+invariant-loop-place l =
+    (l.place ≤ 64) × (l.out ≡ listed l.place (λ p. bit (changed_in l.word l.best l.counts p)) ++ drop l.place l.initial.out)
+
+abbrev pub decreases-loop-place : goal.decreases-loop-place
+decreases-loop-place l = 64 - l.place
