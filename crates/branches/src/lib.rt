@@ -2,4 +2,4 @@
 #![tactic(auto)]
 
 pub mod branch;
-pub mod calls;
+pub mod requests;

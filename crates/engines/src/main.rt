@@ -5,7 +5,7 @@
 
 mod own;
 
-use branches::calls::answer_next;
+use branches::requests::answer_next;
 use own::compare_own;
 
 // A proved loop ends, and nothing says that the input does: the turns are counted down from a number that no run uses up.

@@ -1,12 +1,9 @@
-
-
-// The descriptor of standard output.
-const STDOUT_FILENO: i32 = 1;
-
 // The field as it runs, in hexadecimal: for each a its products with 0 to 15 by computing, the same by the table, and its
 // inverse; then the powers of α. What it must print was made by multiplying polynomials.
 #![tactic(auto)]
 
+// The descriptor of standard output.
+const STDOUT_FILENO: i32 = 1;
 
 fn digit(x: u8) {
     io::print_hex(STDOUT_FILENO, x as u64, 1);

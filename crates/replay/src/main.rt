@@ -5,7 +5,7 @@
 #![tactic(auto)]
 
 use session::Session;
-use stream::answers::answer;
+use stream::replies::answer;
 use stream::bytes::{MOST_BYTES, number, read};
 
 // The session after a call, and whether there was one.

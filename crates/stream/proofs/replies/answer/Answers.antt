@@ -2,7 +2,7 @@
 use mathlib.Core.Path.{refl}
 use Rattle.stream.specs.Changes.{leaves_renewed, leaves_kept}
 use Rattle.stream.proofs.Answering.{leaves-as, change-capture, change-short, change-numbered}
-use Rattle.stream.proofs.answers.answer.Goals as goal
+use Rattle.stream.proofs.replies.answer.Goals as goal
 
 pub returns-then-letter-eq67 : goal.returns-then-letter-eq67
 returns-then-letter-eq67 c =

@@ -2,7 +2,7 @@
 use mathlib.Core.Path.{sym}
 use native.Mathlib.Omega.{arith}
 use lib.Seq.{length-take-le}
-use Rattle.stream.proofs.answers.lend.Goals as goal
+use Rattle.stream.proofs.replies.lend.Goals as goal
 
 pub slice_bounds-make-end : goal.slice_bounds-make-end
 slice_bounds-make-end c = sym (length-take-le c.args.size c.lent-first.result (omega arith))

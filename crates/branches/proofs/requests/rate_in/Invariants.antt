@@ -1,6 +1,6 @@
 -- `rate_in` ends and stays within the head.
 use Prim.Native.Nat.{◌≤◌, ◌-◌}
-use Rattle.branches.proofs.calls.rate_in.Given as goal
+use Rattle.branches.proofs.requests.rate_in.Given as goal
 
 abbrev pub invariant-loop-i : goal.invariant-loop-i
 invariant-loop-i l = l.i ≤ 8

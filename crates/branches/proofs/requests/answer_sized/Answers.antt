@@ -2,7 +2,7 @@
 use mathlib.Core.Path.{sym}
 use lib.Seq.{length-take-le}
 use borrow.Author.Rules.{rules}
-use Rattle.branches.proofs.calls.answer_sized.Goals as goal
+use Rattle.branches.proofs.requests.answer_sized.Goals as goal
 
 pub slice_bounds-answer_read-end : goal.slice_bounds-answer_read-end
 slice_bounds-answer_read-end c = sym (length-take-le _ _ (search rules))

@@ -3,7 +3,7 @@ use mathlib.Core.Path.{refl}
 use native.Mathlib.Omega.{arith}
 use Rattle.stream.specs.Changes.{leaves_renewed, leaves_kept}
 use Rattle.stream.proofs.Answering.{leaves-as, numbered-open, numbered-deliver, numbered-withdraw, numbered-kept}
-use Rattle.stream.proofs.answers.answer_numbered.Goals as goal
+use Rattle.stream.proofs.replies.answer_numbered.Goals as goal
 
 pub returns-in-79 : goal.returns-in-79
 returns-in-79 c =

@@ -1,7 +1,7 @@
 -- Buffers of more than 4,096 bytes are not lent; closing leaves the session as it was.
 use Rattle.stream.specs.Changes.{change_by}
 use Rattle.stream.proofs.Answering.{kept_same}
-use Rattle.stream.proofs.answers.close_into.Goals as goal
+use Rattle.stream.proofs.replies.close_into.Goals as goal
 
 pub returns : goal.returns
 unfolding change_by
