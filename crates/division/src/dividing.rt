@@ -10,9 +10,9 @@ use galois::{inverse, product};
 fn y_powers(c: [u8; 64]) -> [[u8; 64]; 4]
     ensures { result ≡ y_powers c }
 {
-    let first = crate::parts::times_y(c);
-    let second = crate::parts::times_y(first);
-    let third = crate::parts::times_y(second);
+    let first = crate::leading::times_y(c);
+    let second = crate::leading::times_y(first);
+    let third = crate::leading::times_y(second);
     [c, first, second, third]
 }
 
@@ -60,7 +60,7 @@ pub fn divide(q0: [u8; 64], q1: [u8; 64], m: usize) -> [u8; 64]
     requires { m < plain_width }
     ensures { Divided q0 q1 m result }
 {
-    let lead = crate::parts::lead(q1);
+    let lead = crate::leading::lead(q1);
     let by = inverse(q1[lead]);
     let powers = y_powers(q1);
     let mut rest = q0;

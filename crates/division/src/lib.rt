@@ -2,4 +2,4 @@
 #![tactic(auto)]
 
 pub mod dividing;
-pub mod parts;
+pub mod leading;

@@ -8,7 +8,6 @@ ghost use Rattle.dot_bench.specs.Dot.{dot};
 // The descriptor of standard output.
 const STDOUT_FILENO: i32 = 1;
 
-
 fn dot_by_table(a: [u8; 134], b: [u8; 134]) -> u8
     ensures { result ≡ dot 134 a b }
 {

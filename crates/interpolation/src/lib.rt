@@ -2,8 +2,8 @@
 // and no session. M is the weight of z and the limit a key, so no rate is named.
 #![tactic(auto)]
 
+pub mod lowest;
 pub mod node;
-pub mod reading;
 pub mod settle;
 pub mod start;
 

@@ -67,7 +67,7 @@ pub fn read_interpolant(session: Session, out: &mut [u8]) -> u8
     let word = columns::word::best_word(&costs);
     let counts = columns::blank::open_places(&costs);
     let settled = flags(taken, &doubtful[..doubt], counts);
-    let bytes = interpolation::reading::reading(word, settled, rate + M_ABOVE_RATE);
+    let bytes = interpolation::lowest::reading(word, settled, rate + M_ABOVE_RATE);
     copy(&bytes, out);
     ACCEPTED
 }

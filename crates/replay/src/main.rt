@@ -5,8 +5,8 @@
 #![tactic(auto)]
 
 use session::Session;
-use stream::replies::answer;
 use stream::bytes::{MOST_BYTES, number, read};
+use stream::replies::answer;
 
 // The session after a call, and whether there was one.
 #[derive(Clone, Copy)]

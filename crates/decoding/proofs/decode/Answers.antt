@@ -28,7 +28,7 @@ returns-in_default c =
 pub slice_bounds-mark-end : goal.slice_bounds-mark-end
 slice_bounds-mark-end c =
     let word_room : length c.nearest_by-found.result.codeword ≡ places =
-        search rules in
+    search rules in
     sym (word_room)
 
 pub least_distance-requires : goal.least_distance-requires
@@ -49,9 +49,9 @@ overflow_cast-found c =
 pub returns : goal.returns
 returns c =
     let found-room : length c.nearest_by-found.result.message ≡ most_rate =
-        search rules in
+    search rules in
     let report-room : length c.report-bytes.result ≡ report_length =
-        search rules in
+    search rules in
     let given = c.requires in
     let near = nearest-call _ _ _ _ _ c.nearest_by-found.ensures in
     let answer = c.in-Near.is in

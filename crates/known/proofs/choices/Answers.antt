@@ -14,23 +14,23 @@ loop-i-init c = (omega arith, sym (choose-zero _), sym (choices-zero _))
 pub overflow_mul-exactly : goal.overflow_mul-exactly
 overflow_mul-exactly c =
     let next : (c.loop-i.exactly * (c.args.m - c.loop-i.i) / (c.loop-i.i + 1) ≡ choose_of c.args.m (c.loop-i.i + 1)) × (c.loop-i.exactly * (c.args.m - c.loop-i.i) ≤ 2 ^ most_doubt * most_doubt) =
-        let m = c.args.m in
-            let i = c.loop-i.i in
-            let e = c.loop-i.invariant.1 in (
-              ap (λ x. x * (m - i) / (i + 1)) e ∙ choose-turn m i (omega arith),
-              subst (λ x. x * (m - i) ≤ 2 ^ most_doubt * most_doubt) (sym e) (choose-times most_doubt m i (omega arith) (m - i) (omega arith)),
-            ) in
+    let m = c.args.m in
+    let i = c.loop-i.i in
+    let e = c.loop-i.invariant.1 in (
+      ap (λ x. x * (m - i) / (i + 1)) e ∙ choose-turn m i (omega arith),
+      subst (λ x. x * (m - i) ≤ 2 ^ most_doubt * most_doubt) (sym e) (choose-times most_doubt m i (omega arith) (m - i) (omega arith)),
+    ) in
     let h = (next).1 in search rules
 
 pub overflow_add-sum : goal.overflow_add-sum
 overflow_add-sum c =
     let next : (c.loop-i.exactly * (c.args.m - c.loop-i.i) / (c.loop-i.i + 1) ≡ choose_of c.args.m (c.loop-i.i + 1)) × (c.loop-i.exactly * (c.args.m - c.loop-i.i) ≤ 2 ^ most_doubt * most_doubt) =
-        let m = c.args.m in
-            let i = c.loop-i.i in
-            let e = c.loop-i.invariant.1 in (
-              ap (λ x. x * (m - i) / (i + 1)) e ∙ choose-turn m i (omega arith),
-              subst (λ x. x * (m - i) ≤ 2 ^ most_doubt * most_doubt) (sym e) (choose-times most_doubt m i (omega arith) (m - i) (omega arith)),
-            ) in
+    let m = c.args.m in
+    let i = c.loop-i.i in
+    let e = c.loop-i.invariant.1 in (
+      ap (λ x. x * (m - i) / (i + 1)) e ∙ choose-turn m i (omega arith),
+      subst (λ x. x * (m - i) ≤ 2 ^ most_doubt * most_doubt) (sym e) (choose-times most_doubt m i (omega arith) (m - i) (omega arith)),
+    ) in
     let m = c.args.m in
     let i = c.loop-i.i in
     let h : c.loop-i.sum + c.loop-i.exactly * (m - i) / (i + 1) ≤ 2 ^ most_doubt + 2 ^ most_doubt =
@@ -40,12 +40,12 @@ overflow_add-sum c =
 pub loop-i-preserved : goal.loop-i-preserved
 loop-i-preserved c =
     let next : (c.loop-i.exactly * (c.args.m - c.loop-i.i) / (c.loop-i.i + 1) ≡ choose_of c.args.m (c.loop-i.i + 1)) × (c.loop-i.exactly * (c.args.m - c.loop-i.i) ≤ 2 ^ most_doubt * most_doubt) =
-        let m = c.args.m in
-            let i = c.loop-i.i in
-            let e = c.loop-i.invariant.1 in (
-              ap (λ x. x * (m - i) / (i + 1)) e ∙ choose-turn m i (omega arith),
-              subst (λ x. x * (m - i) ≤ 2 ^ most_doubt * most_doubt) (sym e) (choose-times most_doubt m i (omega arith) (m - i) (omega arith)),
-            ) in
+    let m = c.args.m in
+    let i = c.loop-i.i in
+    let e = c.loop-i.invariant.1 in (
+      ap (λ x. x * (m - i) / (i + 1)) e ∙ choose-turn m i (omega arith),
+      subst (λ x. x * (m - i) ≤ 2 ^ most_doubt * most_doubt) (sym e) (choose-times most_doubt m i (omega arith) (m - i) (omega arith)),
+    ) in
     (search rules, (next).0, ap₂ (λ a b. a + b) c.loop-i.invariant.2 (next).0 ∙ choices-turn _ _)
 
 pub returns : goal.returns

@@ -16,14 +16,14 @@ use Rattle.known.proofs.governs.Goals as goal
 pub overflow_add-apart : goal.overflow_add-apart
 overflow_add-apart c =
     let measured : c.distance.result ≤ 64 =
-        subst (λ n. n ≤ 64) (sym c.distance.ensures) (distance-small m16 _ _ _) in
+    subst (λ n. n ≤ 64) (sym c.distance.ensures) (distance-small m16 _ _ _) in
     let d = measured in
     search rules
 
 pub overflow_add-apart-2 : goal.overflow_add-apart-2
 overflow_add-apart-2 c =
     let measured : c.distance.result ≤ 64 =
-        subst (λ n. n ≤ 64) (sym c.distance.ensures) (distance-small m16 _ _ _) in
+    subst (λ n. n ≤ 64) (sym c.distance.ensures) (distance-small m16 _ _ _) in
     let d = measured in
     let r : c.reach.result ≤ 28 = subst (λ n. n ≤ 28) (sym c.reach.ensures) (reach-small _ _) in
     search rules

@@ -15,17 +15,17 @@ gaps_of-gaps-requires c = held-order _ c.held_of-held.ensures
 pub flags_of-counts-requires : goal.flags_of-counts-requires
 flags_of-counts-requires c =
     let most : (p s : ℕ) → s < symbols → cost_of (column_of symbols c.args.costs.now p) s ≤ ceiling =
-        costs-most _ (λ i. omega (arith, c.type_inv.costs i)) in
+    costs-most _ (λ i. omega (arith, c.type_inv.costs i)) in
     let gaps : c.gaps_of-gaps.result ≡ listed places (plain_gap (column_of symbols c.args.costs.now)) =
-        c.gaps_of-gaps.ensures ∙ gaps-end (column_of symbols _) (λ p l. column-length symbols _ p) (most) c.held_of-held.ensures in
+    c.gaps_of-gaps.ensures ∙ gaps-end (column_of symbols _) (λ p l. column-length symbols _ p) (most) c.held_of-held.ensures in
     gaps
 
 pub returns : goal.returns
 returns c =
     let most : (p s : ℕ) → s < symbols → cost_of (column_of symbols c.args.costs.now p) s ≤ ceiling =
-        costs-most _ (λ i. omega (arith, c.type_inv.costs i)) in
+    costs-most _ (λ i. omega (arith, c.type_inv.costs i)) in
     let gaps : c.gaps_of-gaps.result ≡ listed places (plain_gap (column_of symbols c.args.costs.now)) =
-        c.gaps_of-gaps.ensures ∙ gaps-end (column_of symbols _) (λ p l. column-length symbols _ p) (most) c.held_of-held.ensures in
+    c.gaps_of-gaps.ensures ∙ gaps-end (column_of symbols _) (λ p l. column-length symbols _ p) (most) c.held_of-held.ensures in
     record {
       wide = λ p l. column-length symbols _ p;
       best = c.symbols_of.ensures ∙ symbols-end (column_of symbols _) (λ p l. column-length symbols _ p) (most) c.held_of-held.ensures;

@@ -5,7 +5,7 @@ use native.Mathlib.Omega.{arith}
 use lib.Dec.{lit≤}
 use Rattle.lists.specs.Passed.{passed_start, passed-turn}
 use Rattle.functions.specs.TimesY.{lower-all, folded_start, folded-turn, folded-end}
-use Rattle.division.proofs.parts.times_y.Goals as goal
+use Rattle.division.proofs.leading.times_y.Goals as goal
 
 pub loop-o-init : goal.loop-o-init
 loop-o-init c = (search rules, passed_start _ _ _ _)

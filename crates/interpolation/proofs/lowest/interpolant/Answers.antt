@@ -4,7 +4,7 @@ use mathlib.Core.Path.{ap, ◌∙◌}
 use Rattle.galois.specs.Field16.{K16, to_f, to_f-inverse}
 use Rattle.basis.specs.Choice.{lead_at}
 use Rattle.interpolation.proofs.LeastRow.{read_held, read-spent}
-use Rattle.interpolation.proofs.reading.interpolant.Goals as goal
+use Rattle.interpolation.proofs.lowest.interpolant.Goals as goal
 
 pub returns-then-lead-gt-LIMIT : goal.returns-then-lead-gt-LIMIT
 unfolding lead_at

@@ -3,7 +3,7 @@ use lib.Dec.{lit<}
 use borrow.Author.Rules.{rules}
 use Rattle.galois.specs.Gf16.{gf16}
 use Rattle.functions.specs.Leading.{all-below, one_lower, lead-here, lead-nowhere}
-use Rattle.division.proofs.parts.lead.Goals as goal
+use Rattle.division.proofs.leading.lead.Goals as goal
 
 pub loop-n-init : goal.loop-n-init
 loop-n-init c = (search rules, all-below gf16 64 _ (search rules))

@@ -1,6 +1,6 @@
 -- Where a key stands in the parts: without z, in the gap, or with z.
 use Rattle.interpolation.proofs.Shown.{at-even, at_gap, at-odd}
-use Rattle.interpolation.proofs.reading.coefficient.Goals as goal
+use Rattle.interpolation.proofs.lowest.coefficient.Goals as goal
 
 pub returns-then-key-eq0 : goal.returns-then-key-eq0
 returns-then-key-eq0 c = at-even _ _ _ _ c.if-key-eq0.true

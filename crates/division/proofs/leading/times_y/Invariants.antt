@@ -3,7 +3,7 @@ use Prim.Native.Nat.{◌≤◌, ◌-◌, ◌%◌}
 use lib.ListN.{length, replicate}
 use Rattle.lists.specs.Passed.{Passed}
 use Rattle.functions.specs.TimesY.{Lower, Folded}
-use Rattle.division.proofs.parts.times_y.Given as goal
+use Rattle.division.proofs.leading.times_y.Given as goal
 
 abbrev pub invariant-loop-o : goal.invariant-loop-o
 invariant-loop-o l = (5 ≤ l.o) × Passed 0 (Lower 4 64 l.c) 5 l.o (replicate 64 0) l.out
