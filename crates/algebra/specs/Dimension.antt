@@ -7,7 +7,7 @@
 use Rattle.std.specs.Prelude.{◌≡◌, List, [], ◌∷◌, ◌≢◌, ℕ, suc, ◌+◌, ◌<◌, ◌≤◌, length}
 use Rattle.std.proofs.Common.{subst, ⊎_elim, arith}
 use mathlib.Core.List.Memᴰ
-use Rattle.std.proofs.Math.Logic.{Dec·not}
+use Rattle.std.proofs.Math.Logic.Dec
 use Rattle.std.proofs.Math.Decide.{dec_le}
 use Rattle.lists.specs.Smallest.{Smallest, search-below}
 use Rattle.algebra.specs.Field.{Field}
@@ -77,7 +77,7 @@ module _ {F : Type 0} (K : Field F) (L : ℕ) where
     pub kernel-rising : (e' : ℕ → ℕ → F) × (m' : ℕ → ℕ) × Rising (Kernel K W D.Val) n e' m'
     kernel-rising =
         ⊎_elim (λ none. (e, m, dropped none)) (λ t. (_, _, others t.0 t.1))
-        (search-below (λ i. (value i).0 ≢ 𝟘) (λ i. Dec·not (K.same (value i).0 𝟘)) (λ i. i) (suc (suc n)))
+        (search-below (λ i. (value i).0 ≢ 𝟘) (λ i. Dec.not (K.same (value i).0 𝟘)) (λ i. i) (suc (suc n)))
 
   rising-same : {W W' : (ℕ → F) → Type 0} {n : ℕ} {e : ℕ → ℕ → F} {m : ℕ → ℕ} → ◌⊆◌ K W W' → Rising W n e m → Rising W' n e m
   rising-same {e = e} into R =

@@ -1,29 +1,28 @@
 -- The tests one after the other.
 use mathlib.Core.Bool.{true}
 use mathlib.Core.Path.{◌≡◌, sym, ◌∙◌}
-use borrow.Author.Tests.{not-true, not-false}
 use Rattle.code.specs.Encoding.{known_rate}
 use Rattle.search.specs.CallLaws.{rate-refused, size-refused, doubt-refused, places-asked}
 use Rattle.chase.specs.Call.{scope64}
 use Rattle.chase.proofs.well_formed.Goals as goal
 
 pub returns-then-not-known_rate : goal.returns-then-not-known_rate
-returns-then-not-known_rate c = sym (rate-refused scope64 _ _ _ _ (sym c.known_rate.ensures ∙ not-true _ c.if-not-known_rate.true))
+returns-then-not-known_rate c = sym (rate-refused scope64 _ _ _ _ (sym c.known_rate.ensures ∙ c.if-not-known_rate.true))
 
 pub returns-then-costs-ne-COSTS : goal.returns-then-costs-ne-COSTS
 returns-then-costs-ne-COSTS c =
     let known : known_rate c.args.rate ≡ true =
-    sym c.known_rate.ensures ∙ not-false _ c.if-not-known_rate.false in
+        sym c.known_rate.ensures ∙ c.if-not-known_rate.false in
     sym (size-refused scope64 _ _ _ _ (known) c.if-costs-ne-COSTS.true)
 
 pub returns-then-doubt-gt-MOST_DOUBT : goal.returns-then-doubt-gt-MOST_DOUBT
 returns-then-doubt-gt-MOST_DOUBT c =
     let known : known_rate c.args.rate ≡ true =
-    sym c.known_rate.ensures ∙ not-false _ c.if-not-known_rate.false in
+        sym c.known_rate.ensures ∙ c.if-not-known_rate.false in
     sym (doubt-refused scope64 _ _ _ _ (known) c.if-costs-ne-COSTS.false c.if-doubt-gt-MOST_DOUBT.true)
 
 pub returns : goal.returns
 returns c =
     let known : known_rate c.args.rate ≡ true =
-    sym c.known_rate.ensures ∙ not-false _ c.if-not-known_rate.false in
+        sym c.known_rate.ensures ∙ c.if-not-known_rate.false in
     c.are_places.ensures ∙ sym (places-asked scope64 _ _ _ _ (known) c.if-costs-ne-COSTS.false c.if-doubt-gt-MOST_DOUBT.false)

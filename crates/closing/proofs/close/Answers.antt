@@ -13,7 +13,6 @@ use Rattle.session.specs.Laws.{opens}
 use Rattle.answering.specs.Asked.{askable-fit}
 use Rattle.answering.specs.Opened.{fit_opened, opened-fit}
 use borrow.Author.Rules.{rules}
-use borrow.Author.Tests.{not-true, not-false}
 use Rattle.closing.proofs.close.Goals as goal
 
 pub returns-then-message-rate : goal.returns-then-message-rate
@@ -25,7 +24,7 @@ returns-then-report-ne-REPORT_BYTES c = closing-wrong-size _ _ _ (inr c.if-repor
 pub returns-then-not-all_taken : goal.returns-then-not-all_taken
 returns-then-not-all_taken c =
     closing-early c.args.session _ _ c.if-message-rate.false c.if-report-ne-REPORT_BYTES.false
-    (sym c.all_taken.ensures ∙ not-true _ c.if-not-all_taken.true)
+    (sym c.all_taken.ensures ∙ c.if-not-all_taken.true)
 
 pub returns-then-doubt-gt-MOST_DOUBT : goal.returns-then-doubt-gt-MOST_DOUBT
 returns-then-doubt-gt-MOST_DOUBT c = closing-by-hand _ _ _ _ (λ good. omega (arith, good.doubt_fits, c.if-doubt-gt-MOST_DOUBT.true))
@@ -44,26 +43,26 @@ slice_bounds-open-end c =
 pub returns-then-opened-ne-ACCEPTED : goal.returns-then-opened-ne-ACCEPTED
 returns-then-opened-ne-ACCEPTED c =
     closing-by-hand _ _ _ _
-    (λ good. c.if-opened-ne-ACCEPTED.true (fit_opened modem64 _ _ (ap (λ (o : Opened). o.refusal) c.before.before.«open».ensures ∙ (opens _ _).number) good.rate_known good.list_fit))
+    (λ good. c.if-opened-ne-ACCEPTED.true (fit_opened modem64 _ _ (ap (λ (o : Opened). o.refusal) c.open-opened.ensures ∙ (opens _ _).number) good.rate_known good.list_fit))
 
 pub slice_bounds-summary_of-end : goal.slice_bounds-summary_of-end
 slice_bounds-summary_of-end c =
     let table_room : length c.args.session.costs ≡ 1024 =
-    search rules in
+        search rules in
     sym (table_room)
 
 pub slice_bounds-decode-end : goal.slice_bounds-decode-end
 slice_bounds-decode-end c =
     let table_room : length c.args.session.costs ≡ 1024 =
-    search rules in
+        search rules in
     sym (table_room)
 
 pub decode-requires : goal.decode-requires
 decode-requires c =
     let table_room : length c.args.session.costs ≡ 1024 =
-    search rules in
+        search rules in
     let s : Session = c.args.session in
-    let f = opened-fit modem64 s.rate (take s.doubt s.doubtful) (ap (λ (o : Opened). o.refusal) c.before.before.before.before.before.before.before.before.«open».ensures ∙ (opens _ _).number) c.if-opened-ne-ACCEPTED.false in (
+    let f = opened-fit modem64 s.rate (take s.doubt s.doubtful) (ap (λ (o : Opened). o.refusal) c.open-opened.ensures ∙ (opens _ _).number) c.if-opened-ne-ACCEPTED.false in (
       record {
         askable = askable-fit modem64 s.rate s.costs s.doubtful s.doubt f.0 f.1 (table_room) c.if-doubt-gt-MOST_DOUBT.false;
         message_long = c.if-message-rate.false;
@@ -74,4 +73,4 @@ decode-requires c =
 
 pub returns : goal.returns
 returns c =
-    closing-decoded _ _ _ c.if-message-rate.false c.if-report-ne-REPORT_BYTES.false (sym c.all_taken.ensures ∙ not-false _ c.if-not-all_taken.false) c.decode.ensures
+    closing-decoded _ _ _ c.if-message-rate.false c.if-report-ne-REPORT_BYTES.false (sym c.all_taken.ensures ∙ c.if-not-all_taken.false) c.decode.ensures

@@ -11,6 +11,6 @@ use Rattle.encoding.proofs.codeword_of.Goals as goal
 pub returns : goal.returns
 returns c =
     c.codeword.ensures
-    ∙ ap (λ f. listed (places m16) (value_of f)) c.before.Function-of.ensures
+    ∙ ap (λ f. listed (places m16) (value_of f)) c.function_of.ensures
     ∙ function-codeword m16 _
     ∙ ap (λ k. encode_of k c.args.message.now) longest-is

@@ -10,7 +10,7 @@ use borrow.Author.Rules.{rules}
 use Rattle.encoding.proofs.function_of.Goals as goal
 
 pub loop-order-init : goal.loop-order-init
-loop-order-init c = (search rules, search rules, c.before.end_of_lem.ensures, c.lowest-out.ensures)
+loop-order-init c = (search rules, search rules, c.end_of-end.ensures, c.lowest-out.ensures)
 
 pub loop-order-preserved : goal.loop-order-preserved
 unfolding genus

@@ -1,6 +1,6 @@
 -- `galois::product_by_table` meets its contract: entry 16a + b of the table is a × b, by one computation over all its entries.
 use mathlib.Core.Path.{◌≡◌, ap₂, ◌∙◌}
-use Prim.Native.Nat.{ℕ, ◌/◌, ◌%◌, ◌<◌}
+use Prim.Native.Nat.{ℕ, ◌+◌, ◌*◌, ◌/◌, ◌%◌, ◌<◌}
 use native.Mathlib.Omega.{arith}
 use lib.ListN.{get_or}
 use borrow.Author.Rules.{rules}
@@ -19,4 +19,4 @@ entry_at {k} a b h p q = listed_at 256 k entry 0 h ∙ ap₂ times p q ∙ times
 
 pub returns : goal.returns
 unfolding listed entry Binary.times Binary.shift_add Binary.xtime
-returns c = entry_at c.args.a c.args.b (search rules) (omega arith) (omega arith)
+returns c = entry_at {k = c.args.a % 16 * 16 + c.args.b % 16} c.args.a c.args.b (search rules) (omega arith) (omega arith)

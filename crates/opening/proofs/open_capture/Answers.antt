@@ -1,5 +1,4 @@
 -- `opening::open_capture` meets its contract: each return is a case of opening a capture, and the tests on the way say which.
-use borrow.Author.Tests.{not-true, not-false}
 use mathlib.Core.Path.{◌≡◌, refl, sym, ap, ◌∙◌, subst}
 use mathlib.Core.List.{List}
 use Prim.Native.Nat.{ℕ, ◌+◌, ◌*◌, ◌-◌}
@@ -25,7 +24,7 @@ returns-then-bytes-gt-MOST_BYTES c = rw c.refused-then-bytes-gt-MOST_BYTES.ensur
 pub returns-then-not-is_version : goal.returns-then-not-is_version
 returns-then-not-is_version c =
     rw c.refused-then-not-is_version.ensures
-    (other-version _ c.if-bytes-lt-LEAST_BYTES.false c.if-bytes-gt-MOST_BYTES.false (sym c.is_version.ensures ∙ not-true _ c.if-not-is_version.true))
+    (other-version _ c.if-bytes-lt-LEAST_BYTES.false c.if-bytes-gt-MOST_BYTES.false (sym c.is_version.ensures ∙ c.if-not-is_version.true))
 
 pub overflow_cast-length : goal.overflow_cast-length
 overflow_cast-length c = omega (arith, c.type_inv.bytes 1)
@@ -48,7 +47,7 @@ overflow_add-length-2 c = omega (arith, c.type_inv.bytes 1, c.type_inv.bytes 2)
 pub returns-then-length-bytes : goal.returns-then-length-bytes
 returns-then-length-bytes c =
     rw c.refused-then-length-bytes.ensures
-    (other-total _ c.if-bytes-lt-LEAST_BYTES.false c.if-bytes-gt-MOST_BYTES.false (sym c.is_version.ensures ∙ not-false _ c.if-not-is_version.false) c.if-length-bytes.true)
+    (other-total _ c.if-bytes-lt-LEAST_BYTES.false c.if-bytes-gt-MOST_BYTES.false (sym c.is_version.ensures ∙ c.if-not-is_version.false) c.if-length-bytes.true)
 
 pub overflow_add-doubt : goal.overflow_add-doubt
 overflow_add-doubt c = omega (arith, c.type_inv.bytes 4)
@@ -56,7 +55,7 @@ overflow_add-doubt c = omega (arith, c.type_inv.bytes 4)
 pub returns-then-length-doubt : goal.returns-then-length-doubt
 returns-then-length-doubt c =
     rw c.refused-then-length-doubt.ensures
-    (other-doubt _ c.if-bytes-lt-LEAST_BYTES.false c.if-bytes-gt-MOST_BYTES.false (sym c.is_version.ensures ∙ not-false _ c.if-not-is_version.false) c.if-length-doubt.true)
+    (other-doubt _ c.if-bytes-lt-LEAST_BYTES.false c.if-bytes-gt-MOST_BYTES.false (sym c.is_version.ensures ∙ c.if-not-is_version.false) c.if-length-doubt.true)
 
 pub overflow_cast-bytes : goal.overflow_cast-bytes
 overflow_cast-bytes c = omega (arith, c.type_inv.bytes 3)
@@ -65,19 +64,19 @@ pub returns-then-refusal-ne-ACCEPTED : goal.returns-then-refusal-ne-ACCEPTED
 returns-then-refusal-ne-ACCEPTED c =
     let bytes : List ℕ = c.args.bytes.now in
     let list : List ℕ = take (5 + doubt_in bytes - 5) (drop 5 bytes) in
-    let e : o.«open».result.refusal ≡ (opened_of (rate_in bytes) list).refusal = ap (λ (c : Opened). o.refusal) o.«open».ensures in
+    let e : c.open-opened.result.refusal ≡ (opened_of (rate_in bytes) list).refusal = ap (λ (c : Opened). c.open-opened) c.open-opened.ensures in
     rw c.refused-then-refusal-ne-ACCEPTED.ensures
     (subst (λ k. Opening (open_capture_of bytes) (refused_with k)) (sym e)
-    (opening-refused bytes c.if-bytes-lt-LEAST_BYTES.false c.if-bytes-gt-MOST_BYTES.false (sym c.is_version.ensures ∙ not-false _ c.if-not-is_version.false) c.if-length-bytes.false c.if-length-doubt.false
+    (opening-refused bytes c.if-bytes-lt-LEAST_BYTES.false c.if-bytes-gt-MOST_BYTES.false (sym c.is_version.ensures ∙ c.if-not-is_version.false) c.if-length-bytes.false c.if-length-doubt.false
     list refl (λ n. c.if-refusal-ne-ACCEPTED.true (e ∙ n))))
 
 pub returns-then-version-suited : goal.returns-then-version-suited
 returns-then-version-suited c =
     let bytes : List ℕ = c.args.bytes.now in
     let list : List ℕ = take (5 + doubt_in bytes - 5) (drop 5 bytes) in
-    let e : o.«open».result.refusal ≡ (opened_of (rate_in bytes) list).refusal = ap (λ (c : Opened). o.refusal) o.«open».ensures in
+    let e : c.open-opened.result.refusal ≡ (opened_of (rate_in bytes) list).refusal = ap (λ (c : Opened). c.open-opened) c.open-opened.ensures in
     rw c.refused-then-version-suited.ensures
-    (opening-misfit bytes c.if-bytes-lt-LEAST_BYTES.false c.if-bytes-gt-MOST_BYTES.false (sym c.is_version.ensures ∙ not-false _ c.if-not-is_version.false) c.if-length-bytes.false c.if-length-doubt.false
+    (opening-misfit bytes c.if-bytes-lt-LEAST_BYTES.false c.if-bytes-gt-MOST_BYTES.false (sym c.is_version.ensures ∙ c.if-not-is_version.false) c.if-length-bytes.false c.if-length-doubt.false
     list refl (sym e ∙ c.if-refusal-ne-ACCEPTED.false) (λ q. c.if-version-suited.true (q ∙ sym c.version_of-suited.ensures)))
 
 pub deliver_records-requires : goal.deliver_records-requires
@@ -86,7 +85,7 @@ deliver_records-requires c =
     let list : List ℕ = take (5 + doubt_in bytes - 5) (drop 5 bytes) in
     let total : length_in bytes + 3 ≡ length bytes = c.if-length-bytes.false in
     let body : length_in bytes ≡ body_length (doubt_in bytes) = c.if-length-doubt.false in (
-      subst (λ (c : Opened). Good o.session) (sym o.«open».ensures) (opens (rate_in bytes) list).good,
+      subst (λ (c : Opened). Good c.if-refusal-ne-ACCEPTED) (sym c.if-refusal-ne-ACCEPTED.ensures) (opens (rate_in bytes) list).good,
       rest-length (5 + doubt_in bytes) (record_length * places) bytes (omega arith),
     )
 
@@ -94,9 +93,9 @@ pub returns : goal.returns
 returns c =
     let bytes : List ℕ = c.args.bytes.now in
     let list : List ℕ = take (5 + doubt_in bytes - 5) (drop 5 bytes) in
-    let e : o.«open».result.refusal ≡ (opened_of (rate_in bytes) list).refusal = ap (λ (c : Opened). o.refusal) o.«open».ensures in
+    let e : c.if-refusal-ne-ACCEPTED.result.refusal ≡ (opened_of (rate_in bytes) list).refusal = ap (λ (c : Opened). c.if-refusal-ne-ACCEPTED) c.if-refusal-ne-ACCEPTED.ensures in
     let rest : List ℕ = take (length bytes - (5 + doubt_in bytes)) (drop (5 + doubt_in bytes) bytes) in
-    delivering bytes c.if-bytes-lt-LEAST_BYTES.false c.if-bytes-gt-MOST_BYTES.false (sym c.is_version.ensures ∙ not-false _ c.if-not-is_version.false) c.if-length-bytes.false c.if-length-doubt.false
+    delivering bytes c.if-bytes-lt-LEAST_BYTES.false c.if-bytes-gt-MOST_BYTES.false (sym c.is_version.ensures ∙ c.if-not-is_version.false) c.if-length-bytes.false c.if-length-doubt.false
     list refl rest c.deliver_records.result (sym e ∙ c.if-refusal-ne-ACCEPTED.false) (c.if-version-suited.false ∙ c.version_of-suited.ensures) refl
-    (subst (λ (c : Opened). Opening (deliver_row (book_of o.session) (records_of places rest)) c.deliver_records.result) o.«open».ensures
+    (subst (λ (c : Opened). Opening (deliver_row (book_of c.if-refusal-ne-ACCEPTED) (records_of places rest)) c.deliver_records.result) c.if-refusal-ne-ACCEPTED.ensures
     c.deliver_records.ensures)

@@ -5,7 +5,6 @@ use native.Mathlib.Omega.{arith}
 use lib.ListN.{length}
 use lib.Seq.{length-take-le}
 use borrow.Author.Rules.{rules}
-use borrow.Author.Tests.{not-true, not-false}
 use Rattle.lists.specs.Over.{over-same}
 use Rattle.soft.specs.Doubt.{most_doubt}
 use Rattle.interpolant.specs.Reading.{reading-size}
@@ -22,7 +21,7 @@ returns-then-out-ne-READING c = reading-wrong-size _ _ c.if-out-ne-READING.true
 pub returns-then-not-known_rate : goal.returns-then-not-known_rate
 returns-then-not-known_rate c =
     reading-by-hand _ _ _
-    (λ good. true≢false (sym good.rate_known ∙ sym c.known_rate.ensures ∙ not-true _ c.if-not-known_rate.true))
+    (λ good. true≢false (sym good.rate_known ∙ sym c.known_rate.ensures ∙ c.if-not-known_rate.true))
 
 pub returns-then-doubt-gt-MOST_DOUBT : goal.returns-then-doubt-gt-MOST_DOUBT
 returns-then-doubt-gt-MOST_DOUBT c = reading-by-hand _ _ _ (λ good. omega (arith, good.doubt_fits, c.if-doubt-gt-MOST_DOUBT.true))
@@ -41,7 +40,7 @@ slice_bounds-flags-end c =
 pub reading-bytes-requires : goal.reading-bytes-requires
 reading-bytes-requires c =
     let known : known_rate c.args.session.rate ≡ true =
-    sym c.known_rate.ensures ∙ not-false _ c.if-not-known_rate.false in
+        sym c.known_rate.ensures ∙ c.if-not-known_rate.false in
     omega (arith, known-bounds _ (known))
 
 pub returns : goal.returns

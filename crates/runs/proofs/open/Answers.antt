@@ -3,4 +3,4 @@ use Rattle.session.specs.Laws.{opens}
 use Rattle.runs.proofs.open.Goals as goal
 
 pub returns : goal.returns
-returns c = rw c.«open».ensures (opens _ _)
+returns c = rw c.open.ensures (opens _ _)

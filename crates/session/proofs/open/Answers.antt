@@ -1,7 +1,6 @@
 -- `session::open` meets its contract: each return is a case of opening, and the tests on the way say which.
 use mathlib.Core.Path.{sym, ap, ◌∙◌}
 use native.Mathlib.Omega.{arith}
-use borrow.Author.Tests.{not-true, not-false}
 use Rattle.code.specs.Rates.{known-bounds}
 use Rattle.session.specs.declared.Session.{Session}
 use Rattle.book64.specs.Modem64.{modem64}
@@ -12,14 +11,14 @@ use Rattle.session.proofs.open.Goals as goal
 pub returns-then-not-known_rate : goal.returns-then-not-known_rate
 returns-then-not-known_rate c =
     c.refused.ensures
-    ∙ sym (opened-rate _ _ (sym c.known_rate.ensures ∙ not-true _ c.if-not-known_rate.true))
+    ∙ sym (opened-rate _ _ (sym c.known_rate.ensures ∙ c.if-not-known_rate.true))
 
 pub returns-then-doubtful-gt-MOST_DOUBT : goal.returns-then-doubtful-gt-MOST_DOUBT
 returns-then-doubtful-gt-MOST_DOUBT c =
     c.refused-then-doubtful-gt-MOST_DOUBT.ensures
     ∙ sym
     (opened-list _ _
-    (sym c.known_rate.ensures ∙ not-false _ c.if-not-known_rate.false)
+    (sym c.known_rate.ensures ∙ c.if-not-known_rate.false)
     (long-unfit modem64 _ c.if-doubtful-gt-MOST_DOUBT.true))
 
 pub returns-then-not-fit_places : goal.returns-then-not-fit_places
@@ -27,15 +26,15 @@ returns-then-not-fit_places c =
     c.refused-then-not-fit_places.ensures
     ∙ sym
     (opened-list _ _
-    (sym c.known_rate.ensures ∙ not-false _ c.if-not-known_rate.false)
-    (short-fit modem64 _ c.if-doubtful-gt-MOST_DOUBT.false ∙ sym c.fit_places.ensures ∙ not-true _ c.if-not-fit_places.true))
+    (sym c.known_rate.ensures ∙ c.if-not-known_rate.false)
+    (short-fit modem64 _ c.if-doubtful-gt-MOST_DOUBT.false ∙ sym c.fit_places.ensures ∙ c.if-not-fit_places.true))
 
 pub overflow_cast-rate : goal.overflow_cast-rate
 overflow_cast-rate c =
     omega (
       arith,
       known-bounds _
-          (sym c.known_rate.ensures ∙ not-false _ c.if-not-known_rate.false),
+          (sym c.known_rate.ensures ∙ c.if-not-known_rate.false),
     )
 
 pub returns : goal.returns
@@ -43,5 +42,5 @@ returns c =
     ap (λ (s : Session). record { refusal = 0; session = s }) c.new_session-fresh.ensures
     ∙ sym
     (opened-new _ _
-    (sym c.known_rate.ensures ∙ not-false _ c.if-not-known_rate.false)
-    (short-fit modem64 _ c.if-doubtful-gt-MOST_DOUBT.false ∙ sym c.fit_places.ensures ∙ not-false _ c.if-not-fit_places.false))
+    (sym c.known_rate.ensures ∙ c.if-not-known_rate.false)
+    (short-fit modem64 _ c.if-doubtful-gt-MOST_DOUBT.false ∙ sym c.fit_places.ensures ∙ c.if-not-fit_places.false))

@@ -14,7 +14,7 @@ returns-then-refusal-ne-ACCEPTED c =
     let o = open_capture_of c.args.bytes.now in
     appended-as
     (ap refused_line opened.ensures.number ∙ sym (opened-refused o (λ e. c.if-refusal-ne-ACCEPTED.true (opened.ensures.number ∙ e))))
-    c.before.before.Put-refused.ensures
+    c.put_refused.ensures
 
 pub returns : goal.returns
 unfolding shown_of

@@ -14,7 +14,7 @@ returns-then-refusal-ne-ACCEPTED c =
     appended-as
     (shows-refused c.args.opened c.args.message.now (replicate report_length 0) close.new.1.0 close.new.1.1.0
     close.result close.ensures c.requires.0 c.requires.1 refl c.if-refusal-ne-ACCEPTED.true)
-    c.before.before.Put-refused.ensures
+    c.put_refused.ensures
 
 pub put_answer-requires : goal.put_answer-requires
 put_answer-requires c =

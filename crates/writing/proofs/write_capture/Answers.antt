@@ -1,6 +1,5 @@
 -- `writing::write_capture` meets its contract: each refusal is a case of writing; else the head and the records make up the capture.
 use borrow.Author.Rules.{rules}
-use borrow.Author.Tests.{not-true, not-false}
 use mathlib.Core.Path.{◌≡◌, sym, ap, ap₂, ◌∙◌}
 use mathlib.Core.List.{List, ◌++◌}
 use Prim.Native.Nat.{ℕ, ◌+◌}
@@ -21,7 +20,7 @@ returns-then-out-doubt c = writing-size _ _ c.if-out-doubt.true
 pub returns-then-not-all_taken : goal.returns-then-not-all_taken
 returns-then-not-all_taken c =
     writing-missing c.args.session _ c.if-out-doubt.false
-    (sym c.all_taken.ensures ∙ not-true _ c.if-not-all_taken.true)
+    (sym c.all_taken.ensures ∙ c.if-not-all_taken.true)
 
 pub slice_bounds-write_head-end-2 : goal.slice_bounds-write_head-end-2
 slice_bounds-write_head-end-2 c =
@@ -62,5 +61,5 @@ returns c =
     let whole = both-parts out head rest start n (omega arith) in
     let long : length (head ++ rest) ≡ length out = length-append head rest ∙ omega arith in
     writing-accepted a.session out sized _ (ap length whole ∙ long)
-    (sym c.all_taken.ensures ∙ not-false _ c.if-not-all_taken.false)
+    (sym c.all_taken.ensures ∙ c.if-not-all_taken.false)
     (whole ∙ ap₂ (λ (x y : List ℕ). x ++ y) c.write_head.ensures c.write_records.ensures)

@@ -15,4 +15,4 @@ unfolding branch_of
 branch-found rate word blanks e h = ap branch_in (e ∙ ap (λ costs. nearest_of rate costs undoubted 0) h)
 
 pub returns : goal.returns
-returns c = c.Branch-in.ensures ∙ branch-found _ _ _ c.nearest.ensures c.faded_costs-costs.ensures
+returns c = c.branch_in.ensures ∙ branch-found _ _ _ c.nearest.ensures c.faded_costs-costs.ensures

@@ -8,7 +8,7 @@ use Rattle.stream.proofs.replies.answer_numbered.Goals as goal
 pub returns-in-79 : goal.returns-in-79
 returns-in-79 c =
     let a = c.args in
-    leaves-as (numbered-open a.letter a.number a.rest.now c.in-79.is) (leaves_renewed c.«open».ensures)
+    leaves-as (numbered-open a.letter a.number a.rest.now c.in-79.is) (leaves_renewed c.open.ensures)
 
 pub returns-in-68 : goal.returns-in-68
 returns-in-68 c =
