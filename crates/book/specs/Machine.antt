@@ -115,14 +115,14 @@ pub record Likeness {B C A : Type 0} (Same : B → B → Type 0) (answer : B →
 module _ {B C A : Type 0} {Same : B → B → Type 0} {answer : B → C → A} {after : B → C → B} (likeness : Likeness Same answer after) where
   pub answers-same : {a b : B} → Same a b → (calls : List C) → answers_by answer after a calls ≡ answers_by answer after b calls
   unfolding answers_by
-  answers-same same [] = refl
-  answers-same same (call ∷ calls) =
-      ap₂ (λ (x : A) l. x ∷ l) (likeness.same_answer same call) (answers-same (likeness.same_after same call) calls)
+  answers-same {a = a} {b = b} same [] = refl
+  answers-same {a = a} {b = b} same (call ∷ calls) =
+      ap₂ (λ (x : A) l. x ∷ l) (likeness.same_answer same call) (answers-same {a = after a call} {b = after b call} (likeness.same_after same call) calls)
 
   pub after_same : {a b : B} → Same a b → (calls : List C) → Same (after_by after a calls) (after_by after b calls)
   unfolding after_by
-  after_same same [] = same
-  after_same same (call ∷ calls) = after_same (likeness.same_after same call) calls
+  after_same {a = a} {b = b} same [] = same
+  after_same {a = a} {b = b} same (call ∷ calls) = after_same {a = after a call} {b = after b call} (likeness.same_after same call) calls
 
 pub record AsBook {S B C A : Type 0} (Good : S → Type 0) (book_of : S → B) (Same : B → B → Type 0) (answer : B → C → A) (after : B → C → B) (s : S)
     (call : C) (a : A) (t : S) : Type 0 where

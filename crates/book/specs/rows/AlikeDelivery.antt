@@ -59,7 +59,7 @@ module _ (𝓓 : Model) where
   pub row-alike : {a b : Book} → Agree a b → (entries : List Entry) → Agreed (deliver_row 𝓓 a entries) (deliver_row 𝓓 b entries)
   row-alike {a} {b} same [] = rw (row-none 𝓓 a, row-none 𝓓 b) (record { same_number = refl; same_book = same })
   row-alike {a} {b} same (e ∷ entries) =
-      go (dec_lt e.place (places 𝓓)) (taken a.row e.place) refl (row-alike (entry-alike same e.place e.column) entries)
+      go (dec_lt e.place (places 𝓓)) (taken a.row e.place) refl (row-alike {a = with_entry a e.place e.column} {b = with_entry b e.place e.column} (entry-alike same e.place e.column) entries)
     where
       other : {t : Bool} → taken a.row e.place ≡ t → taken b.row e.place ≡ t
       other f = sym (taken-alike a.row b.row same.same_columns e.place) ∙ f
