@@ -64,7 +64,7 @@ pub returns-then-refusal-ne-ACCEPTED : goal.returns-then-refusal-ne-ACCEPTED
 returns-then-refusal-ne-ACCEPTED c =
     let bytes : List ℕ = c.args.bytes.now in
     let list : List ℕ = take (5 + doubt_in bytes - 5) (drop 5 bytes) in
-    let e : c.open-opened.result.refusal ≡ (opened_of (rate_in bytes) list).refusal = ap (λ (c : Opened). c.open-opened) c.open-opened.ensures in
+    let e : c.open-opened.result.refusal ≡ (opened_of (rate_in bytes) list).refusal = ap (λ (o : Opened). o.refusal) c.open-opened.ensures in
     rw c.refused-then-refusal-ne-ACCEPTED.ensures
     (subst (λ k. Opening (open_capture_of bytes) (refused_with k)) (sym e)
     (opening-refused bytes c.if-bytes-lt-LEAST_BYTES.false c.if-bytes-gt-MOST_BYTES.false (sym c.is_version.ensures ∙ c.if-not-is_version.false) c.if-length-bytes.false c.if-length-doubt.false
@@ -74,7 +74,7 @@ pub returns-then-version-suited : goal.returns-then-version-suited
 returns-then-version-suited c =
     let bytes : List ℕ = c.args.bytes.now in
     let list : List ℕ = take (5 + doubt_in bytes - 5) (drop 5 bytes) in
-    let e : c.open-opened.result.refusal ≡ (opened_of (rate_in bytes) list).refusal = ap (λ (c : Opened). c.open-opened) c.open-opened.ensures in
+    let e : c.open-opened.result.refusal ≡ (opened_of (rate_in bytes) list).refusal = ap (λ (o : Opened). o.refusal) c.open-opened.ensures in
     rw c.refused-then-version-suited.ensures
     (opening-misfit bytes c.if-bytes-lt-LEAST_BYTES.false c.if-bytes-gt-MOST_BYTES.false (sym c.is_version.ensures ∙ c.if-not-is_version.false) c.if-length-bytes.false c.if-length-doubt.false
     list refl (sym e ∙ c.if-refusal-ne-ACCEPTED.false) (λ q. c.if-version-suited.true (q ∙ sym c.version_of-suited.ensures)))
@@ -85,7 +85,7 @@ deliver_records-requires c =
     let list : List ℕ = take (5 + doubt_in bytes - 5) (drop 5 bytes) in
     let total : length_in bytes + 3 ≡ length bytes = c.if-length-bytes.false in
     let body : length_in bytes ≡ body_length (doubt_in bytes) = c.if-length-doubt.false in (
-      subst (λ (c : Opened). Good c.if-refusal-ne-ACCEPTED) (sym c.if-refusal-ne-ACCEPTED.ensures) (opens (rate_in bytes) list).good,
+      subst (λ (o : Opened). Good o.session) (sym c.open-opened.ensures) (opens (rate_in bytes) list).good,
       rest-length (5 + doubt_in bytes) (record_length * places) bytes (omega arith),
     )
 
@@ -93,9 +93,9 @@ pub returns : goal.returns
 returns c =
     let bytes : List ℕ = c.args.bytes.now in
     let list : List ℕ = take (5 + doubt_in bytes - 5) (drop 5 bytes) in
-    let e : c.if-refusal-ne-ACCEPTED.result.refusal ≡ (opened_of (rate_in bytes) list).refusal = ap (λ (c : Opened). c.if-refusal-ne-ACCEPTED) c.if-refusal-ne-ACCEPTED.ensures in
+    let e : c.open-opened.result.refusal ≡ (opened_of (rate_in bytes) list).refusal = ap (λ (o : Opened). o.refusal) c.open-opened.ensures in
     let rest : List ℕ = take (length bytes - (5 + doubt_in bytes)) (drop (5 + doubt_in bytes) bytes) in
     delivering bytes c.if-bytes-lt-LEAST_BYTES.false c.if-bytes-gt-MOST_BYTES.false (sym c.is_version.ensures ∙ c.if-not-is_version.false) c.if-length-bytes.false c.if-length-doubt.false
     list refl rest c.deliver_records.result (sym e ∙ c.if-refusal-ne-ACCEPTED.false) (c.if-version-suited.false ∙ c.version_of-suited.ensures) refl
-    (subst (λ (c : Opened). Opening (deliver_row (book_of c.if-refusal-ne-ACCEPTED) (records_of places rest)) c.deliver_records.result) c.if-refusal-ne-ACCEPTED.ensures
+    (subst (λ (o : Opened). Opening (deliver_row (book_of o.session) (records_of places rest)) c.deliver_records.result) c.open-opened.ensures
     c.deliver_records.ensures)

@@ -8,11 +8,11 @@ use Rattle.text.proofs.put_decimal.Goals as goal
 
 pub put_bytes-requires : goal.put_bytes-requires
 put_bytes-requires c =
-    omega (arith, c.decimal-count.ensures.0.1, decimal-short c.decimal-count.result c.args.n (omega arith) c.decimal-count.ensures.1.0)
+    omega (arith, c.decimal-count.ensures.in_bounds, decimal-short c.decimal-count.result c.args.n (omega arith) c.decimal-count.ensures.len)
 
 pub returns : goal.returns
 returns c =
     let n = c.args.n in
     let p = c.put_bytes.ensures in
-    let short : c.decimal-count.result ≤ 20 = decimal-short c.decimal-count.result n (omega arith) c.decimal-count.ensures.1.0 in
-    (appended-as (c.decimal-count.ensures.1.1 ∙ decimal-digits 20 c.decimal-count.result n short c.decimal-count.ensures.1.0) p, omega (arith, p.end, c.decimal-count.ensures.0.1))
+    let short : c.decimal-count.result ≤ 20 = decimal-short c.decimal-count.result n (omega arith) c.decimal-count.ensures.len in
+    (appended-as (c.decimal-count.ensures.digits ∙ decimal-digits 20 c.decimal-count.result n short c.decimal-count.ensures.len) p, omega (arith, p.end, c.decimal-count.ensures.in_bounds))
