@@ -10,9 +10,9 @@ returns-then-table-ne-TABLE_BYTES c =
     rw c.refused-then-table-ne-TABLE_BYTES.ensures (table-sized _ _ _ _ c.open-opened.ensures c.if-number-ne-ACCEPTED.false c.if-table-ne-TABLE_BYTES.true)
 
 pub deliver_columns-requires : goal.deliver_columns-requires
-deliver_columns-requires c = (as-book _ _ _ c.if-number-ne-ACCEPTED.ensures).good
+deliver_columns-requires c = (as-book _ _ _ c.open-opened.ensures).good
 
 pub returns : goal.returns
 returns c =
-    table-opened _ _ _ _ c.if-number-ne-ACCEPTED.ensures c.if-number-ne-ACCEPTED.false c.if-table-ne-TABLE_BYTES.false _ c.table_from-costs.ensures _
+    table-opened _ _ _ _ c.open-opened.ensures c.if-number-ne-ACCEPTED.false c.if-table-ne-TABLE_BYTES.false _ c.table_from-costs.ensures _
     c.deliver_columns.ensures

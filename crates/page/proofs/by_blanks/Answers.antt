@@ -3,8 +3,8 @@ use native.Mathlib.Omega.{arith}
 use Rattle.numbers.specs.Most.{limit-few}
 use Rattle.page.proofs.by_blanks.Goals as goal
 
-pub blank_limit-blanks-end-requires : goal.blank_limit-blanks-end-requires
-blank_limit-blanks-end-requires c = omega (arith, c.blank-limit.ensures, limit-few c.args.k)
+pub overflow_add-blanks-end : goal.overflow_add-blanks-end
+overflow_add-blanks-end c = omega (arith, c.blank_limit-blanks-end.ensures, limit-few c.args.k)
 
 pub overflow_step-blanks : goal.overflow_step-blanks
 overflow_step-blanks c = omega (arith, limit-few c.args.k)
