@@ -1,5 +1,6 @@
 -- Refused by a check, none near, or both buffers written.
 use mathlib.Core.Path.{sym, ◌∙◌}
+use borrow.Author.Tests.{not-true, not-false}
 use Rattle.book64.specs.engine.EngineLaws.{engine-passed}
 use Rattle.engine.proofs.Deciding.{refused-left, may-decide, none_left, some_left}
 use Rattle.engine.proofs.eliminate.Goals as goal
@@ -14,7 +15,7 @@ pub decide-found-requires : goal.decide-found-requires
 decide-found-requires c = may-decide _ _ _ _ _ (sym c.checks-number.ensures ∙ c.if-number-ne-ACCEPTED.false) c.unblanked.ensures
 
 pub returns-then-not-found : goal.returns-then-not-found
-returns-then-not-found c = none_left _ _ _ _ _ (sym c.checks-number.ensures ∙ c.if-number-ne-ACCEPTED.false) c.unblanked.ensures c.word_of.ensures c.decide-found.ensures (c.if-not-found.true)
+returns-then-not-found c = none_left _ _ _ _ _ (sym c.checks-number.ensures ∙ c.if-number-ne-ACCEPTED.false) c.unblanked.ensures c.word_of.ensures c.decide-found.ensures (not-true _ c.if-not-found.true)
 
 pub returns : goal.returns
-returns c = some_left _ _ _ _ _ (sym c.checks-number.ensures ∙ c.if-number-ne-ACCEPTED.false) c.unblanked.ensures c.word_of.ensures c.decide-found.ensures (c.if-not-found.false) c.copy.ensures c.copy-2.ensures
+returns c = some_left _ _ _ _ _ (sym c.checks-number.ensures ∙ c.if-number-ne-ACCEPTED.false) c.unblanked.ensures c.word_of.ensures c.decide-found.ensures (not-false _ c.if-not-found.false) c.copy.ensures c.copy-2.ensures
