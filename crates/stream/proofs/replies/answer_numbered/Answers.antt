@@ -44,5 +44,5 @@ pub returns-in_default : goal.returns-in_default
 returns-in_default c =
     let a = c.args in
     leaves-as
-    (numbered-kept a.letter a.number a.rest.now c.in_default.rest.0.0.0.0.0.0.1 c.in_default.rest.0.0.0.0.0.1 c.in_default.rest.1)
+    (numbered-kept a.letter a.number a.rest.now (λ e. omega arith) (λ e. omega arith) (λ e. omega arith))
     (leaves_kept refl)
