@@ -45,8 +45,8 @@ module _ (𝓜 : Member) (most k : ℕ) where
     pub word_of : Word (symbols 𝓜) k (take k r.message)
     pub behind : r.message ≡ padded most (take k r.message)
     pub encoded : r.codeword ≡ encode_of 𝓜 k (take k r.message)
-    pub only : (Q : ℕ → GF gf) → Holds 𝓜 (m_of 𝓜 k) word row Q → (counts : ℕ → Bool) (reach : ℕ) (Near-word : List ℕ)
-        → Decider 𝓜 counts reach k Near-word Q → (m : List ℕ) → Found (symbols 𝓜) k (near_to 𝓜 counts reach k Near-word) m → m ≡ take k r.message
+    pub only : (Q : ℕ → GF gf) → Holds 𝓜 (m_of 𝓜 k) word row Q → (counts : ℕ → Bool) (reach : ℕ) (near-word : List ℕ)
+        → Decider 𝓜 counts reach k near-word Q → (m : List ℕ) → Found (symbols 𝓜) k (near_to 𝓜 counts reach k near-word) m → m ≡ take k r.message
 
   pub record ShownOf (function : List ℕ) (r : Candidate) : Type 0 where
     pub word_of : Word (symbols 𝓜) k (take k r.message)
@@ -84,7 +84,7 @@ module _ (𝓜 : Member) (most k : ℕ) where
           word_of = is_word;
           behind = is-padded;
           encoded = encoded;
-          only = λ Q holds counts reach Near-word h m f.
+          only = λ Q holds counts reach near-word h m f.
               let j = held-lead 𝓜 counts reach rate h f in
               let fits : j.0 + m_of 𝓜 k < places 𝓜 = omega (arith, j.1, h.decides, count-le (places 𝓜) counts) in
               -- the lead of Q leaves its parts below the number of places

@@ -10,4 +10,4 @@ slice_bounds-out-end c = appended-within c.show_bytes-length.ensures.0
 pub slice_bounds-write_all-end : goal.slice_bounds-write_all-end
 slice_bounds-write_all-end c =
     let shown = c.show_bytes-length in
-    sym (length-take-le shown.result shown.new.1.0 (appended-within shown.ensures.0))
+    sym (length-take-le shown.result shown.new.out (appended-within shown.ensures.0))

@@ -12,7 +12,7 @@ pub returns-then-refusal-ne-ACCEPTED : goal.returns-then-refusal-ne-ACCEPTED
 returns-then-refusal-ne-ACCEPTED c =
     let close = c.close-refusal in
     appended-as
-    (shows-refused c.args.opened c.args.message.now (replicate report_length 0) close.new.1.0 close.new.1.1.0
+    (shows-refused c.args.opened c.args.message.now (replicate report_length 0) close.new.message close.new.report
     close.result close.ensures c.requires.0 c.requires.1 refl c.if-refusal-ne-ACCEPTED.true)
     c.put_refused.ensures
 
@@ -27,6 +27,6 @@ pub returns : goal.returns
 returns c =
     let close = c.close-refusal in
     appended-as
-    (shows-closed c.args.opened c.args.message.now (replicate report_length 0) close.new.1.0 close.new.1.1.0
+    (shows-closed c.args.opened c.args.message.now (replicate report_length 0) close.new.message close.new.report
     close.result close.ensures c.requires.0 c.requires.1 refl c.if-refusal-ne-ACCEPTED.false)
     c.put_answer.ensures
