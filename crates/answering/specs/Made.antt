@@ -8,7 +8,7 @@ use Rattle.std.proofs.Common.{sym, ap, ◌∙◌}
 use Rattle.soft.specs.Column.{costs_from, column_of}
 use Rattle.soft.specs.Doubt.{doubtful_of}
 use Rattle.soft.specs.Bits.{bit_costs}
-use Rattle.soft.specs.BitsLaws.{costs-bits}
+use Rattle.soft.proofs.BitsLaws.{costs-bits}
 use Rattle.weighing.specs.Picked.{PickedIn}
 use Rattle.book.specs.Model.{Model, places, width}
 use Rattle.book.specs.closing.Closing.{Closed, report_length, decode_of}

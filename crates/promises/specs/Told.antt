@@ -19,7 +19,7 @@ use Rattle.std.proofs.Math.ListN.{length, get_or-eq_default}
 use Rattle.refusals.specs.Refusal.{accepted, unknown_rate}
 use Rattle.lists.specs.Distinct.{below, below_at}
 use Rattle.soft.specs.Bits.{bits, bit_columns}
-use Rattle.soft.specs.BitsLaws.{bit-table-bytes}
+use Rattle.soft.proofs.BitsLaws.{bit-table-bytes}
 use Rattle.soft.specs.Column.{ceiling, column_of}
 use Rattle.soft.specs.ColumnLaws.{column-length, cost-column}
 use Rattle.soft.specs.CostBytes.{cost_bytes}

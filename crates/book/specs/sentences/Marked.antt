@@ -14,7 +14,7 @@ use Rattle.lists.specs.Count.{bit}
 use Rattle.lists.specs.Distinct.{below}
 use Rattle.lists.specs.Words.{Word}
 use Rattle.soft.specs.Bits.{bit_columns}
-use Rattle.soft.specs.BitsLaws.{bit-table-bytes}
+use Rattle.soft.proofs.BitsLaws.{bit-table-bytes}
 use Rattle.soft.specs.Column.{ceiling}
 use Rattle.soft.specs.Total.{total_of}
 use Rattle.family.specs.Encoding.{encode_of}

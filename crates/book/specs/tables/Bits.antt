@@ -28,7 +28,7 @@ use Rattle.soft.specs.Column as Soft
 use Rattle.soft.specs.Doubt.{doubtful_of}
 use Rattle.soft.specs.Blank.{blank_at, blanks_of}
 use Rattle.soft.specs.Bits.{values_at, bit_columns, bit_table}
-use Rattle.soft.specs.BitsLaws.{bit-column-length, bit-column-most, blank-bits, values-at, bit-table-length, costs-bits, columns-bits}
+use Rattle.soft.proofs.BitsLaws.{bit-column-length, bit-column-most, blank-bits, values-at, bit-table-length, costs-bits, columns-bits}
 use Rattle.near.specs.Near.{blank_limit}
 use Rattle.book.specs.Model.{Model, places, width}
 use Rattle.book.specs.Book.{Entry, column_in}
