@@ -11,7 +11,8 @@ use Rattle.std.proofs.Common.{subst, arith, lit≤}
 use Rattle.code.specs.Encoding.{known_rate}
 use Rattle.code.specs.Rates.{known-bounds, bounds-known}
 use Rattle.near.specs.Reach.{reach-is}
-use Rattle.near.specs.Here.{m_of, m-is, blank_limit, blank-limit-is, reach_of, Workable, workable, IsReach, limit-reach, reach-table}
+use Rattle.near.specs.Here.{m_of, blank_limit, reach_of, Workable, IsReach}
+use Rattle.near.proofs.Here.{m-is, blank-limit-is, workable, limit-reach, reach-table}
 use Rattle.family.specs.Member.{m16}
 
 pub record Rate (rate : ℕ) : Type 0 where

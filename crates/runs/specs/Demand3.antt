@@ -12,7 +12,8 @@
 use Rattle.std.specs.Prelude.{◌≡◌, List, [], ◌∷◌, ◌++◌, ◌↔◌, ◌≢◌, ◌⊎◌, ℕ, suc, ◌+◌, ◌-◌, ◌*◌, ◌<◌, ◌≤◌, length, get_or}
 use Rattle.std.proofs.Common.{subst, arith}
 use Rattle.refusals.specs.Refusal.{accepted, place_missing, none_near, too_blank}
-use Rattle.near.specs.Here.{m-is, blank_limit, IsReach, t-is}
+use Rattle.near.specs.Here.{blank_limit, IsReach}
+use Rattle.near.proofs.Here.{m-is, t-is}
 use Rattle.book.specs.Book.{Book, column_in}
 use Rattle.book.specs.Columns.{Agree}
 use Rattle.book.specs.rows.PlaceOrder.{InPlaceOrder}

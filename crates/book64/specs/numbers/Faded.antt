@@ -13,7 +13,7 @@ use Rattle.family.specs.Member.{m16}
 use Rattle.family.specs.Encoding.{encode_of}
 use Rattle.near.specs.Near.{blank_limit}
 use Rattle.near.specs.Reach.{Reach}
-use Rattle.near.specs.Here as Near
+use Rattle.near.proofs.Here as Near
 use Rattle.code.specs.Encoding.{known_rate}
 use Rattle.book.specs.Model.{places, width}
 use Rattle.book64.specs.Modem64.{modem64}

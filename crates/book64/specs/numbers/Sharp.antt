@@ -26,9 +26,11 @@ use Rattle.soft.specs.Total.{agree, differing_in}
 use Rattle.family.specs.Member.{m16}
 use Rattle.family.specs.Encoding.{encode_of}
 use Rattle.near.specs.Rivals.{doubled, genus-few, genus-odd}
-use Rattle.near.specs.Here.{IsReach, m-is, genus-4, blank_limit, blank-limit-is, reach-table}
+use Rattle.near.specs.Here.{IsReach, blank_limit}
+use Rattle.near.proofs.Here.{m-is, genus-4, blank-limit-is, reach-table}
 use Rattle.near.specs.LeastDistance.{zero-codeword}
-use Rattle.near.specs.Distances.{symbol39, light-39}
+use Rattle.near.specs.Distances.{symbol39}
+use Rattle.near.proofs.Distances.{light-39}
 use Rattle.book64.specs.Modem64.{modem64}
 use Rattle.book.specs.Book.{Entry, Book, column_in, taken, some_missing}
 use Rattle.book.specs.Columns.{columns_of}
