@@ -17,7 +17,8 @@ use Rattle.soft.specs.Column.{best_of, is_blank}
 use Rattle.soft.specs.Doubt.{most_doubt}
 use Rattle.family.specs.Nodes.{Node, node}
 use Rattle.interpolant.specs.LeastQ.{reading_of, reading_length}
-use Rattle.interpolant.specs.Bench.{one_at, place_zero, reading-new, reading-place-0}
+use Rattle.interpolant.specs.Bench.{one_at, place_zero}
+use Rattle.interpolant.proofs.Bench.{reading-new, reading-place-0}
 use Rattle.book64.specs.Modem64.{modem64}
 use Rattle.book.specs.Book.{Entry, Book, new_book, column_in, present, taken, Outcome, Filled}
 use Rattle.book.specs.Columns.{none_free, columns-taken}

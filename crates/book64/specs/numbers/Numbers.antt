@@ -51,7 +51,8 @@ use Rattle.code.specs.Encoding.{least_rate, most_rate, known_rate}
 use Rattle.code.specs.Calls.{fits_frame}
 use Rattle.near.specs.Here.{blank_limit}
 use Rattle.interpolant.specs.LeastQ.{reading_length, top_plain, top_z, byte_key}
-use Rattle.interpolant.specs.Reading.{former_length, byte_key-plain, byte_key-z}
+use Rattle.interpolant.specs.Reading.{former_length}
+use Rattle.interpolant.proofs.Reading.{byte_key-plain, byte_key-z}
 use Rattle.book64.specs.Modem64.{modem64}
 use Rattle.book.specs.Model as Models
 use Rattle.book.specs.Book.{Entry, Book, new_book, taken, Outcome, Filled}

@@ -23,7 +23,7 @@ use Rattle.soft.specs.Column.{best_of, is_blank}
 use Rattle.soft.specs.Blank.{open_at}
 use Rattle.family.specs.Nodes.{Node, node}
 use Rattle.interpolant.specs.LeastQ.{reading_of, reading_length}
-use Rattle.interpolant.specs.Reading.{reading-size, reading-any-order}
+use Rattle.interpolant.proofs.Reading.{reading-size, reading-any-order}
 use Rattle.book64.specs.Modem64.{modem64}
 use Rattle.book.specs.Book.{Entry, Book, taken, Filled}
 use Rattle.book.specs.Columns.{columns-taken, column-taken}

@@ -21,8 +21,8 @@ use Rattle.hermitian.specs.Keys.{Term, plain, times_z, key}
 use Rattle.family.specs.Nodes.{Node}
 use Rattle.interpolant.specs.LeastQ.{coefficient, reading_length, reading_of}
 use Rattle.interpolant.specs.Meaning.{IsLeastQ, Shown}
-use Rattle.interpolant.specs.Least.{least_q-some}
-use Rattle.interpolant.specs.Reading.{reading-size, reading-plain, reading-z, missing-plain, missing-z, all_shown}
+use Rattle.interpolant.proofs.Least.{least_q-some}
+use Rattle.interpolant.proofs.Reading.{reading-size, reading-plain, reading-z, missing-plain, missing-z, all_shown}
 use Rattle.book64.specs.Modem64.{modem64}
 use Rattle.book.specs.Book.{Entry, Book, taken, Outcome, Filled}
 use Rattle.book.specs.Columns.{columns-taken, taken-alike, columns-alike, Agree}
