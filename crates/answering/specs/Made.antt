@@ -12,7 +12,8 @@ use Rattle.soft.proofs.BitsLaws.{costs-bits}
 use Rattle.weighing.specs.Picked.{PickedIn}
 use Rattle.book.specs.Model.{Model, places, width}
 use Rattle.book.specs.closing.Closing.{Closed, report_length, decode_of}
-use Rattle.book.specs.tables.Bits.{frame_length, table_made, bits_of, made-length, bits-as-table}
+use Rattle.book.specs.tables.Bits.{frame_length, table_made, bits_of}
+use Rattle.book.proofs.tables.Bits.{made-length, bits-as-table}
 use Rattle.answering.specs.Asked.{Askable}
 use Rattle.answering.specs.Tabled.{table-askable, table-answers}
 

@@ -12,13 +12,15 @@ use Rattle.lists.specs.Listed.{listed-length}
 use Rattle.lists.specs.Words.{Word}
 use Rattle.book.specs.Model.{Model, places, width}
 use Rattle.book.specs.Book.{Entry, Book, new_book, Outcome}
-use Rattle.book.specs.sentences.Alive.{sent_row, sent_book, sent-columns, sent-delivered, sent-closes}
+use Rattle.book.specs.sentences.Alive.{sent_row, sent_book}
+use Rattle.book.proofs.sentences.Alive.{sent-columns, sent-delivered, sent-closes}
 use Rattle.book.specs.opening.Opening.{open_of}
 use Rattle.book.specs.opening.OpeningLaws.{Known, list-fits}
 use Rattle.book.specs.rows.Costs.{RowColumns}
 use Rattle.book.specs.closing.Closing.{Closed, report_length, close_of}
 use Rattle.book.specs.calls.Calls.{Answer, Call, closing, Others, answers, after_all}
-use Rattle.book.specs.calls.CallLaws.{AllFit, deliveries, row-calls}
+use Rattle.book.specs.calls.CallLaws.{AllFit, deliveries}
+use Rattle.book.proofs.calls.CallLaws.{row-calls}
 use Rattle.book.specs.Machine.{fit_nil, fit_cons}
 use Rattle.book.specs.tables.Table.{entries_of}
 use Rattle.book.specs.tables.TableSentences.{up_to}

@@ -30,7 +30,7 @@ use Rattle.book.specs.rows.Withdrawal.{without_place}
 use Rattle.book.specs.closing.Closing.{report_length}
 use Rattle.book.specs.sentences.Sentences.{IsNear, IsAnswer, Closes}
 use Rattle.book.specs.calls.Calls.{Answer, Call, deliver, withdraw, closing, Others, first_lent, second_lent, answer, after, answers, after_all}
-use Rattle.book.specs.calls.CallLaws as laws
+use Rattle.book.proofs.calls.CallLaws as laws
 use Rattle.book.specs.calls.CallLaws.{AllFit}
 use Rattle.book.specs.calls.Undone.{Spares, accepted_of}
 use Rattle.calls.specs.Held.{new_held}

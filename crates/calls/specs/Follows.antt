@@ -29,10 +29,12 @@ use Rattle.book.specs.Columns.{Agree, agree-sym, agree-path, agree_trans}
 use Rattle.book.specs.closing.Closing.{Closed, report_length, close_of}
 use Rattle.book.specs.opening.Opening.{open_of}
 use Rattle.book.specs.opening.OpeningLaws.{Known, DoubtfulList}
-use Rattle.book.specs.sentences.Sentences.{blanks_in, Closes, closes, opening_accepts}
+use Rattle.book.specs.sentences.Sentences.{blanks_in, Closes}
+use Rattle.book.proofs.sentences.Sentences.{closes, opening_accepts}
 use Rattle.book.specs.rows.Costs.{RowColumns, new-costs}
 use Rattle.book.specs.calls.Calls.{Answer, Call, closing, Others, answer, answers, after_all}
-use Rattle.book.specs.calls.CallLaws.{answer-alike, answers-alike, after_all-alike, rate-held, AllFit}
+use Rattle.book.specs.calls.CallLaws.{AllFit}
+use Rattle.book.proofs.calls.CallLaws.{answer-alike, answers-alike, after_all-alike, rate-held}
 use Rattle.calls.specs.Keeping.{Keeping, book_of, Good, one-session}
 use Rattle.calls.specs.Promises.{Opening}
 use Rattle.calls.specs.Step.{Step}

@@ -32,8 +32,9 @@ use Rattle.book.specs.opening.Opening.{open_of}
 use Rattle.book.specs.opening.OpeningLaws.{Known, DoubtfulList}
 use Rattle.book.specs.closing.Closing.{Closed, report_length, close_of}
 use Rattle.book.specs.calls.Calls.{Answer, Call, closing, Others, after_all}
-use Rattle.book.specs.calls.CallLaws.{rate-held, list_held}
-use Rattle.book.specs.sentences.Repairs.{FewWrong, not_best, Repaired, NoDearer, TooFar, RefusedAs, Alone, Sure, Never, always-repaired, always-refused, always-found, few-alone, always-alone, never-another}
+use Rattle.book.proofs.calls.CallLaws.{rate-held, list_held}
+use Rattle.book.specs.sentences.Repairs.{FewWrong, not_best, Repaired, NoDearer, TooFar, RefusedAs, Alone, Sure, Never}
+use Rattle.book.proofs.sentences.Repairs.{always-repaired, always-refused, always-found, few-alone, always-alone, never-another}
 use Rattle.calls.specs.Keeping.{Keeping}
 use Rattle.calls.specs.Promises.{Opening}
 use Rattle.calls.specs.PromiseLaws.{no-places}

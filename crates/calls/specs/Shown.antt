@@ -14,9 +14,10 @@ use Rattle.book.specs.Columns.{Agree}
 use Rattle.book.specs.opening.Opening.{fit_doubt, open_of}
 use Rattle.book.specs.opening.OpeningLaws.{list-short, Known, DoubtfulList}
 use Rattle.book.specs.calls.Calls.{Answer, Call, closing, Others, answer, after_all}
-use Rattle.book.specs.calls.CallLaws.{answer-alike, after-costs}
+use Rattle.book.proofs.calls.CallLaws.{answer-alike, after-costs}
 use Rattle.book.specs.rows.Costs.{RowColumns}
-use Rattle.book.specs.closing.Report.{ReportedIn, closing-shows}
+use Rattle.book.specs.closing.Report.{ReportedIn}
+use Rattle.book.proofs.closing.Report.{closing-shows}
 use Rattle.calls.specs.Keeping.{Keeping, book_of, Good, good-proper}
 use Rattle.calls.specs.Promises.{Opening}
 use Rattle.calls.specs.Step.{Step}

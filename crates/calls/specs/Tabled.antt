@@ -24,23 +24,27 @@ use Prim.Native.Nat.{ℕ, ◌<◌, ◌≤◌}
 use Rattle.std.proofs.Math.Decide.{ℕ_discrete}
 use Rattle.std.proofs.Math.Dec.{eqb}
 use Rattle.refusals.specs.Refusal.{accepted}
-use Rattle.book.specs.Machine.{after_by, carried, after-append, fit_cons}
+use Rattle.book.specs.Machine.{after_by, fit_cons}
+use Rattle.book.proofs.Machine.{carried, after-append}
 use Rattle.book.specs.Model.{Model, places}
 use Rattle.book.specs.Book.{Entry, Book, new_book, column_in, present, taken, Outcome}
 use Rattle.book.specs.rows.Delivery.{with_entry}
 use Rattle.book.specs.rows.Withdrawal.{without_place, withdraw_of}
-use Rattle.book.specs.rows.WithdrawalLaws.{freed-here, freed-other, withdraw-free, withdraw-accepted}
+use Rattle.book.proofs.rows.WithdrawalLaws.{freed-here, freed-other, withdraw-free, withdraw-accepted}
 use Rattle.book.specs.Columns.{column-free, none_free, Agree}
 use Rattle.book.specs.rows.RowLaws.{none_above, column-append, deliver-accepted}
 use Rattle.book.specs.opening.Opening.{open_of}
 use Rattle.book.specs.opening.OpeningLaws.{Known, fits-list}
 use Rattle.book.specs.closing.Closing.{close_of}
 use Rattle.book.specs.calls.Calls.{Answer, Call, deliver, closing, withdraw, Others, answer, after, after_all}
-use Rattle.book.specs.calls.CallLaws.{Changes, only_changes, rate-held, list_held}
+use Rattle.book.specs.calls.CallLaws.{Changes}
+use Rattle.book.proofs.calls.CallLaws.{only_changes, rate-held, list_held}
 use Rattle.book.specs.calls.Undone.{Spares}
-use Rattle.book.specs.sentences.Sentences.{closing-alike}
-use Rattle.book.specs.tables.Table.{table_length, table_columns, picked_of, table_of, Delivered, picked_fit, table-as-session}
-use Rattle.book.specs.tables.Below.{picked_below, table_below_of, doubt_for, doubt-for-most, below-picked, below-as-table}
+use Rattle.book.proofs.sentences.Sentences.{closing-alike}
+use Rattle.book.specs.tables.Table.{table_length, table_columns, picked_of, table_of, Delivered}
+use Rattle.book.proofs.tables.Table.{picked_fit, table-as-session}
+use Rattle.book.specs.tables.Below.{picked_below, table_below_of, doubt_for}
+use Rattle.book.proofs.tables.Below.{doubt-for-most, below-picked, below-as-table}
 use Rattle.calls.specs.Keeping.{Keeping, book_of, Good, good-proper}
 use Rattle.calls.specs.Promises.{Opening}
 use Rattle.calls.specs.Step.{Step}

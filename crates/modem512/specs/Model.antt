@@ -19,7 +19,8 @@ use Rattle.book.specs.opening.Opening.{refused_opening}
 use Rattle.book.specs.opening.OpeningLaws.{DoubtfulList}
 use Rattle.book.specs.closing.Closing.{report_length}
 use Rattle.book.specs.tables.Table.{table_length}
-use Rattle.book.specs.closing.Report.{number_in, pinned_in, changed_in, runner_in, margin_in, mark_in, number-byte}
+use Rattle.book.specs.closing.Report.{number_in, pinned_in, changed_in, runner_in, margin_in, mark_in}
+use Rattle.book.proofs.closing.Report.{number-byte}
 use Rattle.member64.specs.Member64.{m64}
 use Rattle.modem512.specs.Ground.{genus-8, workable-512, reaches-512, limits-512}
 

@@ -29,7 +29,7 @@ use Rattle.code.specs.Encoding.{known_rate}
 use Rattle.book64.specs.Rates.{Rate, rate_known, known-rate}
 use Rattle.book.specs.calls.Calls.{Answer}
 use Rattle.book64.specs.calls.Calls.{Call, others64, answers, after_all}
-use Rattle.book.specs.sentences.Sentences.{opening-only}
+use Rattle.book.proofs.sentences.Sentences.{opening-only}
 use Rattle.book64.specs.Here.{open_of, DoubtfulList, RowColumns}
 use Rattle.book64.specs.calls.CallLaws.{rate-held}
 use Rattle.book64.specs.captures.Captured.{deliveries, capture-opens, capture-costs}

@@ -28,7 +28,7 @@ use Rattle.book64.specs.Rates.{Rate, rate_known}
 use Rattle.book.specs.calls.Calls.{Answer}
 use Rattle.book64.specs.calls.Calls.{Call, others64, closing, after_all}
 use Rattle.calls.specs.Repaired as any
-use Rattle.book.specs.sentences.Repairs.{few-alone}
+use Rattle.book.proofs.sentences.Repairs.{few-alone}
 use Rattle.book64.specs.Here.{open_of, columns_of, Missing, report_length, DoubtfulList, FewWrong, FewDoubtful, Alone, not_best, TooFar, Repaired, NoDearer, Sure, RefusedAs, Never}
 use Rattle.session.specs.declared.Session.{Session}
 use Rattle.session.specs.declared.Opened.{Opened}

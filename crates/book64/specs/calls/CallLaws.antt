@@ -11,16 +11,17 @@ use Rattle.book.specs.Book.{Book}
 use Rattle.book.specs.Columns.{Agree}
 use Rattle.book64.specs.calls.Calls.{Call, others64, closing, answer, after_all}
 use Rattle.book.specs.calls.CallLaws as laws
+use Rattle.book.proofs.calls.CallLaws as call-laws
 
 pub answer-alike : {a b : Book} → Agree a b → (call : Call) → answer a call ≡ answer b call
-answer-alike same = laws.answer-alike others64 same
+answer-alike same = call-laws.answer-alike others64 same
 
 pub only-closing-blank : (book : Book) (call : Call) → (answer book call).number ≡ too_blank
     → (message : List ℕ) × (report : List ℕ) × (call ≡ closing message report)
-only-closing-blank = laws.only-closing-blank others64
+only-closing-blank = call-laws.only-closing-blank others64
 
 pub rate-held : (book : Book) (calls : List Call) → (after_all book calls).rate ≡ book.rate
-rate-held = laws.rate-held others64
+rate-held = call-laws.rate-held others64
 
 abbrev pub Fits : Call → Type 0
 Fits call = laws.Fits modem64 call

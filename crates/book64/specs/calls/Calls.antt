@@ -22,7 +22,7 @@ use Rattle.book64.specs.Modem64.{modem64}
 use Rattle.book64.specs.Here.{some_missing, Proper}
 use Rattle.book.specs.calls.Calls as any
 use Rattle.book.specs.calls.Calls.{Answer, Others, other}
-use Rattle.book.specs.calls.CallLaws.{none-of-three}
+use Rattle.book.proofs.calls.CallLaws.{none-of-three}
 pub use Rattle.book.specs.calls.Calls.{deliver, withdraw, closing}
 
 pub data Other : Type 0 where

@@ -11,6 +11,7 @@ use Rattle.refusals.specs.Refusal.{accepted}
 use Rattle.book.specs.Book.{Book, column_in}
 use Rattle.book64.specs.calls.Calls.{Call, others64, deliver, withdraw, answer, after, after_all}
 use Rattle.book.specs.calls.Undone as any
+use Rattle.book.proofs.calls.Undone as any-laws
 
 abbrev pub Spares : ℕ → List Call → Type 0
 Spares p calls = any.Spares p calls
@@ -22,10 +23,10 @@ module _ (book : Book) (p : ℕ) (column : List ℕ) (n : (answer book (deliver 
     (spares : Spares p calls) where
   pub undone-calls : ((answer (after_all book (deliver p column ∷ calls)) (withdraw p)).number ≡ accepted)
       × (after_all book (deliver p column ∷ (calls ++ (withdraw p ∷ []))) ≡ after_all book (accepted_of (after book (deliver p column)) calls))
-  undone-calls = any.undone-calls others64 book p column n spares
+  undone-calls = any-laws.undone-calls others64 book p column n spares
 
   pub last-column : (last : List ℕ)
       → (after_all book (deliver p column ∷ (calls ++ (withdraw p ∷ (deliver p last ∷ []))))
       ≡ after_all book (accepted_of (after book (deliver p column)) calls ++ (deliver p last ∷ [])))
       × (column_in (after_all book (deliver p column ∷ (calls ++ (withdraw p ∷ (deliver p last ∷ []))))).row p ≡ some last)
-  last-column = any.last-column others64 book p column n spares
+  last-column = any-laws.last-column others64 book p column n spares

@@ -22,8 +22,9 @@ use Rattle.book.specs.rows.RowLaws.{open-accepted}
 use Rattle.book.specs.calls.Calls.{Answer}
 use Rattle.book64.specs.calls.Calls.{Call, others64, answers, after_all}
 use Rattle.book.specs.calls.CallLaws as laws
+use Rattle.book.proofs.calls.CallLaws as call-laws
 use Rattle.book.specs.rows.Costs.{costs-column}
-use Rattle.book.specs.closing.Report.{closing-shows}
+use Rattle.book.proofs.closing.Report.{closing-shows}
 use Rattle.book64.specs.Here.{places, fit_doubt, open_of, close_of, deliver_row, RowColumns, IsColumn, ReportedIn}
 use Rattle.book.specs.opening.OpeningLaws.{list-short}
 
@@ -40,7 +41,7 @@ pub record CaptureOpens (bytes : List ℕ) : Type 0 where
 pub row-calls : (book : Book) (entries : List Entry) → (deliver_row book entries).number ≡ accepted
     → ((deliver_row book entries).book ≡ after_all book (deliveries entries))
     × ((a : Answer) → Memᴰ a (answers book (deliveries entries)) → a.number ≡ accepted)
-row-calls = laws.row-calls others64
+row-calls = call-laws.row-calls others64
 
 pub capture-opens : (bytes : List ℕ) → (open_capture_of bytes).number ≡ accepted → CaptureOpens bytes
 unfolding book_in

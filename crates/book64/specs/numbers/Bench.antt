@@ -27,7 +27,7 @@ use Rattle.book.specs.rows.RowLaws.{column-one, deliver-accepted}
 use Rattle.book.specs.Entries.{absent_none}
 use Rattle.book.specs.closing.Closing.{refused_closing}
 use Rattle.book64.specs.Rates.{Rate, rate_known, rate-orders}
-use Rattle.book.specs.tables.Table.{zero-table}
+use Rattle.book.proofs.tables.Table.{zero-table}
 use Rattle.book64.specs.readings.Reading.{highest_order, is_settled, settled_at, settled_below, settled_of, read_of}
 use Rattle.book64.specs.readings.ReadingLaws.{settled-nil, settled-yes, settled-no, is-settled, free-unsettled, read-accepted}
 use Rattle.book64.specs.readings.ReadingSentences.{blank-delivered}

@@ -23,7 +23,8 @@ use Rattle.book.specs.Entries.{Missing}
 use Rattle.book.specs.closing.Closing.{report_length, close_of}
 use Rattle.book64.specs.Rates.{rate-39, rate-52, rate_known, rate-blanks}
 use Rattle.book.specs.sentences.Sentences.{blanks_in}
-use Rattle.book.specs.sentences.Repairs.{not_best, Repaired, RefusedAs, TooFar, always-refused, faded-right}
+use Rattle.book.specs.sentences.Repairs.{not_best, Repaired, RefusedAs, TooFar}
+use Rattle.book.proofs.sentences.Repairs.{always-refused, faded-right}
 
 -- up to '13 blanks at rate 39', and the others arrived as they were sent
 pub thirteen-faded : (book : Book) → book.rate ≡ 39 → book.doubtful ≡ [] → ((p : ℕ) → Missing modem64 book.row p → ⊥)

@@ -39,7 +39,8 @@ use Rattle.book.specs.closing.Closing.{close_of}
 use Rattle.book64.specs.Rates.{rate-39, rate_known}
 use Rattle.book.specs.sentences.Sentences.{IsNear}
 use Rattle.book.specs.tables.Table.{entries_of}
-use Rattle.book.specs.sentences.Repairs.{wrong_of, few-near, always-repaired}
+use Rattle.book.specs.sentences.Repairs.{wrong_of}
+use Rattle.book.proofs.sentences.Repairs.{few-near, always-repaired}
 use Rattle.book64.specs.Here.{FewWrong, FewDoubtful, Alone, Repaired}
 
 -- ---- the bounds

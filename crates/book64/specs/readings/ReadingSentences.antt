@@ -29,7 +29,7 @@ use Rattle.book.specs.Columns.{columns-taken, taken-alike, columns-alike, Agree}
 use Rattle.book.specs.Columns as Columns
 use Rattle.book.specs.rows.Delivery.{with_entry}
 use Rattle.book.specs.rows.RowLaws.{snoc-here, snoc-other, deliver-accepted, deliver-only}
-use Rattle.book.specs.sentences.Sentences.{deliver-kept}
+use Rattle.book.proofs.sentences.Sentences.{deliver-kept}
 use Rattle.book64.specs.readings.Reading.{highest_order, is_settled, settled_at, settled_below, settled_of, read_of}
 use Rattle.book64.specs.readings.ReadingLaws.{settled-no, free-unsettled, settled-few, read-accepted}
 use Rattle.book64.specs.Rates.{Rate, rate-orders}
