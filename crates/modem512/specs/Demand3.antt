@@ -44,10 +44,12 @@ use Rattle.calls.specs.Step as any
 use Rattle.calls.specs.Runs as runs
 use Rattle.calls.specs.Runs.{Made, Promised, made-run}
 use Rattle.calls.specs.Follows as following
-use Rattle.calls.specs.Follows.{closed_by, by_opening, start-stands}
+use Rattle.calls.specs.Follows.{closed_by, by_opening}
+use Rattle.calls.proofs.Follows.{start-stands}
 use Rattle.calls.specs.Alike as agreeing
 use Rattle.calls.specs.Alike.{SameHeld}
 use Rattle.calls.specs.Demand3 as all
+use Rattle.calls.proofs.Demand3 as all-laws
 use Rattle.member64.specs.Member64.{m64}
 use Rattle.modem512.specs.Model.{modem512, known-rates, lists-512, rates-512, reach-512}
 
@@ -182,7 +184,7 @@ module _ {S : Type 0} (K : Keeping S) where
 
   -- every modem's, at this one
   abbrev general : all.Demand3 others512 K
-  general = all.demand-3 others512 K
+  general = all-laws.demand-3 others512 K
 
   closes-after : {b : Book} {calls : List Call} {a : Answer} → ClosedAfter b calls a → all.ClosedAfter others512 K b calls a
   closes-after (closed_after start run step long whole_report) = all.closed_after (start-stands modem512 K start) run step long whole_report

@@ -25,6 +25,7 @@ use Rattle.book.specs.calls.Calls.{Answer}
 use Rattle.book64.specs.calls.Calls.{Call, others64, deliver, writing, closing, withdraw, first_lent, second_lent, answer, after, answers, after_all}
 use Rattle.book64.specs.Here.{open_of, report_length, Missing, DoubtfulList, IsNear, IsAnswer}
 use Rattle.calls.specs.Demand3 as any
+use Rattle.calls.proofs.Demand3 as any-laws
 use Rattle.book64.specs.calls.CallLaws.{AllFit}
 use Rattle.book64.specs.calls.Undone.{Spares, accepted_of}
 use Rattle.session.specs.declared.Session.{Session}
@@ -130,7 +131,7 @@ pub record Demand3 : Type 0 where
 
 -- every modem's, at this one
 abbrev general : any.Demand3 others64 keeping
-general = any.demand-3 others64 keeping
+general = any-laws.demand-3 others64 keeping
 
 closes-after : {book : Book} {calls : List Call} {a : Answer} → ClosedAfter book calls a → any.ClosedAfter others64 keeping book calls a
 closes-after (closed_after start run step long whole_report) = any.closed_after (start-stands start) run step long whole_report

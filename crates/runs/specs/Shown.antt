@@ -22,7 +22,7 @@ use Rattle.book64.specs.Rates.{Rate, known-rate}
 use Rattle.book.specs.calls.Calls.{Answer}
 use Rattle.book64.specs.calls.Calls.{Call, others64, reading, writing, closing, after_all}
 use Rattle.book.specs.calls.Calls as any
-use Rattle.calls.specs.Shown as shown
+use Rattle.calls.proofs.Shown as shown
 use Rattle.book64.specs.calls.CallLaws.{answer-alike}
 use Rattle.book64.specs.captures.RoundTrip.{write-whole, write-accepted, written-order, written-columns, written-opened, open-then-write}
 use Rattle.book64.specs.Here.{open_of, DoubtfulList, RowColumns, ReportedIn}

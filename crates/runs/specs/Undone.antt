@@ -17,7 +17,7 @@ use Rattle.book64.specs.calls.Calls.{Call, others64, deliver, withdraw, answer, 
 use Rattle.book64.specs.calls.CallLaws.{AllFit}
 use Rattle.book64.specs.calls.Undone.{Spares, accepted_of}
 use Rattle.book64.specs.Here.{width}
-use Rattle.calls.specs.Undone as any
+use Rattle.calls.proofs.Undone as any
 use Rattle.session.specs.declared.Session.{Session}
 use Rattle.session.specs.View.{keeping, Good}
 use Rattle.runs.specs.Step.{Step}

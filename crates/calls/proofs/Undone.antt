@@ -27,7 +27,8 @@ use Rattle.calls.specs.Keeping.{Keeping, book_of, Good, one-session}
 use Rattle.calls.specs.PromiseLaws.{withdrawn-cleared}
 use Rattle.calls.specs.Step.{Step}
 use Rattle.calls.specs.Runs.{Run, every-run, one_end}
-use Rattle.calls.specs.Follows.{Stands, stands-follows}
+use Rattle.calls.specs.Follows.{Stands}
+use Rattle.calls.proofs.Follows.{stands-follows}
 
 module _ {𝓓 : Model} {X S : Type 0} (others : Others 𝓓 X) (K : Keeping S) where
   pub step-frees : {s t : S} {p : ℕ} {a : Answer} → Good 𝓓 K s → Step others K s (withdraw p) a t → a.number ≡ accepted

@@ -23,7 +23,8 @@ use Rattle.calls.specs.Keeping.{Keeping, book_of, Good, good-proper}
 use Rattle.calls.specs.Promises.{Opening}
 use Rattle.calls.specs.Step.{Step}
 use Rattle.calls.specs.Runs.{Run, run_fits}
-use Rattle.calls.specs.Follows.{closed_by, Stands, opening-stands, stands-follows}
+use Rattle.calls.specs.Follows.{closed_by, Stands}
+use Rattle.calls.proofs.Follows.{opening-stands, stands-follows}
 
 module _ {𝓓 : Model} {X S : Type 0} (others : Others 𝓓 X) (K : Keeping S) where
   pub step-marked : {t : S} {book : Book} → Good 𝓓 K t → Agree (book_of 𝓓 K t) book → {message report : List ℕ} {a : Answer} {u : S}
