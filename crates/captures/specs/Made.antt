@@ -31,7 +31,7 @@ use Rattle.book.proofs.tables.Table.{entries-places, order-delivered, order-acce
 use Rattle.book.proofs.tables.Below.{below-fit, below-as-session}
 use Rattle.book64.specs.captures.Capture.{capture_length, capture_of}
 use Rattle.book64.specs.captures.CaptureOpening.{open_capture_of}
-use Rattle.book64.specs.captures.RoundTrip.{open-written, write-size, write-accepted}
+use Rattle.book64.proofs.captures.RoundTrip.{open-written, write-size, write-accepted}
 use Rattle.book64.specs.Here.{places, width, some_missing, fit_doubt, wide, Proper, ordered, close_of, table_length, table_columns, picked_of, picked_below, table_of, table_below_of}
 use Rattle.captures.specs.Calls.{filled, write_opened, decode_capture_of, sort_capture_of, up_from, table_entries, deliver_table, open_table, make_capture_of}
 use Rattle.captures.specs.Laws.{written-decodes, written-sorts}

@@ -26,7 +26,7 @@ use Rattle.soft.specs.CostBytes.{cost_bytes}
 use Rattle.soft.specs.Doubt.{doubtful_of}
 use Rattle.code.specs.Encoding.{known_rate}
 use Rattle.book64.specs.Modem64.{modem64}
-use Rattle.book64.specs.captures.WritingLaws.{writing-alike}
+use Rattle.book64.proofs.captures.WritingLaws.{writing-alike}
 use Rattle.book.specs.Book.{column_in, Filled}
 use Rattle.book64.specs.captures.CaptureOpening.{records_in, open_capture_of}
 use Rattle.book.specs.closing.Closing.{Closed}

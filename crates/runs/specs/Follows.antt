@@ -28,11 +28,13 @@ use Rattle.book64.specs.captures.CaptureOpening.{rate_in, list_in, records_in, o
 use Rattle.code.specs.Encoding.{known_rate}
 use Rattle.book64.specs.Rates.{Rate, rate_known, known-rate}
 use Rattle.book.specs.calls.Calls.{Answer}
-use Rattle.book64.specs.calls.Calls.{Call, others64, answers, after_all}
+use Rattle.book64.specs.calls.Calls.{Call}
+use Rattle.book64.proofs.calls.Calls.{others64, answers, after_all}
 use Rattle.book.proofs.sentences.Sentences.{opening-only}
 use Rattle.book64.specs.Here.{open_of, DoubtfulList, RowColumns}
-use Rattle.book64.specs.calls.CallLaws.{rate-held}
-use Rattle.book64.specs.captures.Captured.{deliveries, capture-opens, capture-costs}
+use Rattle.book64.proofs.calls.CallLaws.{rate-held}
+use Rattle.book64.specs.captures.Captured.{deliveries}
+use Rattle.book64.proofs.captures.Captured.{capture-opens, capture-costs}
 use Rattle.session.specs.declared.Session.{Session}
 use Rattle.session.specs.declared.Opened.{Opened}
 use Rattle.session.specs.View.{keeping}

@@ -26,7 +26,8 @@ use Rattle.book64.specs.Modem64.{modem64}
 use Rattle.book.specs.Book.{Book, new_book}
 use Rattle.book64.specs.Rates.{Rate, rate_known}
 use Rattle.book.specs.calls.Calls.{Answer}
-use Rattle.book64.specs.calls.Calls.{Call, others64, closing, after_all}
+use Rattle.book64.specs.calls.Calls.{Call, closing}
+use Rattle.book64.proofs.calls.Calls.{others64, after_all}
 use Rattle.calls.specs.Repaired as any
 use Rattle.calls.proofs.Repaired as any-laws
 use Rattle.book.proofs.sentences.Repairs.{few-alone}

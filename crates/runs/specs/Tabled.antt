@@ -22,7 +22,8 @@ use Rattle.book64.specs.Modem64.{modem64}
 use Rattle.book.specs.Book.{Entry, Book, new_book, column_in}
 use Rattle.book64.specs.Rates.{Rate, rate_known}
 use Rattle.book.specs.calls.Calls.{Answer}
-use Rattle.book64.specs.calls.Calls.{Call, others64, deliver, closing, after_all}
+use Rattle.book64.specs.calls.Calls.{Call, deliver, closing}
+use Rattle.book64.proofs.calls.Calls.{others64, after_all}
 use Rattle.book64.specs.calls.Undone.{Spares}
 use Rattle.book64.specs.Here.{places, open_of, table_length, table_columns, picked_of, table_of, picked_below, table_below_of}
 use Rattle.calls.specs.Tabled as any

@@ -67,12 +67,12 @@ use Rattle.book64.specs.captures.Capture.{record_length, body_length, capture_le
 use Rattle.book64.specs.captures.CaptureOpening.{version_in, length_in, rate_in, doubt_in, list_in, records_in, size_fits}
 use Rattle.book64.specs.captures.LookUp.{record_with, costs_begin}
 use Rattle.book64.specs.captures.Writing.{write_of}
-use Rattle.book64.specs.captures.RoundTrip.{write-size}
+use Rattle.book64.proofs.captures.RoundTrip.{write-size}
 use Rattle.book.specs.rows.RowLaws.{deliver-above, deliver-taken}
 use Rattle.book.proofs.rows.WithdrawalLaws.{withdraw-above, withdraw-free}
 use Rattle.book.specs.opening.OpeningLaws.{fits-list}
 use Rattle.book64.specs.engine.Engine.{engine_checks}
-use Rattle.book64.specs.Here.{places, width, report_length, table_length, frame_length, in_place_order, some_missing, fit_places, fit_doubt, refused_opening, deliver_of, withdraw_of, table_of, table_below_of}
+use Rattle.book64.specs.Here.{places, report_length, table_length, in_place_order, some_missing, fit_places, fit_doubt, refused_opening, deliver_of, withdraw_of, table_of, table_below_of}
 
 -- ---- the field and the curve
 
