@@ -41,7 +41,8 @@ use Rattle.calls.proofs.Alive as living
 use Rattle.calls.specs.Alive.{Answered}
 use Rattle.member64.specs.Member64.{m64}
 use Rattle.modem512.specs.Ground.{genus-8}
-use Rattle.modem512.specs.Model.{modem512, known-289, known-409, rates-512, reach-512, report-512}
+use Rattle.modem512.specs.Model.{modem512, known-289, known-409, rates-512, report-512}
+use Rattle.modem512.proofs.Model.{reach-512}
 use Rattle.modem512.specs.Demand3.{Call, others512, after_all, blanks_after, ReachAfter, Step, Run}
 
 -- ---- the doubtful places are few
