@@ -37,9 +37,9 @@ use Rattle.near.specs.Cheapest.{marked_of}
 use Rattle.near.specs.Codeword.{codeword-symbol}
 use Rattle.book.specs.Model.{Model, places, width}
 use Rattle.book.specs.closing.Closing.{refused_closing, tests_for, answer_for, margin_for, report_for, decode_of}
-use Rattle.book.specs.closing.ClosingLaws.{decode-too-blank, decode-none, decode-some}
+use Rattle.book.proofs.closing.ClosingLaws.{decode-too-blank, decode-none, decode-some}
 use Rattle.book.specs.tables.Table.{closed}
-use Rattle.book.specs.closing.Report.{test-count-fits}
+use Rattle.book.proofs.closing.Report.{test-count-fits}
 use Rattle.answering.specs.Decoding.{unanswered_of}
 
 pub found-open : {A : Type 0} {o : Option A} {a : A} (blank limit : ℕ) → (limit < blank → o ≡ none) → o ≡ some a → blank ≤ limit

@@ -15,7 +15,8 @@ use Rattle.weighing.specs.Picked.{PickedIn, picked_same}
 use Rattle.book.specs.Model.{Model, places, width}
 use Rattle.book.specs.closing.Closing.{Closed, report_length, decode_of}
 use Rattle.book.specs.tables.Table.{table_length, table_columns}
-use Rattle.book.specs.tables.Below.{doubt_for, doubt-for-most, table_below_of, below-as-table}
+use Rattle.book.specs.tables.Below.{doubt_for, table_below_of}
+use Rattle.book.proofs.tables.Below.{doubt-for-most, below-as-table}
 use Rattle.answering.specs.Asked.{Askable}
 use Rattle.answering.specs.Tabled.{table-askable, table-answers}
 

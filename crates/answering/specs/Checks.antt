@@ -8,7 +8,8 @@ use Rattle.std.proofs.Common.{◌∙◌}
 use Rattle.refusals.specs.Refusal.{accepted}
 use Rattle.book.specs.Model.{Model}
 use Rattle.book.specs.closing.Closing.{Closed, refused_closing}
-use Rattle.book.specs.tables.Table.{closed, checks_of, Checked, checks-passed}
+use Rattle.book.specs.tables.Table.{closed, checks_of, Checked}
+use Rattle.book.proofs.tables.Table.{checks-passed}
 
 module _ (𝓓 : Model) where
   pub passed : (rate given wanted message report : ℕ) {r : ℕ} → r ≡ checks_of 𝓓 rate given wanted message report → r ≡ accepted

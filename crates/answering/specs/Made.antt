@@ -8,11 +8,12 @@ use Rattle.std.proofs.Common.{sym, ap, ◌∙◌}
 use Rattle.soft.specs.Column.{costs_from, column_of}
 use Rattle.soft.specs.Doubt.{doubtful_of}
 use Rattle.soft.specs.Bits.{bit_costs}
-use Rattle.soft.specs.BitsLaws.{costs-bits}
+use Rattle.soft.proofs.BitsLaws.{costs-bits}
 use Rattle.weighing.specs.Picked.{PickedIn}
 use Rattle.book.specs.Model.{Model, places, width}
 use Rattle.book.specs.closing.Closing.{Closed, report_length, decode_of}
-use Rattle.book.specs.tables.Bits.{frame_length, table_made, bits_of, made-length, bits-as-table}
+use Rattle.book.specs.tables.Bits.{frame_length, table_made, bits_of}
+use Rattle.book.proofs.tables.Bits.{made-length, bits-as-table}
 use Rattle.answering.specs.Asked.{Askable}
 use Rattle.answering.specs.Tabled.{table-askable, table-answers}
 

@@ -15,7 +15,8 @@ use Rattle.weighing.specs.Picked.{PickedIn, picked-take}
 use Rattle.book.specs.Model.{Model, places, width}
 use Rattle.book.specs.opening.Opening.{fit_doubt}
 use Rattle.book.specs.closing.Closing.{Closed, report_length, decode_of}
-use Rattle.book.specs.tables.Table.{table_length, table_columns, picked_of, table_of, table-decoded, picked_fit}
+use Rattle.book.specs.tables.Table.{table_length, table_columns, picked_of, table_of}
+use Rattle.book.proofs.tables.Table.{table-decoded, picked_fit}
 use Rattle.answering.specs.Asked.{Askable, askable-fit}
 
 module _ (𝓓 : Model) where

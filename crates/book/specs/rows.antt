@@ -5,4 +5,3 @@ pub mod PlaceOrder
 pub mod RowDelivery
 pub mod AlikeDelivery
 pub mod Costs
-pub mod WithdrawalLaws

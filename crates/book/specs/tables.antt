@@ -2,4 +2,3 @@ pub mod Table
 pub mod Below
 pub mod Bits
 pub mod TableSentences
-pub mod TableRepairs

@@ -38,6 +38,7 @@ use Rattle.book.specs.tables.Bits as Bits
 use Rattle.book.specs.sentences.Sentences as Sentences
 use Rattle.book.specs.rows.Costs as Costs
 use Rattle.book.specs.closing.Report as Report
+use Rattle.book.proofs.closing.Report as ReportLaws
 use Rattle.book.specs.sentences.Marked as Marked
 use Rattle.book.specs.sentences.Repairs as Repairs
 
@@ -191,13 +192,13 @@ abbrev pub margin_in : List ℕ → ℕ
 margin_in report = 16777216 * get_or report 9 0 + 65536 * get_or report 10 0 + 256 * get_or report 11 0 + get_or report 12 0
 
 pub pinned-byte : (report : List ℕ) → Report.pinned_in modem64 report ≡ pinned_in report
-pinned-byte report = Report.number-byte 6 report
+pinned-byte report = ReportLaws.number-byte 6 report
 
 pub changed-byte : (report : List ℕ) → Report.changed_in modem64 report ≡ changed_in report
-changed-byte report = Report.number-byte 7 report
+changed-byte report = ReportLaws.number-byte 7 report
 
 pub runner-byte : (report : List ℕ) → Report.runner_in modem64 report ≡ runner_in report
-runner-byte report = Report.number-byte 8 report
+runner-byte report = ReportLaws.number-byte 8 report
 
 pub margin-bytes : (report : List ℕ) → Report.margin_in modem64 report ≡ margin_in report
 unfolding Report.number_in
@@ -207,7 +208,7 @@ abbrev pub mark_in : List ℕ → ℕ
 mark_in report = get_or report 13 0
 
 pub mark-byte : (report : List ℕ) → Report.mark_in modem64 report ≡ mark_in report
-mark-byte report = Report.number-byte 13 report
+mark-byte report = ReportLaws.number-byte 13 report
 
 abbrev pub Shows : List ℕ → ℕ → ℕ → ℕ → ℕ → Option ℕ → ℕ → Type 0
 Shows report total tests pinned changed margin cheapest = Report.Shows modem64 report total tests pinned changed margin cheapest
@@ -216,8 +217,8 @@ Shows report total tests pinned changed margin cheapest = Report.Shows modem64 r
 pub test-count-here : (k : ℕ) (columns : ℕ → List ℕ) (doubtful : List ℕ) → length doubtful ≤ most_doubt
     → (length (test_words places columns doubtful) ≤ 4096) × (tests_for k columns doubtful ≤ 4096) × (tests_for k columns doubtful < 65536)
 test-count-here k columns doubtful few =
-    let fits = Report.test-count-fits modem64 columns doubtful few k in
-    (omega (arith, Report.test-words-few modem64 columns doubtful few), omega (arith, fits.0), omega (arith, fits.1))
+    let fits = ReportLaws.test-count-fits modem64 columns doubtful few k in
+    (omega (arith, ReportLaws.test-words-few modem64 columns doubtful few), omega (arith, fits.0), omega (arith, fits.1))
 
 abbrev pub ReportedIn : Book → Closed → Type 0
 ReportedIn book c = Report.ReportedIn modem64 book c

@@ -12,7 +12,7 @@ use Rattle.code.specs.Encoding.{known_rate}
 use Rattle.code.specs.Rates.{known-bounds}
 use Rattle.near.specs.Near.{blank_limit}
 use Rattle.near.specs.Reach.{Workable}
-use Rattle.near.specs.Here as Near
+use Rattle.near.proofs.Here as Near
 use Rattle.book.specs.Model.{Model}
 
 pub known-workable : (k : ℕ) → known_rate k ≡ true → Workable m16 k

@@ -5,13 +5,14 @@
 --   rate-workable        each has a T; rate-reach: with no more blank places than its limit
 --   rate-blanks          that limit is 57 − M, where M is five more than the rate; so many leave T = 0
 --   rate-orders          M is at least 11, so that the 98 bytes of a reading have room for the least Q
---   rate-6, rate-39, rate-49, rate-52   four of them; rate-reaches: T without blank places at three
+--   rate-6, rate-39, rate-49, rate-52   four of them (rate-reaches, in proofs/: T without blank places at three)
 use Rattle.std.specs.Prelude.{true, ◌≡◌, ℕ, ◌+◌, ◌-◌, ◌≤◌}
 use Rattle.std.proofs.Common.{subst, arith, lit≤}
 use Rattle.code.specs.Encoding.{known_rate}
 use Rattle.code.specs.Rates.{known-bounds, bounds-known}
 use Rattle.near.specs.Reach.{reach-is}
-use Rattle.near.specs.Here.{m_of, m-is, blank_limit, blank-limit-is, reach_of, Workable, workable, IsReach, limit-reach, reach-table}
+use Rattle.near.specs.Here.{m_of, blank_limit, reach_of, Workable, IsReach}
+use Rattle.near.proofs.Here.{m-is, blank-limit-is, workable, limit-reach}
 use Rattle.family.specs.Member.{m16}
 
 pub record Rate (rate : ℕ) : Type 0 where
@@ -50,7 +51,3 @@ rate-49 = record { least = lit≤ tt; most = lit≤ tt }
 
 pub rate-52 : Rate 52
 rate-52 = record { least = lit≤ tt; most = lit≤ tt }
-
--- document 01: 'T = 6 at rate 39, T = 1 at rate 49'; document 02: 'rate 52 repairs nothing beyond its test words'
-pub rate-reaches : IsReach 39 0 6 × IsReach 49 0 1 × IsReach 52 0 0
-rate-reaches = ((reach-table 0).0 (lit≤ tt), (reach-table 0).1 (lit≤ tt), (rate-blanks rate-52).1)

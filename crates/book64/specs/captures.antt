@@ -7,5 +7,4 @@ pub mod CaptureCases
 pub mod Versions
 pub mod RoundTrip
 pub mod LookUpLaws
-pub mod WritingLaws
 pub mod Captured

@@ -1,4 +1,2 @@
 pub mod Sharp
 pub mod Bench
-pub mod Numbers
-pub mod Faded

@@ -21,7 +21,8 @@ use Rattle.refusals.specs.Refusal.{accepted, wrong_size}
 use Rattle.soft.specs.Column.{symbols}
 use Rattle.family.specs.Calls.{Answered, placed}
 use Rattle.code.specs.Rates.{bounds-known}
-use Rattle.near.specs.Here.{reach_of, reaches}
+use Rattle.near.specs.Here.{reach_of}
+use Rattle.near.proofs.Here.{reaches}
 use Rattle.superframe.specs.Superframe.{words, head_length, symbol_count, frame_length, built_of, build_of, symbol_in, Taken, taken, taken_of}
 use Rattle.superframe.specs.Built.{Sent, build-sent, built-long, built-below}
 use Rattle.superframe.specs.Burst.{Altered, burst}

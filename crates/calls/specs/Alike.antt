@@ -20,7 +20,7 @@ use Rattle.book.specs.Book.{Book, column_in}
 use Rattle.book.specs.Columns.{column-free, Agree}
 use Rattle.book.specs.rows.RowLaws.{none_above}
 use Rattle.book.specs.calls.Calls.{Answer, Call, closing, other, Others}
-use Rattle.book.specs.calls.CallLaws.{answer-alike}
+use Rattle.book.proofs.calls.CallLaws.{answer-alike}
 use Rattle.calls.specs.Held as Fields
 use Rattle.calls.specs.Keeping.{Keeping, book_of, Good, book-taken, column-there, good-proper, one-session}
 use Rattle.calls.specs.Step.{Step}

@@ -4,50 +4,30 @@
 --   Follows s book       in every run from the session s each answer and each lent buffer afterwards are those of the book; the session left is good
 --                        and its book agrees with the book after the calls, and the calls determine it; closing after the calls, into buffers of the right
 --                        sizes, is early, 'too many blank', 'none near' or the answer as documents 01 and 02 say; and every list of calls has a run
---   good-follows         a good session follows every book that agrees with its own
---   closes_as            so closing after a run answers what closing the book after the calls answers
 --   blanks_after book calls   b, how many places are blank by the columns held after the calls
 --   ReachAfter book calls T  T is document 02's with so many blank places: the largest number with 2T + b < n − M − g (`near` Reach)
---   reach-after, limit-after   the rate of the book is that after the calls
---   opening-accepted     an opening with a known rate and a doubtful list accepts
 --   Stands book s        the session s stands for the book: it is good, its book agrees with that one, whose rate is known and whose columns are columns of
 --                        costs
 --   Start book s         an accepted opening, by a known rate and a doubtful list, returned the session s, with a new book
---   opening-stands, start-stands   such a session stands for that book
---   stands-follows       a session that stands for a book follows it
---   one-stands           and the book determines it: opened twice alike, sessions are equal
---   new-rate, new-list   the rate and the list of a new book
-use Rattle.std.specs.Prelude.{◌≡◌, refl, List, ℕ, length}
-use Rattle.std.proofs.Common.{sym, ◌∙◌}
-use Rattle.std.proofs.Math.Path.{ap, subst}
-use Rattle.refusals.specs.Refusal.{accepted}
-use Rattle.near.specs.Near.{blank_limit}
+use Rattle.std.specs.Prelude.{◌≡◌, List, ℕ, length}
 use Rattle.near.specs.Reach.{Reach}
 use Rattle.book.specs.Model.{Model}
-use Rattle.book.specs.Book.{Book, new_book, Outcome}
-use Rattle.book.specs.Columns.{Agree, agree-sym, agree-path, agree_trans}
-use Rattle.book.specs.closing.Closing.{Closed, report_length, close_of}
+use Rattle.book.specs.Book.{Book, new_book}
+use Rattle.book.specs.Columns.{Agree}
+use Rattle.book.specs.closing.Closing.{Closed, report_length}
 use Rattle.book.specs.opening.Opening.{open_of}
 use Rattle.book.specs.opening.OpeningLaws.{Known, DoubtfulList}
-use Rattle.book.specs.sentences.Sentences.{blanks_in, Closes, closes, opening_accepts}
-use Rattle.book.specs.rows.Costs.{RowColumns, new-costs}
-use Rattle.book.specs.calls.Calls.{Answer, Call, closing, Others, answer, answers, after_all}
-use Rattle.book.specs.calls.CallLaws.{answer-alike, answers-alike, after_all-alike, rate-held, AllFit}
-use Rattle.calls.specs.Keeping.{Keeping, book_of, Good, one-session}
+use Rattle.book.specs.sentences.Sentences.{blanks_in, Closes}
+use Rattle.book.specs.rows.Costs.{RowColumns}
+use Rattle.book.specs.calls.Calls.{Answer, Call, closing, Others, answers, after_all}
+use Rattle.book.specs.calls.CallLaws.{AllFit}
+use Rattle.calls.specs.Keeping.{Keeping, book_of, Good}
 use Rattle.calls.specs.Promises.{Opening}
 use Rattle.calls.specs.Step.{Step}
-use Rattle.calls.specs.Runs.{Run, every-run, run-good, run-book, one_end, some_run}
+use Rattle.calls.specs.Runs.{Run}
 
 abbrev pub closed_by : Answer → Closed
 closed_by a = record { number = a.number; message = a.first; report = a.second }
-
-pub new-rate : (rate : ℕ) (list : List ℕ) → (new_book rate list).rate ≡ rate
-unfolding new_book
-new-rate rate list = refl
-
-pub new-list : (rate : ℕ) (list : List ℕ) → (new_book rate list).doubtful ≡ list
-unfolding new_book
-new-list rate list = refl
 
 module _ {𝓓 : Model} {X S : Type 0} (others : Others 𝓓 X) (K : Keeping S) where
   pub record Follows (s : S) (book : Book) : Type 0 where
@@ -60,39 +40,6 @@ module _ {𝓓 : Model} {X S : Type 0} (others : Others 𝓓 X) (K : Keeping S) 
         → length message ≡ book.rate → length report ≡ report_length 𝓓 → Closes 𝓓 (after_all others book calls) (closed_by a)
     pub not_empty : {calls : List (Call X)} → AllFit 𝓓 calls → (given : List Answer) × (t : S) × Run others K s calls given t
 
-  module _ {s : S} {book : Book} (good : Good 𝓓 K s) (same : Agree (book_of 𝓓 K s) book) where
-    left_after : {calls : List (Call X)} {given : List Answer} {t : S} → Run others K s calls given t
-        → Agree (book_of 𝓓 K t) (after_all others book calls)
-    left_after {calls} run = agree_trans (run-book others K run good) (after_all-alike others same calls)
-
-    closed_after : {calls : List (Call X)} {given : List Answer} {t : S} → Run others K s calls given t
-        → {message report : List ℕ} {a : Answer} {u : S} → Step others K t (closing message report) a u
-        → length message ≡ (after_all others book calls).rate → length report ≡ report_length 𝓓
-        → Closes 𝓓 (after_all others book calls) (closed_by a)
-    unfolding answer
-    closed_after {calls} run {message} {report} step long whole_report =
-        subst (λ (x : Answer). Closes 𝓓 (after_all others book calls) (closed_by x))
-        (sym (step.answered (run-good others K run good) ∙ answer-alike others (left_after run) (closing message report)))
-        (closes 𝓓 message report long whole_report)
-
-    pub good-follows : Follows s book
-    good-follows =
-        record {
-          answered = λ {calls} run. every-run others K run good ∙ answers-alike others same calls;
-          left = λ run. (run-good others K run good, left_after run);
-          one_left = λ a b. one_end others K good a b;
-          closed = λ {calls} run step long whole_report. closed_after run step (long ∙ sym (rate-held others book calls)) whole_report;
-          not_empty = λ fit. some_run others K fit s good;
-        }
-
-  pub closes_as : {s : S} {book : Book} → Follows s book → {calls : List (Call X)} {given : List Answer} {t : S} → Run others K s calls given t
-      → {message report : List ℕ} {a : Answer} {u : S} → Step others K t (closing message report) a u
-      → close_of 𝓓 (after_all others book calls) message report ≡ closed_by a
-  unfolding answer
-  closes_as {s} {book} follows {calls} run {message} {report} step =
-      let left = follows.left run in
-      ap (λ (x : Answer). closed_by x) (sym (step.answered left.0 ∙ answer-alike others left.1 (closing message report)))
-
 -- ---- blank places after the calls
 
 module _ {𝓓 : Model} {X : Type 0} (others : Others 𝓓 X) where
@@ -104,20 +51,9 @@ module _ {𝓓 : Model} {X : Type 0} (others : Others 𝓓 X) where
   abbrev pub ReachAfter : Book → List (Call X) → ℕ → Type 0
   ReachAfter book calls T = Reach member book.rate (blanks_after book calls) T
 
-  pub reach-after : (book : Book) (calls : List (Call X)) {T : ℕ} → ReachAfter book calls T
-      → Reach member (after_all others book calls).rate (blanks_after book calls) T
-  reach-after book calls {T} reach = subst (λ k. Reach member k (blanks_after book calls) T) (sym (rate-held others book calls)) reach
-
-  pub limit-after : (book : Book) (calls : List (Call X)) → blank_limit member (after_all others book calls).rate ≡ blank_limit member book.rate
-  limit-after book calls = ap (λ k. blank_limit member k) (rate-held others book calls)
-
 -- ---- accepted openings
 
 module _ (𝓓 : Model) {S : Type 0} (K : Keeping S) where
-  pub opening-accepted : {rate : ℕ} {list : List ℕ} {n : ℕ} {t : S} → Known 𝓓 rate → DoubtfulList 𝓓 list → Opening 𝓓 K (open_of 𝓓 rate list) n t
-      → n ≡ accepted
-  opening-accepted known fit opened = opened.number ∙ ap (λ (x : Outcome). x.number) (opening_accepts 𝓓 known fit)
-
   pub record Stands (book : Book) (s : S) : Type 0 where
     pub good : Good 𝓓 K s
     pub agrees : Agree (book_of 𝓓 K s) book
@@ -127,23 +63,3 @@ module _ (𝓓 : Model) {S : Type 0} (K : Keeping S) where
   pub data Start : Book → S → Type 0 where
     by_opening : {rate : ℕ} {list : List ℕ} {n : ℕ} {t : S} → Known 𝓓 rate → DoubtfulList 𝓓 list → Opening 𝓓 K (open_of 𝓓 rate list) n t
         → Start (new_book rate list) t
-
-  pub opening-stands : {rate : ℕ} {list : List ℕ} {n : ℕ} {t : S} → Known 𝓓 rate → DoubtfulList 𝓓 list → Opening 𝓓 K (open_of 𝓓 rate list) n t
-      → Stands (new_book rate list) t
-  opening-stands {rate} {list} known fit opened =
-      record {
-        good = opened.good;
-        agrees = agree_trans opened.book (agree-path (ap (λ (x : Outcome). x.book) (opening_accepts 𝓓 known fit)));
-        rate = subst (Known 𝓓) (sym (new-rate rate list)) known;
-        columns = new-costs 𝓓 rate list;
-      }
-
-  pub start-stands : {book : Book} {s : S} → Start book s → Stands book s
-  start-stands (by_opening known fit opened) = opening-stands known fit opened
-
-  pub stands-follows : {X : Type 0} (others : Others 𝓓 X) {book : Book} {s : S} → Stands book s → Follows others K s book
-  stands-follows others stands = good-follows others K stands.good stands.agrees
-
-  -- two openings by one book give one session
-  pub one-stands : {book : Book} {s t : S} → Stands book s → Stands book t → s ≡ t
-  one-stands {s = s} {t = t} a b = one-session 𝓓 K s t a.good b.good (agree_trans a.agrees (agree-sym b.agrees))

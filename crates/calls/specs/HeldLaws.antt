@@ -43,12 +43,12 @@ use Rattle.book.specs.opening.Opening.{fit_doubt}
 use Rattle.book.specs.opening.OpeningLaws.{list-short}
 use Rattle.book.specs.rows.Delivery.{with_entry}
 use Rattle.book.specs.rows.Withdrawal.{freed, without_place}
-use Rattle.book.specs.rows.WithdrawalLaws.{freed-here, freed-other}
+use Rattle.book.proofs.rows.WithdrawalLaws.{freed-here, freed-other}
 use Rattle.book.specs.Columns.{columns_of, columns-taken, columns-none, none_free, taken-alike, columns-alike, Agree}
 use Rattle.book.specs.rows.RowLaws.{wide, wide-append, Proper, snoc-here, snoc-other, new-proper, entry-proper}
 use Rattle.book.specs.closing.Closing.{report_length, refused_closing, decode_of, close_of}
-use Rattle.book.specs.closing.ClosingLaws.{fits-of, close-missing, close-decoded}
-use Rattle.book.specs.tables.Table.{column-beyond}
+use Rattle.book.proofs.closing.ClosingLaws.{fits-of, close-missing, close-decoded}
+use Rattle.book.proofs.tables.Table.{column-beyond}
 use Rattle.calls.specs.Held.{Held, taken_below, new_held, all_taken, entry_at, entries_below, book_of, with_column, without_column, Good}
 
 -- ---- columns of a table

@@ -9,10 +9,7 @@ pub mod Step
 pub mod Runs
 pub mod Follows
 pub mod Alike
-pub mod Undone
 pub mod Demand3
 pub mod Repaired
-pub mod Marked
-pub mod Shown
 pub mod Tabled
 pub mod Alive

@@ -26,10 +26,10 @@ use Rattle.book.specs.opening.OpeningLaws.{DoubtfulList, list-fits, list-short}
 use Rattle.book.specs.rows.Delivery.{deliver_of}
 use Rattle.book.specs.rows.RowLaws.{deliver-above, deliver-taken, deliver-accepted, open-refused-rate, open-refused-list, open-accepted}
 use Rattle.book.specs.rows.Withdrawal.{without_place, withdraw_of}
-use Rattle.book.specs.rows.WithdrawalLaws.{freed-here, withdraw-above, withdraw-free, withdraw-accepted, withdraw-only}
+use Rattle.book.proofs.rows.WithdrawalLaws.{freed-here, withdraw-above, withdraw-free, withdraw-accepted, withdraw-only}
 use Rattle.book.specs.closing.Closing.{Closed, report_length, refused_closing, decode_of, close_of}
-use Rattle.book.specs.closing.ClosingLaws.{decode-kept, decode-sized}
-use Rattle.book.specs.sentences.Sentences.{closing-sizes}
+use Rattle.book.proofs.closing.ClosingLaws.{decode-kept, decode-sized}
+use Rattle.book.proofs.sentences.Sentences.{closing-sizes}
 use Rattle.book.specs.calls.Calls.{Others}
 use Rattle.calls.specs.Held as Fields
 use Rattle.calls.specs.Held.{new_held, all_taken, with_column, without_column}

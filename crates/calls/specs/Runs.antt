@@ -14,12 +14,14 @@ use Rattle.std.specs.Prelude.{Bool, true, false, ◌≡◌, refl, List, [], ℕ,
 use Rattle.std.proofs.Math.Decide.{dec_lt}
 use Rattle.std.proofs.Common.{arith}
 use Rattle.book.specs.Machine as machine
+use Rattle.book.proofs.Machine as machine-laws
 use Rattle.book.specs.Machine.{fit_nil, fit_cons}
 use Rattle.book.specs.Model.{Model, places, width}
 use Rattle.book.specs.Columns.{Agree}
 use Rattle.book.specs.rows.Costs.{IsColumn}
 use Rattle.book.specs.calls.Calls.{Answer, Call, deliver, withdraw, closing, other, Others, answer, after, answers, after_all}
-use Rattle.book.specs.calls.CallLaws.{likeness, refused-lent, lent-sized, Fits, AllFit}
+use Rattle.book.specs.calls.CallLaws.{Fits, AllFit}
+use Rattle.book.proofs.calls.CallLaws.{likeness, refused-lent, lent-sized}
 use Rattle.calls.specs.Held.{with_column, without_column}
 use Rattle.calls.specs.Keeping.{Keeping, book_of, Good, good-proper, one-session}
 use Rattle.calls.specs.Promises.{Delivery, Withdrawal, Closing, Asking}
@@ -36,17 +38,17 @@ module _ {𝓓 : Model} {X S : Type 0} (others : Others 𝓓 X) (K : Keeping S) 
 
   pub every-run : {s t : S} {calls : List (Call X)} {given : List Answer} → Run s calls given t → Good 𝓓 K s
       → given ≡ answers others (book_of 𝓓 K s) calls
-  every-run run good = (machine.every-run (likeness others) faithful run good).answered
+  every-run run good = (machine-laws.every-run (likeness others) faithful run good).answered
 
   pub run-good : {s t : S} {calls : List (Call X)} {given : List Answer} → Run s calls given t → Good 𝓓 K s → Good 𝓓 K t
-  run-good run good = (machine.every-run (likeness others) faithful run good).good
+  run-good run good = (machine-laws.every-run (likeness others) faithful run good).good
 
   pub run-book : {s t : S} {calls : List (Call X)} {given : List Answer} → Run s calls given t → Good 𝓓 K s
       → Agree (book_of 𝓓 K t) (after_all others (book_of 𝓓 K s) calls)
-  run-book run good = (machine.every-run (likeness others) faithful run good).book
+  run-book run good = (machine-laws.every-run (likeness others) faithful run good).book
 
   pub one_end : {s t u : S} {calls : List (Call X)} {given other : List Answer} → Good 𝓓 K s → Run s calls given t → Run s calls other u → t ≡ u
-  one_end = machine.one_end (likeness others) faithful (one-session 𝓓 K)
+  one_end = machine-laws.one_end (likeness others) faithful (one-session 𝓓 K)
 
   -- what the types say of the arguments of each call
   pub run_fits : {s t : S} {calls : List (Call X)} {given : List Answer} → Run s calls given t → AllFit 𝓓 calls
@@ -86,7 +88,7 @@ module _ {𝓓 : Model} {X S : Type 0} (others : Others 𝓓 X) (K : Keeping S) 
   some-step s (other x) good u = (_, s, some-kept s (other x) good u refl)
 
   pub some_run : {calls : List (Call X)} → AllFit 𝓓 calls → (s : S) → Good 𝓓 K s → (given : List Answer) × (t : S) × Run s calls given t
-  some_run = machine.some_run (likeness others) faithful some-step
+  some_run = machine-laws.some_run (likeness others) faithful some-step
 
   -- ---- from functions to runs
 

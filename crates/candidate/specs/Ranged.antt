@@ -10,7 +10,8 @@ use Rattle.std.specs.Prelude.{true, ◌≡◌, ℕ, ◌≤◌}
 use Rattle.std.proofs.Common.{arith}
 use Rattle.code.specs.Encoding.{least_rate, most_rate, known_rate}
 use Rattle.code.specs.Rates.{known-bounds}
-use Rattle.near.specs.Here.{m_of, reach_of, Workable, genus-4, limit_of, workable as within}
+use Rattle.near.specs.Here.{m_of, reach_of, Workable, limit_of}
+use Rattle.near.proofs.Here.{genus-4, workable as within}
 use Rattle.near.specs.Near as Near
 use Rattle.hermitian.specs.Present.{genus}
 use Rattle.search.specs.Room.{top-room, limit-room}

@@ -12,7 +12,8 @@ use Rattle.soft.specs.CostBytes.{cost_bytes}
 use Rattle.book.specs.Book.{Entry}
 use Rattle.book64.specs.captures.Capture.{body_length, version_of}
 use Rattle.book64.specs.Modem64.{modem64}
-use Rattle.book64.specs.calls.Calls.{write, others64}
+use Rattle.book64.specs.calls.Calls.{write}
+use Rattle.book64.proofs.calls.Calls.{others64}
 use Rattle.calls.specs.Promises.{Asking}
 use Rattle.session.specs.declared.Session.{Session}
 use Rattle.session.specs.View.{keeping, entry_at}

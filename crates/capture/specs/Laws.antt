@@ -16,8 +16,8 @@ use Rattle.book64.specs.captures.Writing.{write_of}
 use Rattle.book64.specs.captures.CaptureOpening.{records_in, open_capture_of}
 use Rattle.book64.specs.captures.CaptureCases.{capture-refused}
 use Rattle.book.specs.rows.PlaceOrder.{InPlaceOrder, order-agree}
-use Rattle.book64.specs.captures.RoundTrip.{write-whole, written-opened}
-use Rattle.book64.specs.captures.WritingLaws.{writing-alike}
+use Rattle.book64.proofs.captures.RoundTrip.{write-whole, written-opened}
+use Rattle.book64.proofs.captures.WritingLaws.{writing-alike}
 use Rattle.book64.specs.Here.{ordered}
 use Rattle.session.specs.declared.Session.{Session}
 use Rattle.session.specs.declared.Opened.{Opened}
@@ -40,7 +40,7 @@ write-then-open s before after r o good w n d = (
     written = sym (w.number good) ∙ n
 
     again : open_capture_of after ≡ record { number = accepted; book = ordered (book_of s) }
-    again = ap open_capture_of (w.bytes good) ∙ Rattle.book64.specs.captures.RoundTrip.write-then-open (book_of s) before (good-proper s good) written
+    again = ap open_capture_of (w.bytes good) ∙ Rattle.book64.proofs.captures.RoundTrip.write-then-open (book_of s) before (good-proper s good) written
 
 pub open-then-write : (bytes before after : List ℕ) (r : ℕ) (o : Opened) → below 256 bytes ≡ true → Opening (open_capture_of bytes) o
     → o.refusal ≡ accepted → length before ≡ length bytes → Writing o.session before r after
@@ -48,7 +48,7 @@ pub open-then-write : (bytes before after : List ℕ) (r : ℕ) (o : Opened) →
 open-then-write bytes before after r o b d n e w =
     let opened : (open_capture_of bytes).number ≡ accepted = sym d.number ∙ n in
     let again : write_of (book_of o.session) before ≡ record { number = accepted; bytes = capture_of (open_capture_of bytes).book } =
-    writing-alike d.book before ∙ Rattle.book64.specs.captures.RoundTrip.open-then-write bytes before b opened e in
+    writing-alike d.book before ∙ Rattle.book64.proofs.captures.RoundTrip.open-then-write bytes before b opened e in
     let written : after ≡ capture_of (open_capture_of bytes).book = w.bytes d.good ∙ ap (λ (f : Filled). f.bytes) again in
     let order = written-opened bytes b opened in (
       w.number d.good ∙ ap (λ (f : Filled). f.number) again,

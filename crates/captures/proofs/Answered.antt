@@ -12,8 +12,8 @@ use Rattle.book64.specs.Modem64.{modem64}
 use Rattle.book.specs.Book.{Entry, Outcome}
 use Rattle.book.specs.Columns.{agree-sym}
 use Rattle.book.specs.rows.AlikeDelivery.{Agreed, agreed-path, agreed-trans, row-alike}
-use Rattle.book64.specs.captures.WritingLaws.{writing-alike}
-use Rattle.book.specs.sentences.Sentences.{closing-alike}
+use Rattle.book64.proofs.captures.WritingLaws.{writing-alike}
+use Rattle.book.proofs.sentences.Sentences.{closing-alike}
 use Rattle.book.specs.closing.Closing.{refused_closing}
 use Rattle.book.specs.tables.Table.{closed, entries_of}
 use Rattle.book.specs.tables.Table as Table

@@ -18,15 +18,15 @@ use Rattle.lists.specs.Distinct.{below}
 use Rattle.book64.specs.Modem64.{modem64}
 use Rattle.book.specs.Book.{Book, Outcome}
 use Rattle.book.specs.closing.Closing.{refused_closing, closing_fits}
-use Rattle.book.specs.closing.ClosingLaws.{close-size, close-decoded}
+use Rattle.book.proofs.closing.ClosingLaws.{close-size, close-decoded}
 use Rattle.book64.specs.captures.Capture.{capture_length, capture_of}
 use Rattle.book64.specs.captures.Writing.{write_of}
 use Rattle.book64.specs.captures.CaptureOpening.{records_in, open_capture_of}
 use Rattle.book64.specs.captures.CaptureCases.{book_in, capture-fit, capture-proper}
 use Rattle.book.specs.rows.PlaceOrder.{InPlaceOrder, order-agree}
-use Rattle.book64.specs.captures.RoundTrip.{written-order, open-written, write-accepted, write-whole, none-missing, written-opened, open-then-write}
-use Rattle.book64.specs.captures.WritingLaws.{writing-alike}
-use Rattle.book.specs.sentences.Sentences.{closing-alike}
+use Rattle.book64.proofs.captures.RoundTrip.{written-order, open-written, write-accepted, write-whole, none-missing, written-opened, open-then-write}
+use Rattle.book64.proofs.captures.WritingLaws.{writing-alike}
+use Rattle.book.proofs.sentences.Sentences.{closing-alike}
 use Rattle.book64.specs.Here.{some_missing, columns_of, Proper, ordered, decode_of, close_of}
 use Rattle.captures.specs.Calls.{filled, close_opened, write_opened, decode_capture_of, sort_capture_of}
 

@@ -26,11 +26,12 @@ use Rattle.book.specs.rows.Delivery as BookDelivery
 use Rattle.book.specs.rows.RowLaws as BookRows
 use Rattle.book.specs.tables.Table as BookTable
 use Rattle.book.specs.rows.RowLaws.{open-refused-rate, open-refused-list, open-accepted}
-use Rattle.book.specs.tables.Table.{Delivered, entries_of, entries-places, order-delivered, order-accepted, delivered-none-missing, picked_fit, table-as-session}
-use Rattle.book.specs.tables.Below.{below-fit, below-as-session}
+use Rattle.book.specs.tables.Table.{Delivered, entries_of}
+use Rattle.book.proofs.tables.Table.{entries-places, order-delivered, order-accepted, delivered-none-missing, picked_fit, table-as-session}
+use Rattle.book.proofs.tables.Below.{below-fit, below-as-session}
 use Rattle.book64.specs.captures.Capture.{capture_length, capture_of}
 use Rattle.book64.specs.captures.CaptureOpening.{open_capture_of}
-use Rattle.book64.specs.captures.RoundTrip.{open-written, write-size, write-accepted}
+use Rattle.book64.proofs.captures.RoundTrip.{open-written, write-size, write-accepted}
 use Rattle.book64.specs.Here.{places, width, some_missing, fit_doubt, wide, Proper, ordered, close_of, table_length, table_columns, picked_of, picked_below, table_of, table_below_of}
 use Rattle.captures.specs.Calls.{filled, write_opened, decode_capture_of, sort_capture_of, up_from, table_entries, deliver_table, open_table, make_capture_of}
 use Rattle.captures.specs.Laws.{written-decodes, written-sorts}

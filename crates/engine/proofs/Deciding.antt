@@ -35,7 +35,8 @@ use Rattle.near.specs.Decider.{limit-decides, word-spent}
 use Rattle.near.specs.Governing.{Only, only-near, only-far}
 use Rattle.near.specs.Here.{m_of, reach_of, blank_limit, limit_of}
 use Rattle.interpolant.specs.LeastQ.{reading_length, reading_of}
-use Rattle.interpolant.specs.Reading.{byte_of, reading-least, reading-size}
+use Rattle.interpolant.specs.Reading.{byte_of}
+use Rattle.interpolant.proofs.Reading.{reading-least, reading-size}
 use Rattle.parts.specs.Parts.{values_of, first_of, second_of, polynomial_of, recovered}
 use Rattle.candidate.specs.Ranged.{Ranged, known-range, workable, limit-small}
 use Rattle.search.specs.Settled.{flagged-decided}

@@ -14,5 +14,4 @@ pub mod Interpolation
 pub mod Size
 pub mod Frobenius
 pub mod Repair
-pub mod Example
 pub mod Message

@@ -1,6 +1,5 @@
 pub mod LeastQ
 pub mod Meaning
 pub mod OnKeys
-pub mod Least
 pub mod Reading
 pub mod Bench

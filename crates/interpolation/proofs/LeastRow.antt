@@ -14,9 +14,10 @@ use Rattle.code.specs.Nodes.{sample_at}
 use Rattle.family.specs.Nodes.{Node}
 use Rattle.basis.specs.Choice.{lead_at}
 use Rattle.basis.specs.Step.{row_values}
-use Rattle.interpolant.specs.Least.{everywhere-least}
+use Rattle.interpolant.proofs.Least.{everywhere-least}
 use Rattle.interpolant.specs.LeastQ.{reading_length}
-use Rattle.interpolant.specs.Reading.{byte_of, reading-least}
+use Rattle.interpolant.specs.Reading.{byte_of}
+use Rattle.interpolant.proofs.Reading.{reading-least}
 use Rattle.interpolation.specs.Extending.{Stored}
 use Rattle.parts.specs.Parts.{values_of, first_of, second_of, polynomial_of, recovered}
 use Rattle.interpolation.specs.Reading.{Lowest, Interpolated}

@@ -6,15 +6,11 @@
 --   ClosedAfter book calls a   closing after those calls, into buffers of the right sizes, is given the answer a; the calls are made on a session that an
 --                        accepted opening returned, with that book
 --   Demand3 K            the claim, sentence by sentence, with its numbers
---   whole                it holds, by what is proved of every modem (`calls` Demand3 demand-3)
 --   Shells opens delivers withdraws closes   functions, as the relations that they make between what they are given and what they hand back, that promise what
 --                        `calls` Promises says of this modem
---   shells-start, shells-run, shells-answered   then an opening by them is such a start, and a list of calls made by them is such a run, and is answered so
 --
 -- Nothing is asked here of how a session is kept: the fields may stand in a struct, or some of them in an array that is lent (`calls` Keeping).
 use Rattle.std.specs.Prelude.{false, ◌≡◌, List, [], ◌∷◌, ◌++◌, ◌↔◌, ◌≢◌, ◌⊎◌, ℕ, suc, ◌+◌, ◌-◌, ◌*◌, ◌<◌, ◌≤◌, length, get_or, replicate}
-use Rattle.std.proofs.Math.Path.{refl, ap}
-use Rattle.std.proofs.Common.{◌∙◌}
 use Rattle.refusals.specs.Refusal.{accepted, place_missing, none_near, too_blank}
 use Rattle.lists.specs.Padded.{padded}
 use Rattle.near.specs.Near.{blank_limit}
@@ -30,26 +26,22 @@ use Rattle.book.specs.rows.Withdrawal.{without_place}
 use Rattle.book.specs.closing.Closing.{report_length}
 use Rattle.book.specs.sentences.Sentences.{IsNear, IsAnswer}
 use Rattle.book.specs.tables.Table.{table_length}
-use Rattle.book.specs.Machine as machine
 use Rattle.book.specs.calls.Calls as book
 use Rattle.book.specs.calls.Calls.{Answer, deliver, withdraw, closing, Others, no_others}
 use Rattle.book.specs.calls.CallLaws as laws
 use Rattle.book.specs.calls.Undone as undoing
 use Rattle.book.specs.calls.Undone.{Spares}
-use Rattle.calls.specs.Held as Fields
 use Rattle.calls.specs.Held.{new_held}
 use Rattle.calls.specs.Keeping.{Keeping, book_of, Good}
 use Rattle.calls.specs.Promises.{Opening}
 use Rattle.calls.specs.Step as any
 use Rattle.calls.specs.Runs as runs
-use Rattle.calls.specs.Runs.{Made, Promised, made-run}
+use Rattle.calls.specs.Runs.{Made, Promised}
 use Rattle.calls.specs.Follows as following
-use Rattle.calls.specs.Follows.{closed_by, by_opening, start-stands}
-use Rattle.calls.specs.Alike as agreeing
+use Rattle.calls.specs.Follows.{closed_by}
 use Rattle.calls.specs.Alike.{SameHeld}
-use Rattle.calls.specs.Demand3 as all
 use Rattle.member64.specs.Member64.{m64}
-use Rattle.modem512.specs.Model.{modem512, known-rates, lists-512, rates-512, reach-512}
+use Rattle.modem512.specs.Model.{modem512}
 
 -- ---- its calls, and the book under them
 
@@ -180,66 +172,12 @@ module _ {S : Type 0} (K : Keeping S) where
         → Run s (before ++ (deliver p column ∷ (calls ++ (withdraw p ∷ [])))) given t
         → Run s (before ++ accepted_of (after (after_all b before) (deliver p column)) calls) other u → t ≡ u
 
-  -- every modem's, at this one
-  abbrev general : all.Demand3 others512 K
-  general = all.demand-3 others512 K
-
-  closes-after : {b : Book} {calls : List Call} {a : Answer} → ClosedAfter b calls a → all.ClosedAfter others512 K b calls a
-  closes-after (closed_after start run step long whole_report) = all.closed_after (start-stands modem512 K start) run step long whole_report
-
-  reached-any : {t : S} → Reached t → agreeing.Reached others512 K t
-  reached-any (reached start run) = agreeing.reached (start-stands modem512 K start) run
-
-  refused-289 : (rate : ℕ) (list : List ℕ) {n : ℕ} {t : S} → Opening modem512 K (open_of modem512 rate list) n t → n ≢ accepted
-      → (t ≡ K.made (new_held modem512 289 [])) × ((K.held t).rate ≡ 289) × ((K.held t).doubt ≡ 0)
-  unfolding new_held
-  refused-289 rate list opened n =
-      let e = general.refused-opening rate list opened n in
-      let h = ap K.held e ∙ K.held_made (new_held modem512 289 []) in
-      (e, ap (λ (x : Fields.Held). x.rate) h, ap (λ (x : Fields.Held). x.doubt) h)
-
-  new-fields : (rate : ℕ) (list : List ℕ)
-      → ((new_held modem512 rate list).costs ≡ replicate 32768 0) × ((new_held modem512 rate list).taken ≡ replicate 512 false)
-      × ((new_held modem512 rate list).doubtful ≡ padded 12 list)
-  unfolding new_held
-  new-fields rate list = (refl, refl, refl)
-
-  pub whole : Demand3
-  whole =
-      record {
-        sizes = (refl, refl, refl, refl);
-        rates = known-rates;
-        lists = lists-512;
-        opening_accepts = λ rate known fit opened. (general.opening_accepts known fit opened, by_opening known fit opened);
-        refused-opening = λ rate list opened n. refused-289 rate list opened n;
-        new-session = new-fields;
-        answered = λ start run. general.answered (start-stands modem512 K start) run;
-        left = λ start run. general.left (start-stands modem512 K start) run;
-        one_left = λ start run other. general.one_left (start-stands modem512 K start) run other;
-        some_run = λ start fit. general.some_run (start-stands modem512 K start) fit;
-        early = λ c. general.early (closes-after c);
-        too-blank = λ c. general.too-blank (closes-after c);
-        blank_closing = general.blank_closing;
-        reach_rule = λ rate b T. (rates-512 rate b T).1;
-        limits = reach-512;
-        some_reach = λ c full n. general.some_reach (closes-after c) full n;
-        none-near = λ c full reach. general.none-near (closes-after c) full reach;
-        otherwise = λ c full reach n. general.otherwise (closes-after c) full reach n;
-        only_changes = general.only_changes;
-        refused_kept = general.refused_kept;
-        alike = λ x y same a b. (general.alike (reached-any x) (reached-any y) same).close_alike a b;
-        one_held = λ x y same. general.one_held (reached-any x) (reached-any y) same;
-        one_start = λ x y. general.one_start (start-stands modem512 K x) (start-stands modem512 K y);
-        undone = λ start before p column n spares run without.
-            general.undone (start-stands modem512 K start) before p column n spares run without;
-      }
-
   -- ---- from what the functions will promise
 
   module _ (opens : ℕ → List ℕ → ℕ → S → Type 0) (delivers : S → ℕ → List ℕ → ℕ → S → Type 0) (withdraws : S → ℕ → ℕ → S → Type 0)
       (closes : S → List ℕ → List ℕ → ℕ → List ℕ → List ℕ → Type 0) where
     -- there are no other calls to make
-    abbrev asks : S → ⊥ → ℕ → List ℕ → Type 0
+    abbrev pub asks : S → ⊥ → ℕ → List ℕ → Type 0
     asks s x n bytes = ⊥
 
     abbrev pub MadeBy : S → Call → Answer → S → Type 0
@@ -248,18 +186,3 @@ module _ {S : Type 0} (K : Keeping S) where
     pub record Shells : Type 0 where
       pub opening : {rate : ℕ} {list : List ℕ} {n : ℕ} {t : S} → opens rate list n t → Opening modem512 K (open_of modem512 rate list) n t
       pub promised : Promised others512 K delivers withdraws closes asks
-
-    module _ (shells : Shells) where
-      pub shells-start : {rate : ℕ} {list : List ℕ} {n : ℕ} {t : S} → Known modem512 rate → DoubtfulList modem512 list → opens rate list n t
-          → (n ≡ accepted) × Start (new_book rate list) t
-      shells-start {rate} known fit opened = whole.opening_accepts rate known fit (shells.opening opened)
-
-      pub shells-run : {s t : S} {calls : List Call} {given : List Answer} → machine.Run MadeBy s calls given t → Run s calls given t
-      shells-run run = made-run others512 K delivers withdraws closes asks shells.promised run
-
-      pub shells-answered : {rate : ℕ} {list : List ℕ} {n : ℕ} {s t : S} {calls : List Call} {given : List Answer} → Known modem512 rate
-          → DoubtfulList modem512 list → opens rate list n s → machine.Run MadeBy s calls given t
-          → (n ≡ accepted) × (given ≡ answers (new_book rate list) calls)
-      shells-answered known fit opened run =
-          let s = shells-start known fit opened in
-          (s.0, whole.answered s.1 (shells-run run))

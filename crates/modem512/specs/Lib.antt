@@ -1,5 +1,4 @@
 pub mod Ground
 pub mod Model
 pub mod Demand3
-pub mod Sessions
 pub mod Search

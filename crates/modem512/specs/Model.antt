@@ -3,25 +3,22 @@
 --   known_rate k          289 or 409 (known-rates)
 --   modem512             the modem: those rates, a doubt of at most 12, rate 289 after a refused opening, and two bytes for each count of places
 --   sizes-512            512 places, a column of 64 costs, a table of 65,536 bytes and a report of 16
---   refused-289          a refused opening hands back a new book of rate 289 with an empty doubtful list
 --   lists-512            a doubtful list: at most 12 places, none above 511, strictly rising
 --   rates-512            M = k + 27, and T with b blank places is the largest number with 2T + b < 512 − M − 28
---   reach-512            at rate 289 T = 83 without blank places and T = 0 with 167, at rate 409 T = 23 and with 47; more blank places leave no T
 --   report-512           where the report holds its numbers: pinned and changed places in two bytes each
-use Rattle.std.specs.Prelude.{Bool, true, false, ◌||◌, ◌≡◌, refl, List, [], ◌↔◌, ◌⊎◌, ℕ, suc, ◌+◌, ◌-◌, ◌*◌, ◌<◌, ◌≤◌, eqb, length, get_or}
+use Rattle.std.specs.Prelude.{Bool, true, false, ◌||◌, ◌≡◌, refl, List, ◌↔◌, ◌⊎◌, ℕ, suc, ◌+◌, ◌-◌, ◌*◌, ◌<◌, ◌≤◌, eqb, length, get_or}
 use Rattle.std.proofs.lemmas.Bool.{false≢true}
 use Rattle.std.proofs.Common.{sym, subst, inl, inr, ⊎_elim, arith, lit<, lit≤, eqb-true, eq-eqb}
-use Rattle.near.specs.Near.{m_of, blank_limit, reach_of}
-use Rattle.near.specs.Reach.{Workable, Reach, reach-is}
+use Rattle.near.specs.Near.{m_of, blank_limit}
+use Rattle.near.specs.Reach.{Workable, Reach}
 use Rattle.book.specs.Model.{Model, places, width}
-use Rattle.book.specs.Book.{new_book}
-use Rattle.book.specs.opening.Opening.{refused_opening}
 use Rattle.book.specs.opening.OpeningLaws.{DoubtfulList}
 use Rattle.book.specs.closing.Closing.{report_length}
 use Rattle.book.specs.tables.Table.{table_length}
-use Rattle.book.specs.closing.Report.{number_in, pinned_in, changed_in, runner_in, margin_in, mark_in, number-byte}
+use Rattle.book.specs.closing.Report.{number_in, pinned_in, changed_in, runner_in, margin_in, mark_in}
+use Rattle.book.proofs.closing.Report.{number-byte}
 use Rattle.member64.specs.Member64.{m64}
-use Rattle.modem512.specs.Ground.{genus-8, workable-512, reaches-512, limits-512}
+use Rattle.modem512.specs.Ground.{genus-8, workable-512, limits-512}
 
 -- ---- 'Rates are 289 … and 409'
 
@@ -82,10 +79,6 @@ modem512 =
 pub sizes-512 : (places modem512 ≡ 512) × (width modem512 ≡ 64) × (table_length modem512 ≡ 65536) × (report_length modem512 ≡ 16)
 sizes-512 = (refl, refl, refl, refl)
 
-pub refused-289 : (n : ℕ) → refused_opening modem512 n ≡ record { number = n; book = new_book 289 [] }
-unfolding refused_opening
-refused-289 n = refl
-
 pub lists-512 : (list : List ℕ)
     → DoubtfulList modem512 list
     ↔ ((length list ≤ 12) × ((i : ℕ) → i < length list → get_or list i 0 ≤ 511) × ((i : ℕ) → suc i < length list → get_or list i 0 < get_or list (suc i) 0))
@@ -103,20 +96,6 @@ rates-512 k b T = (
     λ r. (omega (arith, r.fits, genus-8), λ n l. r.largest n (omega (arith, genus-8))),
     λ h. record { fits = omega (arith, h.0, genus-8); largest = λ n l. h.1 n (omega (arith, genus-8)) },
   ),
-)
-
-reach-at : (k b : ℕ) {T : ℕ} → Workable m64 k → b ≤ blank_limit m64 k → reach_of m64 k b ≡ T → Reach m64 k b T
-reach-at k b rate few e = subst (Reach m64 k b) e (reach-is m64 rate few)
-
-pub reach-512 : (blank_limit m64 289 ≡ 167) × (blank_limit m64 409 ≡ 47) × Reach m64 289 0 83 × Reach m64 409 0 23 × Reach m64 289 167 0
-    × Reach m64 409 47 0
-reach-512 = (
-  limits-512.0,
-  limits-512.2,
-  reach-at 289 0 (known-workable 289 known-289) (omega arith) reaches-512.1,
-  reach-at 409 0 (known-workable 409 known-409) (omega arith) reaches-512.3,
-  reach-at 289 167 (known-workable 289 known-289) (omega (arith, limits-512.0)) limits-512.1,
-  reach-at 409 47 (known-workable 409 known-409) (omega (arith, limits-512.2)) limits-512.3,
 )
 
 -- document 02: 'the 512-place report widens pinned and changed to two bytes each, 16 bytes in all with margin and mark'

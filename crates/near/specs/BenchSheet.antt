@@ -8,7 +8,8 @@ use Rattle.std.proofs.Common.{le_of_suc-le-suc, not-suc-le-zero}
 use Rattle.galois.specs.Gf16.{times}
 use Rattle.galois.specs.Binary as Binary
 use Rattle.code.specs.Bench.{case3, case4, case5, case6, case7, case8, c3, c4, c5, c6, c7, c8}
-use Rattle.soft.specs.Bench.{case9, case10, c9, c10}
+use Rattle.soft.specs.Bench.{case9, case10}
+use Rattle.soft.proofs.Bench.{c9, c10}
 
 -- 2 × 9 = 1
 unfoldable pub case1 : Bool

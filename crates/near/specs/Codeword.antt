@@ -34,7 +34,8 @@ use Rattle.galois.specs.BinaryField.{GF, K, size, to_f, value, value-lt, value-t
 use Rattle.hermitian.specs.Ring.{Fn}
 use Rattle.hermitian.specs.Value.{Val}
 use Rattle.hermitian.specs.Points.{Points, points-some}
-use Rattle.hermitian.specs.Decoding.{Near, near-unique}
+use Rattle.hermitian.specs.Decoding.{Near}
+use Rattle.hermitian.proofs.Decoding.{near-unique}
 use Rattle.hermitian.specs.Orders.{order_of}
 use Rattle.hermitian.specs.Message.{message_fn, message-at, message-fn, message-order, message-val}
 use Rattle.soft.specs.Total.{symbol_at, agree, differ_at, differing_in}

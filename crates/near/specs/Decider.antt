@@ -27,7 +27,7 @@ use Rattle.lists.specs.Words.{all_below, all_below-at}
 use Rattle.lists.specs.Answers.{Found}
 use Rattle.algebra.specs.Coefficients.{Lead}
 use Rattle.galois.specs.BinaryField.{GF, K, value, value-to_f, one-lt}
-use Rattle.hermitian.specs.Decoding.{radius-decides}
+use Rattle.hermitian.proofs.Decoding.{radius-decides}
 use Rattle.hermitian.specs.Interpolant.{without_z, with_z}
 use Rattle.hermitian.specs.Division.{quotient}
 use Rattle.hermitian.specs.Orders.{order_of}

@@ -27,7 +27,8 @@ use Rattle.hermitian.specs.Points.{Points}
 use Rattle.hermitian.specs.Decoding.{Near}
 use Rattle.hermitian.specs.Division.{quotient}
 use Rattle.hermitian.specs.Interpolant.{without_z, with_z}
-use Rattle.hermitian.specs.Repair.{limit, x_at, y_at, z_at, near-held, decided-with_z, decided-repairs}
+use Rattle.hermitian.specs.Repair.{limit, x_at, y_at, z_at}
+use Rattle.hermitian.proofs.Repair.{near-held, decided-with_z, decided-repairs}
 use Rattle.family.specs.Member.{Member, symbols, places, px, py}
 use Rattle.family.specs.Nodes.{Node, node, sample_at, ThroughNodes}
 use Rattle.near.specs.Near.{m_of, near_to}

@@ -17,7 +17,7 @@ use Rattle.book64.specs.captures.Capture.{body_length, capture_length, is_versio
 use Rattle.book64.specs.captures.CaptureOpening.{version_in, rate_in, doubt_in, list_in, records_in, size_fits, version_fits, length_in, length_fits, open_with, open_capture_of}
 use Rattle.book64.specs.captures.CaptureCases.{open-size, open-version, open-length, open-refused, with-on, capture-refused}
 use Rattle.book64.specs.captures.Versions.{misfit-refused, suited-opens}
-use Rattle.book.specs.sentences.Sentences.{opening-only}
+use Rattle.book.proofs.sentences.Sentences.{opening-only}
 use Rattle.book.specs.rows.AlikeDelivery.{agreed-path, agreed-trans, row-alike}
 use Rattle.book64.specs.Here.{places, open_of, deliver_row}
 use Rattle.session.specs.declared.Opened.{Opened}

@@ -5,7 +5,7 @@
 use Rattle.std.specs.Prelude.{◌≡◌, ℕ, ◌+◌, ◌-◌, ◌*◌, ◌≤◌}
 use Rattle.std.proofs.Common.{ap, ◌∙◌, arith}
 use Rattle.interpolant.specs.LeastQ.{byte_key}
-use Rattle.interpolant.specs.Reading.{byte_key-plain, byte_key-z}
+use Rattle.interpolant.proofs.Reading.{byte_key-plain, byte_key-z}
 
 pub key-plain : (M i : ℕ) → i ≤ 64 → byte_key M i ≡ 2 * i
 key-plain M i h = byte_key-plain M i h

@@ -19,27 +19,31 @@ use Rattle.std.proofs.Math.ListN.{length, get_or-eq_default}
 use Rattle.refusals.specs.Refusal.{accepted, unknown_rate}
 use Rattle.lists.specs.Distinct.{below, below_at}
 use Rattle.soft.specs.Bits.{bits, bit_columns}
-use Rattle.soft.specs.BitsLaws.{bit-table-bytes}
+use Rattle.soft.proofs.BitsLaws.{bit-table-bytes}
 use Rattle.soft.specs.Column.{ceiling, column_of}
 use Rattle.soft.specs.ColumnLaws.{column-length, cost-column}
 use Rattle.soft.specs.CostBytes.{cost_bytes}
 use Rattle.soft.specs.Doubt.{doubtful_of}
 use Rattle.code.specs.Encoding.{known_rate}
 use Rattle.book64.specs.Modem64.{modem64}
-use Rattle.book64.specs.captures.WritingLaws.{writing-alike}
+use Rattle.book64.proofs.captures.WritingLaws.{writing-alike}
 use Rattle.book.specs.Book.{column_in, Filled}
 use Rattle.book64.specs.captures.CaptureOpening.{records_in, open_capture_of}
 use Rattle.book.specs.closing.Closing.{Closed}
-use Rattle.book.specs.closing.ClosingLaws.{refused-number, close-report}
+use Rattle.book.proofs.closing.ClosingLaws.{refused-number, close-report}
 use Rattle.book64.specs.captures.LookUp.{look_up_of}
 use Rattle.book64.specs.captures.LookUpLaws.{look-up-column}
-use Rattle.book.specs.sentences.Marked.{Cheapest, table-marked, shows-cheapest, close-word}
+use Rattle.book.specs.sentences.Marked.{Cheapest}
+use Rattle.book.proofs.sentences.Marked.{table-marked, shows-cheapest, close-word}
 use Rattle.book.specs.rows.PlaceOrder.{InPlaceOrder}
-use Rattle.book.specs.closing.Report.{ShowsFor, Reported, table-shows, report-shows}
+use Rattle.book.specs.closing.Report.{ShowsFor, Reported}
+use Rattle.book.proofs.closing.Report.{table-shows, report-shows}
 use Rattle.book.specs.opening.OpeningLaws.{list-short}
-use Rattle.book.specs.tables.Table.{closed, table-rate, checks-passed}
-use Rattle.book.specs.tables.Below.{below-accepted, below-as-table, below-picked, doubt_for}
-use Rattle.book.specs.tables.Bits.{bits-as-table, bits-refused, made-columns}
+use Rattle.book.specs.tables.Table.{closed}
+use Rattle.book.proofs.tables.Table.{table-rate, checks-passed}
+use Rattle.book.specs.tables.Below.{doubt_for}
+use Rattle.book.proofs.tables.Below.{below-accepted, below-as-table, below-picked}
+use Rattle.book.proofs.tables.Bits.{bits-as-table, bits-refused, made-columns}
 use Rattle.book.specs.tables.Table as Table
 use Rattle.book64.specs.captures.Writing.{write_of}
 use Rattle.book64.specs.Here.{places, width, mark_in, mark-byte, columns_of, close_of, table_columns, picked_of, picked_below, table_of, table_below_of, frame_length, power, table_made, bits_of, checks_of, AreColumns}

@@ -20,7 +20,8 @@ use Rattle.soft.specs.BlankLaws.{bit-flag, flags-at}
 use Rattle.soft.specs.TestWord.{best_word}
 use Rattle.soft.specs.TestWordLaws.{best_word-at}
 use Rattle.family.specs.Nodes.{Node, node}
-use Rattle.near.specs.Here.{m_of, m-is}
+use Rattle.near.specs.Here.{m_of}
+use Rattle.near.proofs.Here.{m-is}
 use Rattle.interpolant.specs.LeastQ.{reading_of}
 use Rattle.values.specs.Settled.{settled, settled-nil, settled-suc}
 use Rattle.book64.specs.readings.Reading.{is_settled, settled_at, settled_below, settled_of}

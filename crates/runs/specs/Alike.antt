@@ -11,7 +11,8 @@ use Rattle.lists.specs.Block.{block}
 use Rattle.book64.specs.Modem64.{modem64}
 use Rattle.book.specs.Book.{Book}
 use Rattle.book.specs.calls.Calls.{Answer}
-use Rattle.book64.specs.calls.Calls.{Call, others64, reading, writing, closing}
+use Rattle.book64.specs.calls.Calls.{Call, reading, writing, closing}
+use Rattle.book64.proofs.calls.Calls.{others64}
 use Rattle.book64.specs.Here.{places, width}
 use Rattle.calls.specs.Alike as any
 use Rattle.session.specs.declared.Session.{Session}

@@ -9,9 +9,10 @@ use Rattle.refusals.specs.Refusal.{accepted}
 use Rattle.lists.specs.Words.{Word}
 use Rattle.book64.specs.Rates.{Rate, rate_known}
 use Rattle.book.specs.calls.Calls.{Answer}
-use Rattle.book64.specs.calls.Calls.{Call, others64, closing}
+use Rattle.book64.specs.calls.Calls.{Call, closing}
+use Rattle.book64.proofs.calls.Calls.{others64}
 use Rattle.book64.specs.Here.{report_length, open_of}
-use Rattle.calls.specs.Alive as any
+use Rattle.calls.proofs.Alive as any
 use Rattle.session.specs.declared.Session.{Session}
 use Rattle.session.specs.declared.Opened.{Opened}
 use Rattle.session.specs.View.{keeping}

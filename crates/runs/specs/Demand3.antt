@@ -12,20 +12,25 @@
 use Rattle.std.specs.Prelude.{◌≡◌, List, [], ◌∷◌, ◌++◌, ◌↔◌, ◌≢◌, ◌⊎◌, ℕ, suc, ◌+◌, ◌-◌, ◌*◌, ◌<◌, ◌≤◌, length, get_or}
 use Rattle.std.proofs.Common.{subst, arith}
 use Rattle.refusals.specs.Refusal.{accepted, place_missing, none_near, too_blank}
-use Rattle.near.specs.Here.{m-is, blank_limit, IsReach, t-is}
+use Rattle.near.specs.Here.{blank_limit, IsReach}
+use Rattle.near.proofs.Here.{m-is, t-is}
 use Rattle.book.specs.Book.{Book, column_in}
 use Rattle.book.specs.Columns.{Agree}
 use Rattle.book.specs.rows.PlaceOrder.{InPlaceOrder}
 use Rattle.book.specs.rows.Delivery.{with_entry}
 use Rattle.book.specs.rows.Withdrawal.{without_place}
 use Rattle.book64.specs.captures.CaptureOpening.{records_in}
-use Rattle.book64.specs.Rates.{Rate, rate_known, rate-39, rate-49, rate-blanks, rate-reaches}
+use Rattle.book64.specs.Rates.{Rate, rate_known, rate-39, rate-49, rate-blanks}
+use Rattle.book64.proofs.Rates.{rate-reaches}
 use Rattle.book.specs.calls.Calls.{Answer}
-use Rattle.book64.specs.calls.Calls.{Call, others64, deliver, writing, closing, withdraw, first_lent, second_lent, answer, after, answers, after_all}
+use Rattle.book64.specs.calls.Calls.{Call, deliver, writing, closing, withdraw}
+use Rattle.book64.proofs.calls.Calls.{others64, first_lent, second_lent, answer, after, answers, after_all}
 use Rattle.book64.specs.Here.{open_of, report_length, Missing, DoubtfulList, IsNear, IsAnswer}
 use Rattle.calls.specs.Demand3 as any
+use Rattle.calls.proofs.Demand3 as any-laws
 use Rattle.book64.specs.calls.CallLaws.{AllFit}
-use Rattle.book64.specs.calls.Undone.{Spares, accepted_of}
+use Rattle.book64.specs.calls.Undone.{Spares}
+use Rattle.book64.proofs.calls.Undone.{accepted_of}
 use Rattle.session.specs.declared.Session.{Session}
 use Rattle.session.specs.declared.Opened.{Opened}
 use Rattle.session.specs.View.{keeping, book_of, Good}
@@ -129,7 +134,7 @@ pub record Demand3 : Type 0 where
 
 -- every modem's, at this one
 abbrev general : any.Demand3 others64 keeping
-general = any.demand-3 others64 keeping
+general = any-laws.demand-3 others64 keeping
 
 closes-after : {book : Book} {calls : List Call} {a : Answer} → ClosedAfter book calls a → any.ClosedAfter others64 keeping book calls a
 closes-after (closed_after start run step long whole_report) = any.closed_after (start-stands start) run step long whole_report

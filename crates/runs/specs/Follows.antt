@@ -28,17 +28,20 @@ use Rattle.book64.specs.captures.CaptureOpening.{rate_in, list_in, records_in, o
 use Rattle.code.specs.Encoding.{known_rate}
 use Rattle.book64.specs.Rates.{Rate, rate_known, known-rate}
 use Rattle.book.specs.calls.Calls.{Answer}
-use Rattle.book64.specs.calls.Calls.{Call, others64, answers, after_all}
-use Rattle.book.specs.sentences.Sentences.{opening-only}
+use Rattle.book64.specs.calls.Calls.{Call}
+use Rattle.book64.proofs.calls.Calls.{others64, answers, after_all}
+use Rattle.book.proofs.sentences.Sentences.{opening-only}
 use Rattle.book64.specs.Here.{open_of, DoubtfulList, RowColumns}
-use Rattle.book64.specs.calls.CallLaws.{rate-held}
-use Rattle.book64.specs.captures.Captured.{deliveries, capture-opens, capture-costs}
+use Rattle.book64.proofs.calls.CallLaws.{rate-held}
+use Rattle.book64.specs.captures.Captured.{deliveries}
+use Rattle.book64.proofs.captures.Captured.{capture-opens, capture-costs}
 use Rattle.session.specs.declared.Session.{Session}
 use Rattle.session.specs.declared.Opened.{Opened}
 use Rattle.session.specs.View.{keeping}
 use Rattle.session.specs.Calls.{Opening}
 use Rattle.calls.specs.Follows as any
-use Rattle.calls.specs.Follows.{new-rate}
+use Rattle.calls.proofs.Follows as any-laws
+use Rattle.calls.proofs.Follows.{new-rate}
 pub use Rattle.calls.specs.Follows.{closed_by}
 
 abbrev pub Follows : Session → Book → Type 0
@@ -86,18 +89,18 @@ capture-stands bytes known opened n =
     }
 
 pub start-stands : {book : Book} {s : Session} → Start book s → Stands book s
-start-stands (by_opening known fit opened) = any.opening-stands modem64 keeping (rate_known known) fit opened
+start-stands (by_opening known fit opened) = any-laws.opening-stands modem64 keeping (rate_known known) fit opened
 start-stands (by_capture bytes known opened n) = capture-stands bytes known opened n
 
 pub start-rate : {book : Book} {s : Session} → Start book s → Rate book.rate
 start-rate {book = book} start = known-rate book.rate (start-stands start).rate
 
 pub start-follows : {book : Book} {s : Session} → Start book s → Follows s book
-start-follows start = any.stands-follows modem64 keeping others64 (start-stands start)
+start-follows start = any-laws.stands-follows modem64 keeping others64 (start-stands start)
 
 -- two openings by one book give one session
 pub one_start : {book : Book} {s t : Session} → Start book s → Start book t → s ≡ t
-one_start a b = any.one-stands modem64 keeping (start-stands a) (start-stands b)
+one_start a b = any-laws.one-stands modem64 keeping (start-stands a) (start-stands b)
 
 pub record CaptureStarts (bytes : List ℕ) (r : Opened) : Type 0 where
   pub rate : Rate (rate_in bytes)

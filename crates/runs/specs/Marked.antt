@@ -10,8 +10,9 @@ use Rattle.book.specs.Book.{Book, new_book}
 use Rattle.book.specs.Columns.{Agree}
 use Rattle.book64.specs.Rates.{Rate}
 use Rattle.book.specs.calls.Calls.{Answer}
-use Rattle.book64.specs.calls.Calls.{Call, others64, closing, after_all}
-use Rattle.calls.specs.Marked as any
+use Rattle.book64.specs.calls.Calls.{Call, closing}
+use Rattle.book64.proofs.calls.Calls.{others64, after_all}
+use Rattle.calls.proofs.Marked as any
 use Rattle.book64.specs.Here.{open_of, DoubtfulList, RowColumns, mark_in, mark-byte, CheapestIn}
 use Rattle.session.specs.declared.Session.{Session}
 use Rattle.session.specs.declared.Opened.{Opened}

@@ -26,9 +26,11 @@ use Rattle.book64.specs.Modem64.{modem64}
 use Rattle.book.specs.Book.{Book, new_book}
 use Rattle.book64.specs.Rates.{Rate, rate_known}
 use Rattle.book.specs.calls.Calls.{Answer}
-use Rattle.book64.specs.calls.Calls.{Call, others64, closing, after_all}
+use Rattle.book64.specs.calls.Calls.{Call, closing}
+use Rattle.book64.proofs.calls.Calls.{others64, after_all}
 use Rattle.calls.specs.Repaired as any
-use Rattle.book.specs.sentences.Repairs.{few-alone}
+use Rattle.calls.proofs.Repaired as any-laws
+use Rattle.book.proofs.sentences.Repairs.{few-alone}
 use Rattle.book64.specs.Here.{open_of, columns_of, Missing, report_length, DoubtfulList, FewWrong, FewDoubtful, Alone, not_best, TooFar, Repaired, NoDearer, Sure, RefusedAs, Never}
 use Rattle.session.specs.declared.Session.{Session}
 use Rattle.session.specs.declared.Opened.{Opened}
@@ -45,29 +47,29 @@ module _ {s : Session} {book : Book} (follows : Follows s book) {calls : List Ca
   pub follows-repaired : Rate book.rate → book.doubtful ≡ [] → Word 16 book.rate m
       → not_best book.rate (columns_of (after_all book calls).row) m ≤ T
       → Repaired book.rate (columns_of (after_all book calls).row) book.doubtful m (closed_by a)
-  follows-repaired rate = any.follows-repaired others64 keeping follows run step long whole_report full reach m (rate_known rate)
+  follows-repaired rate = any-laws.follows-repaired others64 keeping follows run step long whole_report full reach m (rate_known rate)
 
   pub follows-refused : Rate book.rate → book.doubtful ≡ [] → TooFar book.rate (columns_of (after_all book calls).row) T m
       → RefusedAs none_near message report (closed_by a)
-  follows-refused rate = any.follows-refused others64 keeping follows run step long whole_report full reach m (rate_known rate)
+  follows-refused rate = any-laws.follows-refused others64 keeping follows run step long whole_report full reach m (rate_known rate)
 
   pub follows-found : FewWrong book.rate (columns_of (after_all book calls).row) book.doubtful T m
       → NoDearer book.rate (columns_of (after_all book calls).row) book.doubtful m (closed_by a)
-  follows-found = any.follows-found others64 keeping follows run step long whole_report full reach m
+  follows-found = any-laws.follows-found others64 keeping follows run step long whole_report full reach m
 
   pub follows-alone : Rate book.rate → FewWrong book.rate (columns_of (after_all book calls).row) book.doubtful T m
       → Alone book.rate (columns_of (after_all book calls).row) book.doubtful T m
       → Sure book.rate (columns_of (after_all book calls).row) book.doubtful m (closed_by a)
-  follows-alone rate = any.follows-alone others64 keeping follows run step long whole_report full reach m (rate_known rate)
+  follows-alone rate = any-laws.follows-alone others64 keeping follows run step long whole_report full reach m (rate_known rate)
 
   pub follows-sure : Rate book.rate → FewDoubtful book.rate (columns_of (after_all book calls).row) book.doubtful T
       → FewWrong book.rate (columns_of (after_all book calls).row) book.doubtful T m
       → Sure book.rate (columns_of (after_all book calls).row) book.doubtful m (closed_by a)
-  follows-sure rate = any.follows-sure others64 keeping follows run step long whole_report full reach m (rate_known rate)
+  follows-sure rate = any-laws.follows-sure others64 keeping follows run step long whole_report full reach m (rate_known rate)
 
   pub follows-never : Rate book.rate → Alone book.rate (columns_of (after_all book calls).row) book.doubtful T m
       → Never book.rate (columns_of (after_all book calls).row) book.doubtful m message report (closed_by a)
-  follows-never rate = any.follows-never others64 keeping follows run step long whole_report full reach m (rate_known rate)
+  follows-never rate = any-laws.follows-never others64 keeping follows run step long whole_report full reach m (rate_known rate)
 
 -- ---- an opened session
 
@@ -83,38 +85,38 @@ module _ {rate : ℕ} (known : Rate rate) {r : Opened} {calls : List Call} {give
   pub run-repaired : Opening (open_of rate []) r → Run r.session calls given t → Full rate [] calls
       → {T : ℕ} → ReachAfter (new_book rate []) calls T → Word 16 rate m
       → not_best rate (columns_after rate [] calls) m ≤ T → Repaired rate (columns_after rate [] calls) [] m (closed_by a)
-  run-repaired opened run full reach word few = any.run-repaired others64 keeping (rate_known known) step long whole_report m opened run full reach word few
+  run-repaired opened run full reach word few = any-laws.run-repaired others64 keeping (rate_known known) step long whole_report m opened run full reach word few
 
   pub run-faded : Opening (open_of rate []) r → Run r.session calls given t → Full rate [] calls
       → blanks_after (new_book rate []) calls ≤ blank_limit rate → Word 16 rate m
       → not_best rate (columns_after rate [] calls) m ≤ reach_of rate (blanks_after (new_book rate []) calls)
       → Repaired rate (columns_after rate [] calls) [] m (closed_by a)
-  run-faded opened run full few_blank word few = any.run-faded others64 keeping (rate_known known) step long whole_report m opened run full few_blank word few
+  run-faded opened run full few_blank word few = any-laws.run-faded others64 keeping (rate_known known) step long whole_report m opened run full few_blank word few
 
   pub run-refused : Opening (open_of rate []) r → Run r.session calls given t → Full rate [] calls
       → {T : ℕ} → ReachAfter (new_book rate []) calls T → TooFar rate (columns_after rate [] calls) T m
       → RefusedAs none_near message report (closed_by a)
-  run-refused opened run full reach far = any.run-refused others64 keeping (rate_known known) step long whole_report m opened run full reach far
+  run-refused opened run full reach far = any-laws.run-refused others64 keeping (rate_known known) step long whole_report m opened run full reach far
 
   pub run-found : {list : List ℕ} → DoubtfulList list → Opening (open_of rate list) r → Run r.session calls given t → Full rate list calls
       → {T : ℕ} → ReachAfter (new_book rate list) calls T
       → FewWrong rate (columns_after rate list calls) list T m → NoDearer rate (columns_after rate list calls) list m (closed_by a)
-  run-found d opened run full reach = any.run-found others64 keeping (rate_known known) step long whole_report m d opened run full reach
+  run-found d opened run full reach = any-laws.run-found others64 keeping (rate_known known) step long whole_report m d opened run full reach
 
   pub run_alone : {list : List ℕ} → DoubtfulList list → Opening (open_of rate list) r → Run r.session calls given t → Full rate list calls
       → {T : ℕ} → ReachAfter (new_book rate list) calls T → FewWrong rate (columns_after rate list calls) list T m
       → Alone rate (columns_after rate list calls) list T m → Sure rate (columns_after rate list calls) list m (closed_by a)
-  run_alone d opened run full reach = any.run_alone others64 keeping (rate_known known) step long whole_report m d opened run full reach
+  run_alone d opened run full reach = any-laws.run_alone others64 keeping (rate_known known) step long whole_report m d opened run full reach
 
   pub run-sure : {list : List ℕ} → DoubtfulList list → Opening (open_of rate list) r → Run r.session calls given t → Full rate list calls
       → {T : ℕ} → ReachAfter (new_book rate list) calls T → FewDoubtful rate (columns_after rate list calls) list T
       → FewWrong rate (columns_after rate list calls) list T m → Sure rate (columns_after rate list calls) list m (closed_by a)
-  run-sure d opened run full reach = any.run-sure others64 keeping (rate_known known) step long whole_report m d opened run full reach
+  run-sure d opened run full reach = any-laws.run-sure others64 keeping (rate_known known) step long whole_report m d opened run full reach
 
   pub run-never : {list : List ℕ} → DoubtfulList list → Opening (open_of rate list) r → Run r.session calls given t → Full rate list calls
       → {T : ℕ} → ReachAfter (new_book rate list) calls T → Alone rate (columns_after rate list calls) list T m
       → Never rate (columns_after rate list calls) list m message report (closed_by a)
-  run-never d opened run full reach = any.run-never others64 keeping (rate_known known) step long whole_report m d opened run full reach
+  run-never d opened run full reach = any-laws.run-never others64 keeping (rate_known known) step long whole_report m d opened run full reach
 
 -- ---- a session opened by an accepted capture
 

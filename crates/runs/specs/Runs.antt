@@ -9,7 +9,8 @@
 -- the contracts of `session::deliver`, `session::withdraw`, `reading::read_interpolant`, `writing::write_capture` and `closing::close`.
 use Rattle.std.specs.Prelude.{◌≡◌, List}
 use Rattle.book.specs.calls.Calls.{Answer}
-use Rattle.book64.specs.calls.Calls.{Call, others64, answers}
+use Rattle.book64.specs.calls.Calls.{Call}
+use Rattle.book64.proofs.calls.Calls.{others64, answers}
 use Rattle.book64.specs.calls.CallLaws.{AllFit}
 use Rattle.calls.specs.Runs as any
 use Rattle.session.specs.declared.Session.{Session}

@@ -20,13 +20,15 @@ use Rattle.book.specs.rows.PlaceOrder.{InPlaceOrder}
 use Rattle.book64.specs.captures.CaptureOpening.{records_in, open_capture_of}
 use Rattle.book64.specs.Rates.{Rate, known-rate}
 use Rattle.book.specs.calls.Calls.{Answer}
-use Rattle.book64.specs.calls.Calls.{Call, others64, reading, writing, closing, after_all}
+use Rattle.book64.specs.calls.Calls.{Call, reading, writing, closing}
+use Rattle.book64.proofs.calls.Calls.{others64, after_all}
 use Rattle.book.specs.calls.Calls as any
-use Rattle.calls.specs.Shown as shown
-use Rattle.book64.specs.calls.CallLaws.{answer-alike}
-use Rattle.book64.specs.captures.RoundTrip.{write-whole, write-accepted, written-order, written-columns, written-opened, open-then-write}
+use Rattle.calls.proofs.Shown as shown
+use Rattle.book64.proofs.calls.CallLaws.{answer-alike}
+use Rattle.book64.proofs.captures.RoundTrip.{write-whole, write-accepted, written-order, written-columns, written-opened, open-then-write}
 use Rattle.book64.specs.Here.{open_of, DoubtfulList, RowColumns, ReportedIn}
-use Rattle.book64.specs.readings.ReadingSentences.{Reads, reading-least}
+use Rattle.book64.specs.readings.ReadingSentences.{Reads}
+use Rattle.book64.proofs.readings.ReadingSentences.{reading-least}
 use Rattle.session.specs.declared.Session.{Session}
 use Rattle.session.specs.declared.Opened.{Opened}
 use Rattle.session.specs.View.{keeping, book_of, Good}

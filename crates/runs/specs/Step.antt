@@ -12,7 +12,8 @@ use Rattle.std.specs.Prelude.{true, ◌≡◌, List, [], ℕ, length}
 use Rattle.lists.specs.Distinct.{below}
 use Rattle.book64.specs.Modem64.{modem64}
 use Rattle.book.specs.calls.Calls.{Answer}
-use Rattle.book64.specs.calls.Calls.{Call, others64, deliver, reading, writing, closing, withdraw}
+use Rattle.book64.specs.calls.Calls.{Call, deliver, reading, writing, closing, withdraw}
+use Rattle.book64.proofs.calls.Calls.{others64}
 use Rattle.book64.specs.Here.{width, IsColumn}
 use Rattle.calls.specs.Step as any
 use Rattle.session.specs.declared.Session.{Session}

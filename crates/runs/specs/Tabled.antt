@@ -22,10 +22,12 @@ use Rattle.book64.specs.Modem64.{modem64}
 use Rattle.book.specs.Book.{Entry, Book, new_book, column_in}
 use Rattle.book64.specs.Rates.{Rate, rate_known}
 use Rattle.book.specs.calls.Calls.{Answer}
-use Rattle.book64.specs.calls.Calls.{Call, others64, deliver, closing, after_all}
+use Rattle.book64.specs.calls.Calls.{Call, deliver, closing}
+use Rattle.book64.proofs.calls.Calls.{others64, after_all}
 use Rattle.book64.specs.calls.Undone.{Spares}
 use Rattle.book64.specs.Here.{places, open_of, table_length, table_columns, picked_of, table_of, picked_below, table_below_of}
 use Rattle.calls.specs.Tabled as any
+use Rattle.calls.proofs.Tabled as any-laws
 use Rattle.session.specs.declared.Session.{Session}
 use Rattle.session.specs.declared.Opened.{Opened}
 use Rattle.session.specs.View.{keeping}
@@ -46,52 +48,52 @@ BringsTable table calls = any.BringsTable modem64 table calls
 pub brings-unwithdrawn : {table : List ℕ} {calls : List Call} → ((p : ℕ) → p < places → Spares p calls)
     → ((p : ℕ) → p < places → (column : List ℕ) × Memᴰ (deliver p column) calls)
     → ((p : ℕ) (column : List ℕ) → p < places → Memᴰ (deliver p column) calls → column ≡ table_columns table p) → BringsTable table calls
-brings-unwithdrawn spares every_place columns = any.brings-unwithdrawn modem64 spares every_place columns
+brings-unwithdrawn spares every_place columns = any-laws.brings-unwithdrawn modem64 spares every_place columns
 
 -- from a book without the place, by the calls since it was last withdrawn
 pub brought-since : (p : ℕ) → p < places → (wanted : List ℕ) → {calls rest : List Call} → Since p calls rest
     → ((column : List ℕ) → Memᴰ (deliver p column) rest → column ≡ wanted)
     → (column : List ℕ) → Memᴰ (deliver p column) rest → (book : Book) → column_in book.row p ≡ none
     → column_in (after_all book calls).row p ≡ some wanted
-brought-since p h wanted since only column m book e = any.brought-since others64 p h wanted since only column m book e
+brought-since p h wanted since only column m book e = any-laws.brought-since others64 p h wanted since only column m book e
 
 pub brings-holds : {table : List ℕ} {calls : List Call} → BringsTable table calls → (rate : ℕ) (list : List ℕ)
     → HoldsTable table (after_all (new_book rate list) calls).row
-brings-holds brings rate list = any.brings-holds others64 brings rate list
+brings-holds brings rate list = any-laws.brings-holds others64 brings rate list
 
 -- ---- the claim
 
 module _ {rate : ℕ} (known : Rate rate) (table : List ℕ) (whole : length table ≡ table_length) (doubt : ℕ) (few : doubt ≤ most_doubt) {r : Opened}
     (opened : Opening (open_of rate (picked_of table doubt)) r) where
   pub picked-accepted : r.refusal ≡ accepted
-  picked-accepted = any.picked-accepted others64 keeping (rate_known known) table whole doubt few opened
+  picked-accepted = any-laws.picked-accepted others64 keeping (rate_known known) table whole doubt few opened
 
   pub table-as-run : {calls : List Call} {given : List Answer} {t : Session} → Run r.session calls given t
       → HoldsTable table (after_all (new_book rate (picked_of table doubt)) calls).row
       → {message report : List ℕ} {a : Answer} {u : Session} → Step t (closing message report) a u
       → closed_by a ≡ table_of rate table doubt message report
-  table-as-run run holds step = any.table-as-run others64 keeping (rate_known known) table whole doubt few opened run holds step
+  table-as-run run holds step = any-laws.table-as-run others64 keeping (rate_known known) table whole doubt few opened run holds step
 
   pub table-as-calls : {calls : List Call} {given : List Answer} {t : Session} → Run r.session calls given t → BringsTable table calls
       → {message report : List ℕ} {a : Answer} {u : Session} → Step t (closing message report) a u
       → closed_by a ≡ table_of rate table doubt message report
-  table-as-calls run brings step = any.table-as-calls others64 keeping (rate_known known) table whole doubt few opened run brings step
+  table-as-calls run brings step = any-laws.table-as-calls others64 keeping (rate_known known) table whole doubt few opened run brings step
 
 -- ---- the same by a threshold: with the doubt that is counted the places picked are the same, and so is the answer
 
 module _ {rate : ℕ} (known : Rate rate) (table : List ℕ) (whole : length table ≡ table_length) (t m : ℕ) (few : m ≤ most_doubt) {r : Opened}
     (opened : Opening (open_of rate (picked_below table t m)) r) where
   pub picked-below-accepted : r.refusal ≡ accepted
-  picked-below-accepted = any.picked-below-accepted others64 keeping (rate_known known) table whole t m few opened
+  picked-below-accepted = any-laws.picked-below-accepted others64 keeping (rate_known known) table whole t m few opened
 
   module _ (room : 1 ≤ m) where
     pub below-as-run : {calls : List Call} {given : List Answer} {s : Session} → Run r.session calls given s
         → HoldsTable table (after_all (new_book rate (picked_below table t m)) calls).row
         → {message report : List ℕ} {a : Answer} {u : Session} → Step s (closing message report) a u
         → closed_by a ≡ table_below_of rate table t m message report
-    below-as-run run holds step = any.below-as-run others64 keeping (rate_known known) table whole t m few opened room run holds step
+    below-as-run run holds step = any-laws.below-as-run others64 keeping (rate_known known) table whole t m few opened room run holds step
 
     pub below-as-calls : {calls : List Call} {given : List Answer} {s : Session} → Run r.session calls given s → BringsTable table calls
         → {message report : List ℕ} {a : Answer} {u : Session} → Step s (closing message report) a u
         → closed_by a ≡ table_below_of rate table t m message report
-    below-as-calls run brings step = any.below-as-calls others64 keeping (rate_known known) table whole t m few opened room run brings step
+    below-as-calls run brings step = any-laws.below-as-calls others64 keeping (rate_known known) table whole t m few opened room run brings step

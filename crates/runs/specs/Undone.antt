@@ -13,11 +13,13 @@ use Rattle.refusals.specs.Refusal.{accepted}
 use Rattle.lists.specs.Block.{block}
 use Rattle.book.specs.Book.{Book}
 use Rattle.book.specs.calls.Calls.{Answer}
-use Rattle.book64.specs.calls.Calls.{Call, others64, deliver, withdraw, answer, after, after_all}
+use Rattle.book64.specs.calls.Calls.{Call, deliver, withdraw}
+use Rattle.book64.proofs.calls.Calls.{others64, answer, after, after_all}
 use Rattle.book64.specs.calls.CallLaws.{AllFit}
-use Rattle.book64.specs.calls.Undone.{Spares, accepted_of}
+use Rattle.book64.specs.calls.Undone.{Spares}
+use Rattle.book64.proofs.calls.Undone.{accepted_of}
 use Rattle.book64.specs.Here.{width}
-use Rattle.calls.specs.Undone as any
+use Rattle.calls.proofs.Undone as any
 use Rattle.session.specs.declared.Session.{Session}
 use Rattle.session.specs.View.{keeping, Good}
 use Rattle.runs.specs.Step.{Step}

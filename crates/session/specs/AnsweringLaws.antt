@@ -12,10 +12,11 @@ use Rattle.near.specs.Here.{m_of}
 use Rattle.interpolant.specs.LeastQ.{reading_of, reading_length}
 use Rattle.book64.specs.Modem64.{modem64}
 use Rattle.book64.specs.readings.Reading.{settled_of}
-use Rattle.book64.specs.readings.ReadingLaws.{read-size, read-accepted}
+use Rattle.book64.proofs.readings.ReadingLaws.{read-size, read-accepted}
 use Rattle.book.specs.closing.Closing.{Closed}
 use Rattle.book64.specs.Here.{report_length, decode_of}
-use Rattle.book64.specs.calls.Calls.{read, others64}
+use Rattle.book64.specs.calls.Calls.{read}
+use Rattle.book64.proofs.calls.Calls.{others64}
 use Rattle.session.specs.declared.Session.{Session}
 use Rattle.session.specs.View.{keeping, all_taken, book_of, Good}
 use Rattle.session.specs.Answering.{Reading, Closing}

@@ -23,7 +23,7 @@ use Rattle.book64.specs.Modem64.{modem64}
 use Rattle.book.specs.Book.{Book, Outcome}
 use Rattle.book.specs.Columns.{Agree}
 use Rattle.book.specs.closing.Closing.{Closed}
-use Rattle.book.specs.sentences.Sentences.{closing-alike}
+use Rattle.book.proofs.sentences.Sentences.{closing-alike}
 use Rattle.book64.specs.Here.{report_length, close_of}
 use Rattle.session.specs.declared.Session.{Session}
 use Rattle.calls.specs.Held as Fields

@@ -17,7 +17,7 @@ use Rattle.book.specs.Book.{Book, Outcome}
 use Rattle.book64.specs.captures.CaptureOpening.{open_capture_of}
 use Rattle.book.specs.closing.Closing.{Closed}
 use Rattle.book64.specs.Here.{report_length, columns_of, tests_for, margin_for, close_of, ReportedIn}
-use Rattle.book64.specs.captures.Captured.{capture-shows}
+use Rattle.book64.proofs.captures.Captured.{capture-shows}
 use Rattle.text.specs.Text.{space, number_line, margin_text, heading_of, heading-shows, message_line, refused_line}
 
 unfoldable pub answer_lines : Book → Closed → List ℕ

@@ -11,7 +11,6 @@ pub mod Mark
 pub mod ColumnLaws
 pub mod BlankLaws
 pub mod Hard
-pub mod BitsLaws
 pub mod DoubtLaws
 pub mod ThresholdLaws
 pub mod TestWordLaws

@@ -37,7 +37,8 @@ use Rattle.family.specs.Member.{m16}
 use Rattle.code.specs.Encoding.{encode_of}
 use Rattle.near.specs.Near.{near_to}
 use Rattle.near.specs.Governing.{governed-only, only-far}
-use Rattle.near.specs.Here.{m_of, reach_of, genus-4, reaches}
+use Rattle.near.specs.Here.{m_of, reach_of}
+use Rattle.near.proofs.Here.{genus-4, reaches}
 use Rattle.book64.specs.Rates.{known-rate, rate-workable, rate-reach}
 use Rattle.book64.specs.engine.Engine.{unblanked_by}
 use Rattle.book64.specs.engine.EngineLaws.{unblanked-count}

@@ -34,7 +34,7 @@ use Rattle.book64.specs.Modem64.{modem64}
 use Rattle.book.specs.opening.Opening as Opening
 use Rattle.book64.specs.Rates.{known-rate, rate-workable}
 use Rattle.book.specs.closing.Closing.{Closed, refused_closing}
-use Rattle.book.specs.closing.ClosingLaws.{decode-none, decode-some, decode-sized}
+use Rattle.book.proofs.closing.ClosingLaws.{decode-none, decode-some, decode-sized}
 use Rattle.book64.specs.Here.{width, fit_places, report_length, decode_of}
 use Rattle.book64.specs.engine.Engine.{unblanked_by, near_by}
 use Rattle.book64.specs.engine.EngineLaws.{IsWithin, within-found, found_within, unblanked-repairs}

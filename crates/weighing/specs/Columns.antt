@@ -24,7 +24,7 @@ use Rattle.soft.specs.ColumnLaws.{column-length, cost-column}
 use Rattle.soft.specs.Blank.{open_at}
 use Rattle.soft.specs.BlankLaws.{blank-same, column-none}
 use Rattle.soft.specs.Bits.{symbol_cost, bit_column, values_at, bit_columns, bit_costs}
-use Rattle.soft.specs.BitsLaws.{bit-costs-suc, bit-costs-length}
+use Rattle.soft.proofs.BitsLaws.{bit-costs-suc, bit-costs-length}
 
 -- a pair of bytes: both missing, or the first present
 pub pair-missing : (bytes : List ℕ) (i : ℕ) → length bytes ≤ i → 0 ≡ pair_at bytes i

@@ -13,7 +13,7 @@ use Rattle.book.specs.Book.{Entry, Filled}
 use Rattle.book64.specs.captures.Capture.{row_bytes, capture_length, capture_of}
 use Rattle.book.specs.rows.PlaceOrder.{record_of}
 use Rattle.book.specs.rows.PlaceOrder as Ordering
-use Rattle.book64.specs.captures.RoundTrip.{write-size, write-missing, write-accepted}
+use Rattle.book64.proofs.captures.RoundTrip.{write-size, write-missing, write-accepted}
 use Rattle.book64.specs.Here.{places, width, some_missing, in_place_order}
 use Rattle.session.specs.declared.Session.{Session}
 use Rattle.session.specs.View.{entry_at, all_taken, book_of, Good}

@@ -4,7 +4,7 @@ use native.Mathlib.Omega.{arith}
 use Rattle.soft.specs.Bits.{bits}
 use Rattle.book64.specs.Modem64.{modem64}
 use Rattle.book.specs.closing.Closing.{refused_closing}
-use Rattle.book.specs.tables.Bits.{bits-refused, bits-doubt}
+use Rattle.book.proofs.tables.Bits.{bits-refused, bits-doubt}
 use Rattle.book64.specs.Here.{power}
 use Rattle.answering.specs.Checks.{passed, refused}
 use Rattle.doubt.specs.Picked.{picked-in}

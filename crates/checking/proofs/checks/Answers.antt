@@ -4,7 +4,7 @@ use mathlib.Core.Path.{◌≡◌, sym, ◌∙◌}
 use mathlib.Core.Logic.{inl, inr}
 use Rattle.code.specs.Encoding.{known_rate}
 use Rattle.book64.specs.Modem64.{modem64}
-use Rattle.book.specs.tables.Table.{checks-rate, checks-size, checks-fit}
+use Rattle.book.proofs.tables.Table.{checks-rate, checks-size, checks-fit}
 use Rattle.checking.proofs.checks.Goals as goal
 
 pub returns-then-not-known_rate : goal.returns-then-not-known_rate

@@ -7,7 +7,7 @@ use lib.Seq.{length-take-le}
 use borrow.Author.Rules.{rules}
 use Rattle.lists.specs.Over.{over-same}
 use Rattle.soft.specs.Doubt.{most_doubt}
-use Rattle.interpolant.specs.Reading.{reading-size}
+use Rattle.interpolant.proofs.Reading.{reading-size}
 use Rattle.code.specs.Encoding.{known_rate}
 use Rattle.code.specs.Rates.{known-bounds}
 use Rattle.session.specs.declared.Session.{Session}

@@ -3,7 +3,7 @@ use mathlib.Core.Path.{sym}
 use native.Mathlib.Omega.{arith}
 use Rattle.book64.specs.Modem64.{modem64}
 use Rattle.book.specs.closing.Closing.{refused_closing}
-use Rattle.book.specs.tables.Table.{checks-refused, table-doubt}
+use Rattle.book.proofs.tables.Table.{checks-refused, table-doubt}
 use Rattle.answering.specs.Checks.{passed, refused}
 use Rattle.doubt.specs.Picked.{picked-in}
 use Rattle.answering.specs.Tabled.{table-askable, table-answers}

@@ -4,7 +4,7 @@ use mathlib.Core.Logic.{inl, inr}
 use native.Mathlib.Omega.{arith}
 use Rattle.book64.specs.Modem64.{modem64}
 use Rattle.book.specs.closing.Closing.{refused_closing}
-use Rattle.book.specs.tables.Below.{below-refused, below-doubt}
+use Rattle.book.proofs.tables.Below.{below-refused, below-doubt}
 use Rattle.answering.specs.Checks.{passed, refused}
 use Rattle.doubt.specs.Picked.{picked-in}
 use Rattle.answering.specs.Below.{below-askable, below-answers}

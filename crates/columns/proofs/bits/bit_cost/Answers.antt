@@ -1,6 +1,6 @@
 -- `columns::bits::bit_cost` meets its contract: the value is positive or zero, or it is negative.
 use native.Mathlib.Omega.{arith}
-use Rattle.soft.specs.BitsLaws.{bit-cost-low, bit-cost-high, bit-cost-most}
+use Rattle.soft.proofs.BitsLaws.{bit-cost-low, bit-cost-high, bit-cost-most}
 use Rattle.columns.proofs.bits.bit_cost.Goals as goal
 
 pub overflow_mul-result : goal.overflow_mul-result

@@ -6,7 +6,7 @@ use native.Mathlib.Omega.{arith}
 use lib.ListN.{get_or}
 use Rattle.lists.specs.Count.{sum_of}
 use Rattle.soft.specs.Bits.{bits, bit_cost, bit_of, symbol_cost}
-use Rattle.soft.specs.BitsLaws.{bit-cost-most}
+use Rattle.soft.proofs.BitsLaws.{bit-cost-most}
 use Rattle.columns.proofs.bits.symbol_cost.Goals as goal
 
 four-added : (values : List ℕ) (s : ℕ) {a b c d : ℕ} → a ≡ bit_cost (get_or values 0 0) (s / 8 % 2) → b ≡ bit_cost (get_or values 1 0) (s / 4 % 2)

@@ -17,15 +17,18 @@ use Rattle.lists.specs.Block.{block}
 use Rattle.book.specs.Model.{Model, width}
 use Rattle.book.specs.Book.{Book}
 use Rattle.book.specs.Columns.{agree-sym, agree_trans, agree-path}
-use Rattle.book.specs.Machine.{after_by, after-append, each_append, accepted-each}
+use Rattle.book.specs.Machine.{after_by}
+use Rattle.book.proofs.Machine.{after-append, each_append, accepted-each}
 use Rattle.book.specs.calls.Calls.{Answer, Call, deliver, withdraw, Others, answer, after, after_all}
 use Rattle.book.specs.calls.CallLaws.{AllFit}
-use Rattle.book.specs.calls.Undone.{Spares, accepts, accepted_of, undone-calls}
+use Rattle.book.specs.calls.Undone.{Spares, accepts, accepted_of}
+use Rattle.book.proofs.calls.Undone.{undone-calls}
 use Rattle.calls.specs.Keeping.{Keeping, book_of, Good, one-session}
 use Rattle.calls.specs.PromiseLaws.{withdrawn-cleared}
 use Rattle.calls.specs.Step.{Step}
 use Rattle.calls.specs.Runs.{Run, every-run, one_end}
-use Rattle.calls.specs.Follows.{Stands, stands-follows}
+use Rattle.calls.specs.Follows.{Stands}
+use Rattle.calls.proofs.Follows.{stands-follows}
 
 module _ {𝓓 : Model} {X S : Type 0} (others : Others 𝓓 X) (K : Keeping S) where
   pub step-frees : {s t : S} {p : ℕ} {a : Answer} → Good 𝓓 K s → Step others K s (withdraw p) a t → a.number ≡ accepted

@@ -14,15 +14,17 @@ use Rattle.book.specs.Columns.{Agree}
 use Rattle.book.specs.opening.Opening.{fit_doubt, open_of}
 use Rattle.book.specs.opening.OpeningLaws.{list-short, Known, DoubtfulList}
 use Rattle.book.specs.calls.Calls.{Answer, Call, closing, Others, answer, after_all}
-use Rattle.book.specs.calls.CallLaws.{answer-alike, after-costs}
+use Rattle.book.proofs.calls.CallLaws.{answer-alike, after-costs}
 use Rattle.book.specs.rows.Costs.{RowColumns}
 use Rattle.book.specs.closing.Report.{mark_in}
-use Rattle.book.specs.sentences.Marked.{CheapestIn, closing-marked}
+use Rattle.book.specs.sentences.Marked.{CheapestIn}
+use Rattle.book.proofs.sentences.Marked.{closing-marked}
 use Rattle.calls.specs.Keeping.{Keeping, book_of, Good, good-proper}
 use Rattle.calls.specs.Promises.{Opening}
 use Rattle.calls.specs.Step.{Step}
 use Rattle.calls.specs.Runs.{Run, run_fits}
-use Rattle.calls.specs.Follows.{closed_by, Stands, opening-stands, stands-follows}
+use Rattle.calls.specs.Follows.{closed_by, Stands}
+use Rattle.calls.proofs.Follows.{opening-stands, stands-follows}
 
 module _ {𝓓 : Model} {X S : Type 0} (others : Others 𝓓 X) (K : Keeping S) where
   pub step-marked : {t : S} {book : Book} → Good 𝓓 K t → Agree (book_of 𝓓 K t) book → {message report : List ℕ} {a : Answer} {u : S}

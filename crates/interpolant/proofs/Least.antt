@@ -31,7 +31,8 @@ use Rattle.galois.specs.Gf16.{gf16}
 use Rattle.galois.specs.BinaryField.{power_size}
 use Rattle.interpolant.specs.LeastQ.{coefficient, is_candidate, keys, least_q}
 use Rattle.interpolant.specs.Meaning.{QThrough, Highest, IsLeastQ}
-use Rattle.interpolant.specs.OnKeys.{coefficients_of, on_keys, on_numbers, word_of, word_of-length, word_of-below, coefficient-word_of, word_of-coefficients, coefficients_of-ends, coefficient-zero, coefficients_of-zero, coefficients_of-one, coefficient-value, coefficient-ext, candidate-yes, candidate-nonzero, candidate-of}
+use Rattle.interpolant.specs.OnKeys.{coefficients_of, word_of}
+use Rattle.interpolant.proofs.OnKeys.{on_keys, on_numbers, word_of-length, word_of-below, coefficient-word_of, word_of-coefficients, coefficients_of-ends, coefficient-zero, coefficients_of-zero, coefficients_of-one, coefficient-value, coefficient-ext, candidate-yes, candidate-nonzero, candidate-of}
 open K16 use {𝟘}
 
 module _ (M : ℕ) (ns : List Node) where

@@ -14,14 +14,16 @@ use Rattle.book.specs.Columns.{Agree}
 use Rattle.book.specs.opening.Opening.{fit_doubt, open_of}
 use Rattle.book.specs.opening.OpeningLaws.{list-short, Known, DoubtfulList}
 use Rattle.book.specs.calls.Calls.{Answer, Call, closing, Others, answer, after_all}
-use Rattle.book.specs.calls.CallLaws.{answer-alike, after-costs}
+use Rattle.book.proofs.calls.CallLaws.{answer-alike, after-costs}
 use Rattle.book.specs.rows.Costs.{RowColumns}
-use Rattle.book.specs.closing.Report.{ReportedIn, closing-shows}
+use Rattle.book.specs.closing.Report.{ReportedIn}
+use Rattle.book.proofs.closing.Report.{closing-shows}
 use Rattle.calls.specs.Keeping.{Keeping, book_of, Good, good-proper}
 use Rattle.calls.specs.Promises.{Opening}
 use Rattle.calls.specs.Step.{Step}
 use Rattle.calls.specs.Runs.{Run, run_fits}
-use Rattle.calls.specs.Follows.{closed_by, Stands, opening-stands, stands-follows}
+use Rattle.calls.specs.Follows.{closed_by, Stands}
+use Rattle.calls.proofs.Follows.{opening-stands, stands-follows}
 
 module _ {𝓓 : Model} {X S : Type 0} (others : Others 𝓓 X) (K : Keeping S) where
   module _ {t : S} {book : Book} (good : Good 𝓓 K t) (same : Agree (book_of 𝓓 K t) book) where

@@ -13,7 +13,7 @@ use Rattle.family.specs.Member.{m16}
 use Rattle.family.specs.Encoding.{encode_of}
 use Rattle.near.specs.Near.{blank_limit}
 use Rattle.near.specs.Reach.{Reach}
-use Rattle.near.specs.Here as Near
+use Rattle.near.proofs.Here as Near
 use Rattle.code.specs.Encoding.{known_rate}
 use Rattle.book.specs.Model.{places, width}
 use Rattle.book64.specs.Modem64.{modem64}
@@ -23,7 +23,8 @@ use Rattle.book.specs.Entries.{Missing}
 use Rattle.book.specs.closing.Closing.{report_length, close_of}
 use Rattle.book64.specs.Rates.{rate-39, rate-52, rate_known, rate-blanks}
 use Rattle.book.specs.sentences.Sentences.{blanks_in}
-use Rattle.book.specs.sentences.Repairs.{not_best, Repaired, RefusedAs, TooFar, always-refused, faded-right}
+use Rattle.book.specs.sentences.Repairs.{not_best, Repaired, RefusedAs, TooFar}
+use Rattle.book.proofs.sentences.Repairs.{always-refused, faded-right}
 
 -- up to '13 blanks at rate 39', and the others arrived as they were sent
 pub thirteen-faded : (book : Book) → book.rate ≡ 39 → book.doubtful ≡ [] → ((p : ℕ) → Missing modem64 book.row p → ⊥)

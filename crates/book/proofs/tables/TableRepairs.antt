@@ -34,11 +34,16 @@ use Rattle.book.specs.Columns.{columns_of}
 use Rattle.book.specs.Entries.{Missing, missing-none}
 use Rattle.book.specs.closing.Closing.{report_length, Closed, close_of}
 use Rattle.book.specs.opening.OpeningLaws.{Known}
-use Rattle.book.specs.tables.Table.{table_length, table_columns, picked_of, table_of, delivered-columns, delivered-none-missing, table-as-session}
-use Rattle.book.specs.tables.TableSentences.{in_order, in-order}
-use Rattle.book.specs.tables.Below.{picked_below, table_below_of, doubt_for, below-picked, doubt-for-most, below-as-table}
-use Rattle.book.specs.tables.Bits.{frame_length, table_made, bits_of, made-length, made-columns, bits-as-table}
-use Rattle.book.specs.sentences.Repairs.{FewWrong, not_best, none-wrong, Repaired, Sure, NoDearer, TooFar, RefusedAs, Never, Alone, always-repaired, always-refused, always-found, few-alone, always-alone, never-another}
+use Rattle.book.specs.tables.Table.{table_length, table_columns, picked_of, table_of}
+use Rattle.book.proofs.tables.Table.{delivered-columns, delivered-none-missing, table-as-session}
+use Rattle.book.specs.tables.TableSentences.{in_order}
+use Rattle.book.proofs.tables.TableSentences.{in-order}
+use Rattle.book.specs.tables.Below.{picked_below, table_below_of, doubt_for}
+use Rattle.book.proofs.tables.Below.{below-picked, doubt-for-most, below-as-table}
+use Rattle.book.specs.tables.Bits.{frame_length, table_made, bits_of}
+use Rattle.book.proofs.tables.Bits.{made-length, made-columns, bits-as-table}
+use Rattle.book.specs.sentences.Repairs.{FewWrong, not_best, Repaired, Sure, NoDearer, TooFar, RefusedAs, Never, Alone}
+use Rattle.book.proofs.sentences.Repairs.{none-wrong, always-repaired, always-refused, always-found, few-alone, always-alone, never-another}
 
 module _ (𝓓 : Model) where
   open 𝓓 use {member, workable, most_doubt}
@@ -58,7 +63,8 @@ module _ (𝓓 : Model) where
 
     -- what holds of its columns and of closing it holds of the table's columns and of table decoding
     by-table : (doubt : ℕ) → doubt ≤ most_doubt → (P : (ℕ → List ℕ) → Closed → Type 0)
-        → P (columns_of 𝓓 (in_order 𝓓 table)) (close_of 𝓓 (book_by doubt) message report) → P (table_columns 𝓓 table) (table_of 𝓓 rate table doubt message report)
+        → P (columns_of 𝓓 (in_order 𝓓 table)) (close_of 𝓓 (book_by doubt) message report)
+        → P (table_columns 𝓓 table) (table_of 𝓓 rate table doubt message report)
     unfolding book_by
     by-table doubt few P =
         subst₂ P (delivered-columns 𝓓 table (in_order 𝓓 table) (in-order 𝓓 table))

@@ -31,17 +31,18 @@ use Rattle.book.specs.tables.Below.{picked_below, table_below_of}
 use Rattle.calls.specs.Keeping.{Keeping}
 use Rattle.calls.specs.Promises.{Opening}
 use Rattle.calls.specs.Follows.{closed_by}
-use Rattle.calls.specs.Repaired as repaired
+use Rattle.calls.proofs.Repaired as repaired
 use Rattle.calls.specs.Repaired.{Full, columns_after}
-use Rattle.calls.specs.Shown as shown
-use Rattle.calls.specs.Marked as marked
-use Rattle.calls.specs.Tabled as tabled
+use Rattle.calls.proofs.Shown as shown
+use Rattle.calls.proofs.Marked as marked
+use Rattle.calls.proofs.Tabled as tabled
 use Rattle.calls.specs.Tabled.{BringsTable}
-use Rattle.calls.specs.Alive as living
+use Rattle.calls.proofs.Alive as living
 use Rattle.calls.specs.Alive.{Answered}
 use Rattle.member64.specs.Member64.{m64}
 use Rattle.modem512.specs.Ground.{genus-8}
-use Rattle.modem512.specs.Model.{modem512, known-289, known-409, rates-512, reach-512, report-512}
+use Rattle.modem512.specs.Model.{modem512, known-289, known-409, rates-512, report-512}
+use Rattle.modem512.proofs.Model.{reach-512}
 use Rattle.modem512.specs.Demand3.{Call, others512, after_all, blanks_after, ReachAfter, Step, Run}
 
 -- ---- the doubtful places are few

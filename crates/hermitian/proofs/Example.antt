@@ -25,7 +25,8 @@ use Rattle.hermitian.specs.Decoding.{Radius, Near}
 use Rattle.hermitian.specs.Division.{quotient}
 use Rattle.hermitian.specs.Interpolant.{without_z, with_z}
 use Rattle.hermitian.specs.Interpolation.{Sample, Through}
-use Rattle.hermitian.specs.Repair.{x_at, y_at, z_at, near-least, least-with_z, least-repairs}
+use Rattle.hermitian.specs.Repair.{x_at, y_at, z_at}
+use Rattle.hermitian.proofs.Repair.{near-least, least-with_z, least-repairs}
 
 pub data Four : Type 0 where
   o i a b : Four

@@ -51,7 +51,8 @@ use Rattle.code.specs.Encoding.{least_rate, most_rate, known_rate}
 use Rattle.code.specs.Calls.{fits_frame}
 use Rattle.near.specs.Here.{blank_limit}
 use Rattle.interpolant.specs.LeastQ.{reading_length, top_plain, top_z, byte_key}
-use Rattle.interpolant.specs.Reading.{former_length, byte_key-plain, byte_key-z}
+use Rattle.interpolant.specs.Reading.{former_length}
+use Rattle.interpolant.proofs.Reading.{byte_key-plain, byte_key-z}
 use Rattle.book64.specs.Modem64.{modem64}
 use Rattle.book.specs.Model as Models
 use Rattle.book.specs.Book.{Entry, Book, new_book, taken, Outcome, Filled}
@@ -59,18 +60,19 @@ use Rattle.book.specs.opening.Opening as Opening
 use Rattle.book.specs.closing.Closing.{refused_closing}
 use Rattle.book.specs.closing.Closing as Closing
 use Rattle.book.specs.tables.Table as Table
-use Rattle.book.specs.tables.Below as Below
+use Rattle.book.proofs.tables.Table as TableLaws
+use Rattle.book.proofs.tables.Below as Below
 use Rattle.book.specs.tables.Bits as Bits
 use Rattle.book64.specs.captures.Capture.{record_length, body_length, capture_length, row_bytes, version_of, capture_of, records_of}
 use Rattle.book64.specs.captures.CaptureOpening.{version_in, length_in, rate_in, doubt_in, list_in, records_in, size_fits}
 use Rattle.book64.specs.captures.LookUp.{record_with, costs_begin}
 use Rattle.book64.specs.captures.Writing.{write_of}
-use Rattle.book64.specs.captures.RoundTrip.{write-size}
+use Rattle.book64.proofs.captures.RoundTrip.{write-size}
 use Rattle.book.specs.rows.RowLaws.{deliver-above, deliver-taken}
-use Rattle.book.specs.rows.WithdrawalLaws.{withdraw-above, withdraw-free}
+use Rattle.book.proofs.rows.WithdrawalLaws.{withdraw-above, withdraw-free}
 use Rattle.book.specs.opening.OpeningLaws.{fits-list}
 use Rattle.book64.specs.engine.Engine.{engine_checks}
-use Rattle.book64.specs.Here.{places, width, report_length, table_length, frame_length, in_place_order, some_missing, fit_places, fit_doubt, refused_opening, deliver_of, withdraw_of, table_of, table_below_of}
+use Rattle.book64.specs.Here.{places, report_length, table_length, in_place_order, some_missing, fit_places, fit_doubt, refused_opening, deliver_of, withdraw_of, table_of, table_below_of}
 
 -- ---- the field and the curve
 
@@ -193,7 +195,7 @@ doubt-limit = (refl, λ list f. let d = fits-list modem64 list f in (d.short, λ
 module _ (rate : ℕ) (table message report : List ℕ) (known : known_rate rate ≡ true) (whole : length table ≡ 2048) (long : length message ≡ rate)
     (whole_report : length report ≡ 14) where
   pub table-limit : (doubt : ℕ) → 12 < doubt → table_of rate table doubt message report ≡ refused_closing 4 message report
-  table-limit doubt h = Table.table-doubt modem64 rate table doubt message report known whole long whole_report h
+  table-limit doubt h = TableLaws.table-doubt modem64 rate table doubt message report known whole long whole_report h
 
   pub maximum-limit : (t m : ℕ) → (m ≡ 0) ⊎ (12 < m) → table_below_of rate table t m message report ≡ refused_closing 4 message report
   maximum-limit t m w = Below.below-doubt modem64 rate table t m message report known whole long whole_report w

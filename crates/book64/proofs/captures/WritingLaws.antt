@@ -15,7 +15,7 @@ use Rattle.book.specs.Columns.{missing-alike, Agree}
 use Rattle.book.specs.rows.PlaceOrder.{order_alike}
 use Rattle.book64.specs.captures.Capture.{capture_length, capture_of}
 use Rattle.book64.specs.captures.Writing.{write_of}
-use Rattle.book64.specs.captures.RoundTrip.{capture-length, write-size, write-missing, write-accepted}
+use Rattle.book64.proofs.captures.RoundTrip.{capture-length, write-size, write-missing, write-accepted}
 use Rattle.book64.specs.Here.{some_missing, in_place_order, Proper}
 
 -- ---- document 02, #103: two sessions with equal rate, list, places taken and columns 'then write alike, in whichever order their places arrived'

@@ -1,0 +1,4 @@
+pub mod Sentences
+pub mod Repairs
+pub mod Alive
+pub mod Marked

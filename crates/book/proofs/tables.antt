@@ -1,0 +1,5 @@
+pub mod Table
+pub mod Below
+pub mod Bits
+pub mod TableSentences
+pub mod TableRepairs

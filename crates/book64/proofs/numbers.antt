@@ -1,0 +1,4 @@
+pub mod Bench
+pub mod Sharp
+pub mod Numbers
+pub mod Faded

@@ -1,0 +1,3 @@
+pub mod Decoding
+pub mod Repair
+pub mod Example

@@ -1,0 +1,4 @@
+pub mod OnKeys
+pub mod Least
+pub mod Reading
+pub mod Bench

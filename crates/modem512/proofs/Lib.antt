@@ -1,0 +1,3 @@
+pub mod Model
+pub mod Demand3
+pub mod Sessions
