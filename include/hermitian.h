@@ -1,7 +1,7 @@
 /* What the modem's firmware calls: encoding, reading back, table decoding by doubt or by
  * threshold and decoding from bit values for the Hermitian code y^4 + y = x^5 over GF(16), 64
  * places, superframes of eight codewords, and captures of received frames. Link libhermitian
- * (dist/make), or libmodem.a (rt staticlib modem).
+ * (dist/make), or libmodem.a (rt lib in crates/modem).
  *
  * A call returns 0, or the number of its refusal. A refused call leaves every buffer as
  * it was; the status byte of a superframe is no such buffer, and then becomes 0. The library
