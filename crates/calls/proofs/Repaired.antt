@@ -8,7 +8,7 @@
 --                          leaves the buffers as they were
 --   run-found              opened with any doubtful list: if none is missing and few places are wrong, closing accepts, and what it gives is the message
 --                          sent or no dearer
---   run_alone              if moreover the message sent is alone (`book` Repairs Alone), it is the message sent, and there is no margin
+--   run-alone              if moreover the message sent is alone (`book` Repairs Alone), it is the message sent, and there is no margin
 --   run-sure               so where so few places are doubtful that no two codewords are near (FewDoubtful)
 --   run-never              opened with any doubtful list: if none is missing and the message sent is alone, closing gives it with its report, or says 'none near' and leaves the buffers as they were
 --
@@ -144,11 +144,11 @@ module _ {𝓓 : Model} {X S : Type 0} (others : Others 𝓓 X) (K : Keeping S) 
     run-found d opened run full reach few =
         follows-found (follows known d opened) run step long whole_report full reach m few
 
-    pub run_alone : {list : List ℕ} → DoubtfulList 𝓓 list → Opening 𝓓 K (open_of 𝓓 rate list) n s → Run others K s calls given t → Full others rate list calls
+    pub run-alone : {list : List ℕ} → DoubtfulList 𝓓 list → Opening 𝓓 K (open_of 𝓓 rate list) n s → Run others K s calls given t → Full others rate list calls
         → {T : ℕ} → ReachAfter others (new_book rate list) calls T → FewWrong 𝓓 rate (columns_after others rate list calls) list T m
         → Alone 𝓓 rate (columns_after others rate list calls) list T m → Sure 𝓓 rate (columns_after others rate list calls) list m (closed_by a)
     unfolding new_book
-    run_alone d opened run full reach =
+    run-alone d opened run full reach =
         follows-alone (follows known d opened) run step long whole_report full reach m known
 
     pub run-sure : {list : List ℕ} → DoubtfulList 𝓓 list → Opening 𝓓 K (open_of 𝓓 rate list) n s → Run others K s calls given t → Full others rate list calls

@@ -30,7 +30,7 @@ use Rattle.near.specs.Near.{m_of, blank_limit, reach_of, near_to, near}
 use Rattle.near.specs.Reach.{Workable, count-everywhere, reach-is, reach_in, repairs-open}
 use Rattle.near.specs.Distance.{codewords-apart}
 use Rattle.near.specs.Codeword.{near-one}
-use Rattle.near.specs.Rivals.{genus-few, no_second}
+use Rattle.near.specs.Rivals.{genus-few, no-second}
 use Rattle.member64.specs.Member64.{gf64, m64}
 
 pub genus-8 : genus 8 ≡ 28
@@ -72,5 +72,5 @@ pub no-second-512 : {k : ℕ} → Workable m64 k → (columns : ℕ → List ℕ
     → Found 64 k (near m64 (open_at columns) (reach_in m64 k columns) k (test_words 512 columns doubtful)) m
     → Found 64 k (near m64 (open_at columns) (reach_in m64 k columns) k (test_words 512 columns doubtful)) n → m ≢ n → ⊥
 no-second-512 {k} rate columns few doubtful most =
-    no_second m64 rate columns few doubtful
+    no-second m64 rate columns few doubtful
     (genus-few m64 columns (reach-is m64 rate few) doubtful (omega (arith, most, genus-8, unblanked-length (open_at columns) doubtful)))

@@ -92,7 +92,7 @@ pub no-second-six : {k : ℕ} → Workable k → (columns : ℕ → List ℕ) �
     → {m o : List ℕ} → Found 16 k (near k columns (test_words 64 columns doubtful)) m → Found 16 k (near k columns (test_words 64 columns doubtful)) o
     → m ≢ o → ⊥
 no-second-six rate columns within doubtful few =
-    Rivals.no_second m16 rate columns within doubtful
+    Rivals.no-second m16 rate columns within doubtful
     (Rivals.genus-few m16 columns (Reach.reach-is m16 rate within) doubtful (omega (arith, few, genus-4, unblanked-length (open_at columns) doubtful)))
 
 -- and with seven at rates 39 and 49, where no place is blank
@@ -100,7 +100,7 @@ pub no-second-seven : {k : ℕ} → (k ≡ 39) ⊎ (k ≡ 49) → (columns : ℕ
     → {m o : List ℕ} → Found 16 k (near k columns (test_words 64 columns doubtful)) m → Found 16 k (near k columns (test_words 64 columns doubtful)) o
     → m ≢ o → ⊥
 no-second-seven {k} rate columns none doubtful few =
-    Rivals.no_second m16 can columns within doubtful
+    Rivals.no-second m16 can columns within doubtful
     (Rivals.genus-odd m16 columns (Reach.reach-is m16 can within) doubtful (odd rate) (omega (arith, few, genus-4, unblanked-length (open_at columns) doubtful)))
   where
     can : Workable k

@@ -10,7 +10,7 @@
 --   FewDoubtful k columns doubtful T   d + 2T + b < n − M, where b places are blank
 --   genus-few         so it is where d is at most g, at every rate and with every number of blank places within the limit
 --   genus-odd         and where d is at most g + 1, if n − M − g − 1 − b is odd
---   no_second         then no two different messages have their codewords near
+--   no-second         then no two different messages have their codewords near
 use Rattle.std.specs.Prelude.{Bool, true, false, not, ◌≡◌, refl, ◌≢◌, ◌⊎◌, ℕ, suc, ◌+◌, ◌-◌, ◌*◌, ◌%◌, ◌<◌, ◌≤◌, T, length}
 use Rattle.std.proofs.Common.{true≢false, ap, ◌∙◌, inl, inr}
 use Rattle.std.proofs.Math.Path.{sym}
@@ -177,8 +177,8 @@ module _ (𝓜 : Member) {k : ℕ} (rate : Workable 𝓜 k) (columns : ℕ → L
         tests-apart (places 𝓜) columns doubtful a.1 b.1 c.1,
       )
 
-  pub no_second : FewDoubtful 𝓜 k columns doubtful T₀ → {m o : List ℕ} → IsNear m → IsNear o → m ≢ o → ⊥
-  no_second few {m} {o} x y mo =
+  pub no-second : FewDoubtful 𝓜 k columns doubtful T₀ → {m o : List ℕ} → IsNear m → IsNear o → m ≢ o → ⊥
+  no-second few {m} {o} x y mo =
       let a = near-member 𝓜 (open_at columns) T₀ k tests m x.passed in
       let b = near-member 𝓜 (open_at columns) T₀ k tests o y.passed in
       omega (

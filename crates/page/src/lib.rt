@@ -51,11 +51,11 @@ fn doubtful(k: usize)
         - The same with up to @d doubtful places beside, none blank: the sent symbol is best or second at each of\n\
         \x20 them, and best at all settled ones but @T at most. No other codeword is near, so that the report has no\n\
         \x20 margin.\n\
-        \x20 [`near` Rivals `no_second`; `book` Repairs `always-sure`; `book` TableRepairs `table-sure`, `below-sure`,\n\
+        \x20 [`near` Rivals `no-second`; `book` Repairs `always-sure`; `book` TableRepairs `table-sure`, `below-sure`,\n\
         \x20 `bits-sure`; `runs` Repaired `run-sure`]\n\
         - With more doubtful places as many fewer may be wrong: wrong settled and doubtful ones together up to @e,\n\
         \x20 at most @T of them settled, none blank, and again no margin.\n\
-        \x20 [`book` Repairs `always-alone`; `book` TableRepairs `table-alone`; `runs` Repaired `run_alone`]\n\
+        \x20 [`book` Repairs `always-alone`; `book` TableRepairs `table-alone`; `runs` Repaired `run-alone`]\n\
         - Beyond that, with up to 12 doubtful places and at most @T wrong settled ones, the frame is never refused:\n\
         \x20 the answer is the sent message or one that costs no more.\n\
         \x20 [`book` Repairs `always-found`; `book` TableRepairs `table-found`; `runs` Repaired `run-found`]\n",

@@ -12,7 +12,7 @@
 --                          leaves the buffers as they were
 --   run-found              opened with any doubtful list: if none is missing and few places are wrong, closing accepts, and what it gives is the message
 --                          sent or no dearer
---   run_alone              if moreover the message sent is alone (`book` Repairs Alone), it is the message sent, and there is no margin
+--   run-alone              if moreover the message sent is alone (`book` Repairs Alone), it is the message sent, and there is no margin
 --   run-sure               so where so few places are doubtful that no two codewords are near (FewDoubtful)
 --   run-never              opened with any doubtful list: if none is missing and the message sent is alone, closing gives it with its report, or says 'none near' and leaves the buffers as they were
 --   capture-alone, capture-sure, capture-never   the same of a session opened by an accepted capture
@@ -103,10 +103,10 @@ module _ {rate : ℕ} (known : Rate rate) {r : Opened} {calls : List Call} {give
       → FewWrong rate (columns_after rate list calls) list T m → NoDearer rate (columns_after rate list calls) list m (closed_by a)
   run-found d opened run full reach = any-laws.run-found others64 keeping (rate_known known) step long whole_report m d opened run full reach
 
-  pub run_alone : {list : List ℕ} → DoubtfulList list → Opening (open_of rate list) r → Run r.session calls given t → Full rate list calls
+  pub run-alone : {list : List ℕ} → DoubtfulList list → Opening (open_of rate list) r → Run r.session calls given t → Full rate list calls
       → {T : ℕ} → ReachAfter (new_book rate list) calls T → FewWrong rate (columns_after rate list calls) list T m
       → Alone rate (columns_after rate list calls) list T m → Sure rate (columns_after rate list calls) list m (closed_by a)
-  run_alone d opened run full reach = any-laws.run_alone others64 keeping (rate_known known) step long whole_report m d opened run full reach
+  run-alone d opened run full reach = any-laws.run-alone others64 keeping (rate_known known) step long whole_report m d opened run full reach
 
   pub run-sure : {list : List ℕ} → DoubtfulList list → Opening (open_of rate list) r → Run r.session calls given t → Full rate list calls
       → {T : ℕ} → ReachAfter (new_book rate list) calls T → FewDoubtful rate (columns_after rate list calls) list T

@@ -51,7 +51,7 @@ use Rattle.family.specs.Evaluation.{encode-length}
 use Rattle.near.specs.Near.{blank_limit, reach_of}
 use Rattle.near.specs.Reach.{Reach, reach-is, reach-only, reach-within}
 use Rattle.near.specs.Distance.{open-apart}
-use Rattle.near.specs.Rivals.{doubled, FewDoubtful, genus-few, no_second}
+use Rattle.near.specs.Rivals.{doubled, FewDoubtful, genus-few, no-second}
 use Rattle.book.specs.Model.{Model, places, width}
 use Rattle.book.specs.Book.{Book}
 use Rattle.book.specs.Columns.{columns_of}
@@ -268,7 +268,7 @@ module _ (𝓓 : Model) where
         where
           apart : {n : List ℕ} → IsNear 𝓓 book T n → c.message ≢ n → ⊥
           apart near =
-              no_second member (workable book.rate rate) (columns_of 𝓓 book.row) (reach-within member reach) book.doubtful
+              no-second member (workable book.rate rate) (columns_of 𝓓 book.row) (reach-within member reach) book.doubtful
               (subst (FewDoubtfulIn 𝓓 book) (reach-only member reach) doubt)
               (near-found 𝓓 book reach a.near) (near-found 𝓓 book reach near)
 
