@@ -12,17 +12,17 @@ returns-then-not-known_rate c = sym (rate-refused scope64 _ _ _ _ (sym c.known_r
 pub returns-then-costs-ne-COSTS : goal.returns-then-costs-ne-COSTS
 returns-then-costs-ne-COSTS c =
     let known : known_rate c.args.rate ≡ true =
-        sym c.known_rate.ensures ∙ c.if-not-known_rate.false in
+    sym c.known_rate.ensures ∙ c.if-not-known_rate.false in
     sym (size-refused scope64 _ _ _ _ (known) c.if-costs-ne-COSTS.true)
 
 pub returns-then-doubt-gt-MOST_DOUBT : goal.returns-then-doubt-gt-MOST_DOUBT
 returns-then-doubt-gt-MOST_DOUBT c =
     let known : known_rate c.args.rate ≡ true =
-        sym c.known_rate.ensures ∙ c.if-not-known_rate.false in
+    sym c.known_rate.ensures ∙ c.if-not-known_rate.false in
     sym (doubt-refused scope64 _ _ _ _ (known) c.if-costs-ne-COSTS.false c.if-doubt-gt-MOST_DOUBT.true)
 
 pub returns : goal.returns
 returns c =
     let known : known_rate c.args.rate ≡ true =
-        sym c.known_rate.ensures ∙ c.if-not-known_rate.false in
+    sym c.known_rate.ensures ∙ c.if-not-known_rate.false in
     c.are_places.ensures ∙ sym (places-asked scope64 _ _ _ _ (known) c.if-costs-ne-COSTS.false c.if-doubt-gt-MOST_DOUBT.false)

@@ -13,23 +13,23 @@ returns-then-not-known_rate c = sym (checks-rate modem64 _ _ _ _ _ (sym c.known_
 pub returns-then-given-wanted : goal.returns-then-given-wanted
 returns-then-given-wanted c =
     let known : known_rate c.args.rate ≡ true =
-        sym c.known_rate.ensures ∙ c.if-not-known_rate.false in
+    sym c.known_rate.ensures ∙ c.if-not-known_rate.false in
     sym (checks-size modem64 _ _ _ _ _ (known) (inl c.if-given-wanted.true))
 
 pub returns-then-message-rate : goal.returns-then-message-rate
 returns-then-message-rate c =
     let known : known_rate c.args.rate ≡ true =
-        sym c.known_rate.ensures ∙ c.if-not-known_rate.false in
+    sym c.known_rate.ensures ∙ c.if-not-known_rate.false in
     sym (checks-size modem64 _ _ _ _ _ (known) (inr (inl c.if-message-rate.true)))
 
 pub returns-then-report-ne-REPORT_BYTES : goal.returns-then-report-ne-REPORT_BYTES
 returns-then-report-ne-REPORT_BYTES c =
     let known : known_rate c.args.rate ≡ true =
-        sym c.known_rate.ensures ∙ c.if-not-known_rate.false in
+    sym c.known_rate.ensures ∙ c.if-not-known_rate.false in
     sym (checks-size modem64 _ _ _ _ _ (known) (inr (inr c.if-report-ne-REPORT_BYTES.true)))
 
 pub returns : goal.returns
 returns c =
     let known : known_rate c.args.rate ≡ true =
-        sym c.known_rate.ensures ∙ c.if-not-known_rate.false in
+    sym c.known_rate.ensures ∙ c.if-not-known_rate.false in
     sym (checks-fit modem64 _ _ _ _ _ (known) c.if-given-wanted.false c.if-message-rate.false c.if-report-ne-REPORT_BYTES.false)

@@ -48,19 +48,19 @@ returns-then-opened-ne-ACCEPTED c =
 pub slice_bounds-summary_of-end : goal.slice_bounds-summary_of-end
 slice_bounds-summary_of-end c =
     let table_room : length c.args.session.costs ≡ 1024 =
-        search rules in
+    search rules in
     sym (table_room)
 
 pub slice_bounds-decode-end : goal.slice_bounds-decode-end
 slice_bounds-decode-end c =
     let table_room : length c.args.session.costs ≡ 1024 =
-        search rules in
+    search rules in
     sym (table_room)
 
 pub decode-requires : goal.decode-requires
 decode-requires c =
     let table_room : length c.args.session.costs ≡ 1024 =
-        search rules in
+    search rules in
     let s : Session = c.args.session in
     let f = opened-fit modem64 s.rate (take s.doubt s.doubtful) (ap (λ (o : Opened). o.refusal) c.open-opened.ensures ∙ (opens _ _).number) c.if-opened-ne-ACCEPTED.false in (
       record {

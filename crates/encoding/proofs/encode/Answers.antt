@@ -16,32 +16,32 @@ returns-then-not-known_rate c = encode-rate m16 known_rate _ _ _ _ (sym c.known_
 pub returns-then-message-rate : goal.returns-then-message-rate
 returns-then-message-rate c =
     let known : known_rate c.args.rate ≡ true =
-        sym c.known_rate.ensures ∙ c.if-not-known_rate.false in
+    sym c.known_rate.ensures ∙ c.if-not-known_rate.false in
     encode-message m16 known_rate _ _ _ _ (known) c.if-message-rate.true
 
 pub returns-then-frame-lt64 : goal.returns-then-frame-lt64
 returns-then-frame-lt64 c =
     let known : known_rate c.args.rate ≡ true =
-        sym c.known_rate.ensures ∙ c.if-not-known_rate.false in
+    sym c.known_rate.ensures ∙ c.if-not-known_rate.false in
     encode-frame m16 known_rate _ _ _ _ (known) c.if-message-rate.false (omega arith)
 
 pub returns-then-frame-start : goal.returns-then-frame-start
 returns-then-frame-start c =
     let known : known_rate c.args.rate ≡ true =
-        sym c.known_rate.ensures ∙ c.if-not-known_rate.false in
+    sym c.known_rate.ensures ∙ c.if-not-known_rate.false in
     encode-frame m16 known_rate _ _ _ _ (known) c.if-message-rate.false (omega arith)
 
 pub returns-then-not-symbols_only : goal.returns-then-not-symbols_only
 returns-then-not-symbols_only c =
     let known : known_rate c.args.rate ≡ true =
-        sym c.known_rate.ensures ∙ c.if-not-known_rate.false in
+    sym c.known_rate.ensures ∙ c.if-not-known_rate.false in
     encode-symbol m16 known_rate _ _ _ _ (known) c.if-message-rate.false (omega arith)
     (sym c.symbols_only.ensures ∙ c.if-not-symbols_only.true)
 
 pub returns : goal.returns
 returns c =
     let known : known_rate c.args.rate ≡ true =
-        sym c.known_rate.ensures ∙ c.if-not-known_rate.false in
+    sym c.known_rate.ensures ∙ c.if-not-known_rate.false in
     let known-rate = known in
     let k = known_small _ known-rate in
     let sized = c.if-message-rate.false in

@@ -40,7 +40,7 @@ slice_bounds-flags-end c =
 pub reading-bytes-requires : goal.reading-bytes-requires
 reading-bytes-requires c =
     let known : known_rate c.args.session.rate ≡ true =
-        sym c.known_rate.ensures ∙ c.if-not-known_rate.false in
+    sym c.known_rate.ensures ∙ c.if-not-known_rate.false in
     omega (arith, known-bounds _ (known))
 
 pub returns : goal.returns
