@@ -1,1 +1,2 @@
 pub mod Struck
+pub mod Relied

@@ -7,7 +7,7 @@
 --   struck-altered         so it is altered in a window of as many symbols as the burst has
 --   through-back           at every rate all eight messages come back and no word is named, where the burst has at most 8T symbols, each from 0 to 15
 --   Relied messages start burst out r after   document 02: 'A user at rate 39 may rely on this: if at most 48 consecutive symbols are altered, still each 0
---                          to 15, all eight messages come back', with the 312 symbols of eight messages; relied: it holds of what through_of answers
+--                          to 15, all eight messages come back', with the 312 symbols of eight messages
 use Rattle.std.specs.Prelude.{true, cond, ◌≡◌, List, ◌++◌, ◌⊎◌, ℕ, ◌+◌, ◌-◌, ◌*◌, ◌<◌, ◌≤◌, eqb, leb, take, replicate}
 use Rattle.std.proofs.Common.{sym, ◌∙◌, subst, inl, inr, arith, get_or-drop, length-take-le, le-leb}
 use Rattle.std.proofs.Math.Path.{ap}
@@ -20,14 +20,11 @@ use Rattle.lists.specs.Words.{all_below, all_below-at}
 use Rattle.refusals.specs.Refusal.{accepted, wrong_size}
 use Rattle.soft.specs.Column.{symbols}
 use Rattle.family.specs.Calls.{Answered, placed}
-use Rattle.code.specs.Rates.{bounds-known}
 use Rattle.near.specs.Here.{reach_of}
-use Rattle.near.proofs.Here.{reaches}
 use Rattle.superframe.specs.Superframe.{words, head_length, symbol_count, frame_length, built_of, build_of, symbol_in, Taken, taken, taken_of}
 use Rattle.superframe.specs.Built.{Sent, build-sent, built-long, built-below}
 use Rattle.superframe.specs.Burst.{Altered, burst}
 use Rattle.taking_apart.specs.declared.Taken as Declared
-use Rattle.taking_apart.specs.Taking.{taken_by}
 
 unfoldable pub struck_by : ℕ → List ℕ → List ℕ → List ℕ
 struck_by start burst frame = placed frame (head_length + start) burst
@@ -126,13 +123,3 @@ through-back k messages start struck out S few small fits room =
 pub record Relied (messages : List ℕ) (start : ℕ) (burst out : List ℕ) (r : Declared.Taken) (after : List ℕ) : Type 0 where
   pub all_back : length messages ≡ 312 → all_below 16 messages ≡ true → length burst ≤ 48 → all_below 16 burst ≡ true → start + length burst ≤ 512
       → length out ≡ 312 → (r.refusal ≡ 0) × (r.status ≡ 0) × (after ≡ messages)
-
-pub relied : (messages : List ℕ) (start : ℕ) (burst out : List ℕ) {r : Declared.Taken} {after : List ℕ}
-    → taken_by r after ≡ through_of 39 messages start burst out → Relied messages start burst out r after
-relied messages start burst out {r} {after} e =
-    record {
-      all_back = λ long small few each fits room.
-          let S : Sent 39 messages = record { known = bounds-known (omega arith) (omega arith); long = long; small = small } in
-          let f = e ∙ through-back 39 messages start burst out S (omega (arith, few, reaches.1)) each fits room in
-          (ap (λ (t : Taken). t.number) f, ap (λ (t : Taken). t.status) f, ap (λ (t : Taken). t.messages) f);
-    }
