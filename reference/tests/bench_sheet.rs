@@ -139,7 +139,7 @@ fn r3_seven_wrong_places_one_of_them_doubtful() {
     let session = delivered(39, &[0], &frame_s(7));
     let mut capture = vec![0; capture_size(&session)];
     assert_eq!(write_capture(&session, &mut capture), Ok(()));
-    assert_eq!(capture, include_bytes!("../../../examples/r3.capture"));
+    assert_eq!(capture, include_bytes!("../../examples/r3.capture"));
     let expected = format!("39 1 210 1 0 7 -\n{}\n", "0".repeat(39));
     assert_eq!(show(&capture), expected);
 }
@@ -150,7 +150,7 @@ fn r3_with_nine_doubtful_places() {
     let session = delivered(39, &[0, 1, 2, 3, 4, 5, 6, 7, 8], &frame_s(7));
     let mut capture = vec![0; capture_size(&session)];
     assert_eq!(write_capture(&session, &mut capture), Ok(()));
-    assert_eq!(capture, include_bytes!("../../../examples/nine.capture"));
+    assert_eq!(capture, include_bytes!("../../examples/nine.capture"));
     assert_eq!((capture[0], capture.len()), (2, 2126));
     let expected = format!("39 9 210 1 0 7 -\n{}\n", "0".repeat(39));
     assert_eq!(show(&capture), expected);
