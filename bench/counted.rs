@@ -19,7 +19,7 @@ fn main() -> io::Result<()> {
         let rate = usize::from(*rate);
         let mut first = vec![0; if *call == b'E' { 64 } else { rate }];
         let mut report = vec![0; if b"TL".contains(call) { totals::report::REPORT_BYTES } else { 0 }];
-        let number = match call {
+        let answer = match call {
             b'E' => encoding::encode(rate, bytes, &mut first, 0),
             b'B' => reading_back::read_back(rate, bytes, &mut first),
             b'L' => {
@@ -28,6 +28,7 @@ fn main() -> io::Result<()> {
             }
             _ => table_decoding::decode_table(rate, bytes, usize::from(*doubt), &mut first, &mut report),
         };
+        let number = refusals::number_of(answer);
         let digits: String = first.iter().chain(&report).map(|byte| format!("{byte:02x}")).collect();
         println!("{} {number} {digits}", galois::MULTIPLICATIONS.load(Ordering::Relaxed));
     }

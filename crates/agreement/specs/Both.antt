@@ -11,6 +11,7 @@ use Rattle.std.proofs.Common.{sym, subst, arith}
 use Rattle.soft.specs.Column.{symbols, column_of}
 use Rattle.soft.specs.Doubt.{most_doubt}
 use Rattle.soft.specs.TestWord.{best_at}
+use Rattle.refusals.specs.Numbers.{number_of}
 use Rattle.near.specs.Tree.{places_nil}
 use Rattle.chase.specs.Call.{Asked, nearest_of}
 use Rattle.book64.specs.Here.{places}
@@ -24,11 +25,11 @@ abbrev pub undoubted : List ℕ
 undoubted = replicate most_doubt 0
 
 pub record BothAgree (rate : ℕ) (costs word blanks codeword q : List ℕ) (r : Both) (codeword' q' : List ℕ) : Type 0 where
-  pub answers : eliminated r.number codeword' q' ≡ engine_of rate word blanks codeword q
+  pub answers : eliminated (number_of r.answer) codeword' q' ≡ engine_of rate word blanks codeword q
   pub finds : r.found ≡ nearest_of rate costs undoubted 0
   pub agree : EnginePassed rate word blanks (length codeword) (length q) → length costs ≡ places * symbols → BlankAt blanks (column_of symbols costs)
       → ((p : ℕ) → p < places → unblanked_by blanks p ≡ true → get_or word p 0 ≡ best_at (column_of symbols costs) p)
-      → Agrees (eliminated r.number codeword' q') r.found
+      → Agrees (eliminated (number_of r.answer) codeword' q') r.found
 
 pub asked-alone : {rate : ℕ} {word blanks : List ℕ} {codeword q : ℕ} → EnginePassed rate word blanks codeword q → (costs : List ℕ)
     → length costs ≡ places * symbols → BlankAt blanks (column_of symbols costs) → (doubtful : List ℕ) → Asked rate costs doubtful 0
@@ -42,7 +43,7 @@ asked-alone {blanks = blanks} P costs size blank doubtful =
     }
 
 pub both-agree : (rate : ℕ) (costs word blanks codeword q : List ℕ) (r : Both) (codeword' q' : List ℕ)
-    → eliminated r.number codeword' q' ≡ engine_of rate word blanks codeword q → r.found ≡ nearest_of rate costs undoubted 0
+    → eliminated (number_of r.answer) codeword' q' ≡ engine_of rate word blanks codeword q → r.found ≡ nearest_of rate costs undoubted 0
     → BothAgree rate costs word blanks codeword q r codeword' q'
 both-agree rate costs word blanks codeword q r codeword' q' e f =
     record {

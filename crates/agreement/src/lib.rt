@@ -7,11 +7,12 @@ use answers::Finding;
 use chase::nearest;
 use doubt::MOST_DOUBT;
 use engine::eliminate;
+use refusals::Refusal;
 
 // What the engine answers, and what the tree finds.
 #[derive(Clone, Copy)]
 pub struct Both {
-    pub number: u8,
+    pub answer: Result<(), Refusal>,
     pub found: Finding,
 }
 
@@ -27,7 +28,7 @@ pub fn compare(
     ensures { BothAgree rate costs.now word.now blanks.now codeword.old q.old result
         codeword.new q.new }
 {
-    let number = eliminate(rate, word, blanks, codeword, q);
+    let answer = eliminate(rate, word, blanks, codeword, q);
     let found = nearest(rate, costs, [0; MOST_DOUBT], 0);
-    Both { number, found }
+    Both { answer, found }
 }

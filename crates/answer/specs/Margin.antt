@@ -1,19 +1,22 @@
--- The margin to the runner-up, as the enum has it and as the theory has it.
+-- The margin to the runner-up, as the code has it and as the theory has it.
 --
---   margin_is d        the margin of the enum: none where it is absent
---   margin_from o      the enum's case of a margin; is-from, from_is: the two are inverse to each other
-use Rattle.std.specs.Prelude.{◌≡◌, refl, ℕ}
+--   Margin             the code's margin: a number, or none where there is no runner-up
+--   margin_is d        the theory's margin of the code's
+--   margin_from o      the code's of the theory's; is-from, from_is: the two are inverse to each other
+use Rattle.std.specs.Prelude.{◌≡◌, refl, ℕ, Some, None}
+use Rattle.std.specs.Prelude as Code
 use Rattle.std.proofs.Math.Option.{Option, none, some}
-use Rattle.answer.specs.declared.Margin.{Margin}
-use Rattle.answer.specs.declared.Margin.TheVariants.{Absent, Of}
+
+abbrev pub Margin : Type 0
+Margin = Code.Option ℕ
 
 unfoldable pub margin_is : Margin → Option ℕ
-margin_is Absent = none
-margin_is (Of d) = some d
+margin_is None = none
+margin_is (Some d) = some d
 
 unfoldable pub margin_from : Option ℕ → Margin
-margin_from none = Absent
-margin_from (some d) = Of d
+margin_from none = None
+margin_from (some d) = Some d
 
 pub is-from : (o : Option ℕ) → margin_is (margin_from o) ≡ o
 unfolding margin_is margin_from
@@ -22,5 +25,5 @@ is-from (some d) = refl
 
 pub from_is : (d : Margin) → margin_from (margin_is d) ≡ d
 unfolding margin_is margin_from
-from_is Absent = refl
-from_is (Of d) = refl
+from_is None = refl
+from_is (Some d) = refl

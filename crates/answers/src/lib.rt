@@ -2,19 +2,19 @@
 // of no tree, no rows and no costs: a total is a number.
 #![tactic(auto)]
 
-ghost use Rattle.std.specs.Prelude.{◌≡◌, ◌+◌, ◌≤◌, take};
+ghost use Rattle.std.specs.Prelude.{◌≡◌, ◌+◌, ◌≤◌};
 ghost use Rattle.lists.specs.Margin.{lesser};
-ghost use Rattle.lists.specs.Words.{is_before};
 ghost use Rattle.answer.specs.Margin.{margin_is};
 ghost use Rattle.code.specs.Encoding.{most_rate};
 ghost use Rattle.answers.specs.Result.{nothing_found};
 ghost use Rattle.answers.specs.Answered.{missed_of, told_of};
 ghost use Rattle.answers.specs.Better.{better_of};
 
-use answer::{Answer, Margin};
+use answer::Answer;
 use candidate::{Message, Word};
 use columns::costs::PLACES;
 use encoding::MOST_RATE;
+use std::cmp::Ordering;
 
 // The message in the first k entries, where k is the rate, and its codeword; and how many test words have a codeword within T. In a search a
 // codeword stands beside 'none near' too: one that is known, near or not.
@@ -41,13 +41,10 @@ pub fn none_near() -> Finding
 pub fn missed(known: Finding) -> Finding
     ensures { result ≡ missed_of known }
 {
-    let message = known.message;
-    let codeword = known.codeword;
     Finding {
         answer: Answer::NoneNear,
-        message,
-        codeword,
         tests: 0,
+        ..known
     }
 }
 
@@ -55,45 +52,37 @@ pub fn missed(known: Finding) -> Finding
 pub fn told(found: Finding) -> Finding
     ensures { result ≡ told_of found }
 {
-    let answer = found.answer;
-    if let Answer::NoneNear = answer {
-        return none_near();
+    match found.answer {
+        Answer::NoneNear => none_near(),
+        Answer::Near { .. } => found,
     }
-    found
-}
-
-// Compared from symbol 0 on.
-fn before(a: Message, b: Message, k: usize) -> bool
-    requires { k ≤ most_rate }
-    ensures { result ≡ is_before (take k a) (take k b) }
-{
-    let mut t = 0;
-    while t < k {
-        if a[t] < b[t] {
-            return true;
-        }
-        if b[t] < a[t] {
-            return false;
-        }
-        t += 1;
-    }
-    false
 }
 
 // The smaller of two margins, where one that is absent is larger than any.
-fn lesser(first: Margin, second: Margin) -> Margin
+fn lesser(first: Option<u32>, second: Option<u32>) -> Option<u32>
     ensures { margin_is result ≡ lesser (margin_is first) (margin_is second) }
 {
-    let Margin::Of(one) = first else {
-        return second;
-    };
-    let Margin::Of(other) = second else {
-        return first;
-    };
-    if other < one {
-        return second;
+    match (first, second) {
+        (Some(one), Some(other)) => Some(one.min(other)),
+        (None, _) => second,
+        (_, None) => first,
     }
-    first
+}
+
+impl Finding {
+    // Beside the same message and codeword another answer and another count.
+    fn near(self, total: u32, margin: Option<u32>, tests: usize) -> Finding
+        ensures answer { result.answer ≡ Answer.Near total margin }
+        ensures message { result.message ≡ self.message }
+        ensures codeword { result.codeword ≡ self.codeword }
+        ensures tests { result.tests ≡ tests }
+    {
+        Finding {
+            answer: Answer::Near { total, margin },
+            tests,
+            ..self
+        }
+    }
 }
 
 // Two branches together: the counts add, the cheaper answer wins, equal totals go to the smaller message. The answer that loses is a rival of
@@ -103,83 +92,19 @@ pub fn better(a: Finding, b: Finding, k: usize) -> Finding
     ensures { result ≡ better_of k a b }
 {
     let tests = a.tests + b.tests;
-    let first = a.answer;
-    let other = b.answer;
-    let message = a.message;
-    let rival = b.message;
-    let codeword = a.codeword;
-    let competing = b.codeword;
-    let Answer::Near { total, margin } = first else {
-        return Finding {
-            answer: other,
-            message: rival,
-            codeword: competing,
-            tests,
-        };
+    let Answer::Near { total, margin } = a.answer else {
+        return Finding { tests, ..b };
     };
     let Answer::Near {
         total: dues,
         margin: spare,
-    } = other
+    } = b.answer
     else {
-        return Finding {
-            answer: first,
-            message,
-            codeword,
-            tests,
-        };
+        return Finding { tests, ..a };
     };
-    if total < dues {
-        return Finding {
-            answer: Answer::Near {
-                total,
-                margin: lesser(margin, Margin::Of(dues - total)),
-            },
-            message,
-            codeword,
-            tests,
-        };
-    }
-    if dues < total {
-        return Finding {
-            answer: Answer::Near {
-                total: dues,
-                margin: lesser(spare, Margin::Of(total - dues)),
-            },
-            message: rival,
-            codeword: competing,
-            tests,
-        };
-    }
-    if before(message, rival, k) {
-        return Finding {
-            answer: Answer::Near {
-                total,
-                margin: Margin::Of(0),
-            },
-            message,
-            codeword,
-            tests,
-        };
-    }
-    if before(rival, message, k) {
-        return Finding {
-            answer: Answer::Near {
-                total: dues,
-                margin: Margin::Of(0),
-            },
-            message: rival,
-            codeword: competing,
-            tests,
-        };
-    }
-    Finding {
-        answer: Answer::Near {
-            total: dues,
-            margin: lesser(margin, spare),
-        },
-        message: rival,
-        codeword: competing,
-        tests,
+    match (total, &a.message[..k]).cmp(&(dues, &b.message[..k])) {
+        Ordering::Less => a.near(total, lesser(margin, Some(dues - total)), tests),
+        Ordering::Greater => b.near(dues, lesser(spare, Some(total - dues)), tests),
+        Ordering::Equal => b.near(dues, lesser(margin, spare), tests),
     }
 }

@@ -1,5 +1,5 @@
 // One step of Kötter's algorithm on the eight rows and their leads.
-ghost use Rattle.std.specs.Prelude.{◌≡◌, ◌<◌, ◌%◌, length};
+ghost use Rattle.std.specs.Prelude.{◌≡◌, ◌<◌, ◌%◌, IfSome, unwrap_or};
 ghost use Rattle.lists.specs.Listed.{listed};
 ghost use Rattle.galois.specs.Gf16.{times};
 ghost use Rattle.planes.specs.Rows.{AddedBy};
@@ -22,44 +22,39 @@ fn discrepancy(row: Row, lead: usize, limit: usize, place: usize) -> u8
 }
 
 pub fn discrepancies(rows: &Rows, leads: Leads, limit: usize, place: usize) -> [u8; CLASSES]
-    requires { length rows.now ≡ 8 }
     ensures { result ≡ listed 8 (discrepancy_at limit leads rows.now (place % 64)) }
 {
     let mut out = [0u8; CLASSES];
-    let mut r = 0;
-    while r < CLASSES {
+    for r in 0..CLASSES {
         out[r] = discrepancy(rows[r], leads[r], limit, place);
-        r += 1;
     }
     out
 }
 
 // The class chosen so far, or class r.
-fn better(ds: [u8; CLASSES], leads: Leads, best: usize, r: usize) -> usize
-    requires { r < 8 }
-    ensures { result ≡ pivot_of ds leads best r }
+fn better(ds: [u8; CLASSES], leads: Leads, best: Option<usize>, r: usize) -> Option<usize>
+    requires { (r < 8) × IfSome best (λ held. held < 8) }
+    ensures { (unwrap_or result 8 ≡ pivot_of ds leads (unwrap_or best 8) r) × IfSome result (λ chosen. chosen < 8) }
 {
     if ds[r] == 0 {
         return best;
     }
-    if CLASSES <= best {
-        return r;
-    }
-    if leads[best] <= leads[r] {
+    let Some(held) = best else {
+        return Some(r);
+    };
+    if leads[held] <= leads[r] {
         return best;
     }
-    r
+    Some(r)
 }
 
-// The first class of least lead among those of non-zero discrepancy, or 8.
-pub fn choice(ds: [u8; CLASSES], leads: Leads) -> usize
-    ensures { Chosen 8 ds leads result }
+// The first class of least lead among those of non-zero discrepancy.
+pub fn choice(ds: [u8; CLASSES], leads: Leads) -> Option<usize>
+    ensures { Chosen 8 ds leads (unwrap_or result 8) × IfSome result (λ chosen. chosen < 8) }
 {
-    let mut best = CLASSES;
-    let mut r = 0;
-    while r < CLASSES {
+    let mut best = None;
+    for r in 0..CLASSES {
         best = better(ds, leads, best, r);
-        r += 1;
     }
     best
 }
@@ -76,7 +71,7 @@ fn next_row(row: Row, d: u8, by: u8, pivots: &Multiples) -> Row
 
 // The rows after a step at class `at`, where the place's x is a. They are changed where they stand; the pivot's own is not cleared first.
 pub fn next_rows(rows: &mut Rows, ds: [u8; CLASSES], at: usize, a: u8)
-    requires { (length rows.old ≡ 8) × (at < 8) }
+    requires { at < 8 }
     ensures { NextRows at a ds rows.old rows.new }
 {
     let pivot = rows[at];
@@ -84,24 +79,20 @@ pub fn next_rows(rows: &mut Rows, ds: [u8; CLASSES], at: usize, a: u8)
     let pivots = multiples(pivot);
     let mut others = ds;
     others[at] = 0;
-    let mut r = 0;
-    while r < CLASSES {
+    for r in 0..CLASSES {
         let row = rows[r];
         rows[r] = next_row(row, others[r], by, &pivots);
-        r += 1;
     }
     rows[at] = raised(pivot, a);
 }
 
 // The rows by another symbol at one place.
 pub fn moved_rows(rows: &mut Rows, place: usize, change: u8)
-    requires { (length rows.old ≡ 8) × (place < 64) }
+    requires { place < 64 }
     ensures { MovedRows place change rows.old rows.new }
 {
-    let mut r = 0;
-    while r < CLASSES {
+    for r in 0..CLASSES {
         let row = rows[r];
         rows[r] = moved(row, place, change);
-        r += 1;
     }
 }

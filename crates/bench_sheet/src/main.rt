@@ -4,25 +4,32 @@
 
 ghost use Rattle.std.specs.Prelude.{◌≤◌};
 
+use anyhow::Result;
+use refusals::{Refusal, number_of};
 use session::Session;
+use std::io;
 use totals::report::REPORT_BYTES;
 
-// The descriptor of standard output.
-const STDOUT_FILENO: i32 = 1;
+// A run: its number, the rate, the doubtful places, and how many places of its frame S(m) lean.
+#[derive(Clone, Copy)]
+struct Run<'a> {
+    number: u8,
+    rate: usize,
+    doubtful: &'a [u8],
+    leaning: usize,
+    ghost short: { rate ≤ 49 },
+}
 
 // Is place p one of the first m of the places 0, 10, 20, 30, 40, 50, 60?
-fn leaning(place: usize, m: usize) -> bool {
-    if place % 10 == 0 {
-        return place / 10 < m;
-    }
-    false
+fn is_leaning(place: usize, m: usize) -> bool {
+    place % 10 == 0 && place / 10 < m
 }
 
 // The column of a place in the frame S(m): where it leans, symbol 1 costs 0 and symbol 0 costs 30; elsewhere symbol 0 costs 0; others 40.
 fn column(place: usize, m: usize) -> [u16; 16] {
-    let mut out = [40u16; 16];
+    let mut out = [40; 16];
     out[0] = 0;
-    if leaning(place, m) {
+    if is_leaning(place, m) {
         out[0] = 30;
         out[1] = 0;
     }
@@ -30,108 +37,87 @@ fn column(place: usize, m: usize) -> [u16; 16] {
 }
 
 fn table(m: usize) -> [u8; 2048] {
-    let mut out = [0u8; 2048];
+    let mut out = [0; 2048];
     for i in 0..1024 {
-        let costs = column(i / 16, m);
-        out[i * 2 + 1] = (costs[i % 16] % 256) as u8;
+        let [high, low] = column(i / 16, m)[i % 16].to_be_bytes();
+        out[2 * i] = high;
+        out[2 * i + 1] = low;
     }
     out
 }
 
-// A new session whose doubtful list is the first so many of the places 0 and 10.
-fn fresh(rate: usize, doubt: usize) -> Session
-    requires { doubt ≤ 2 }
-{
-    let list = [0u8, 10];
-    let opened = session::open(rate, &list[..doubt]);
-    opened.session
-}
-
-// Such a session after it got the frame S(m), the last place first.
-fn filled(rate: usize, doubt: usize, m: usize) -> Session
-    requires { doubt ≤ 2 }
-{
-    let mut current = fresh(rate, doubt);
-    let mut place: usize = 64;
-    while 0 < place {
-        place -= 1;
-        let delivered = session::deliver(current, place, column(place, m));
-        current = delivered.session;
+// A session after it got the run's frame, the last place first.
+fn filled(run: Run<'_>) -> Result<Session, Refusal> {
+    let mut held = session::open(run.rate, run.doubtful)?;
+    for place in (0..64).rev() {
+        session::deliver(&mut held, place, column(place, run.leaning))?;
     }
-    current
+    Ok(held)
 }
 
-fn show_byte(n: u8) {
-    io::write_all(STDOUT_FILENO, b" ");
-    io::print_decimal(STDOUT_FILENO, n as u64);
+// Each bit that is set in some byte of a message.
+fn seen(message: &[u8]) -> u8 {
+    message.iter().fold(0, |bits, symbol| bits | symbol)
 }
 
-// The name of a run, and how its frame is handed over.
-fn show_name(run: u64, way: &[u8]) {
-    io::write_all(STDOUT_FILENO, b"R");
-    io::print_decimal(STDOUT_FILENO, run);
-    io::write_all(STDOUT_FILENO, way);
-}
-
-fn show_report(report: [u8; REPORT_BYTES]) {
-    for i in 0..REPORT_BYTES {
-        show_byte(report[i]);
+fn print_answer(
+    rt: &impl Print,
+    answer: Result<(), Refusal>,
+    report: [u8; REPORT_BYTES],
+    message: &[u8],
+) -> io::Result<()> {
+    print!(rt; " {}", number_of(answer))?;
+    for byte in report {
+        print!(rt; " {byte}")?;
     }
+    println!(rt; " {}", seen(message))
 }
 
-// Each bit that is set in some byte of a message of this rate.
-fn seen(message: [u8; 49], rate: usize) -> u8
+fn by_table(rt: &impl Print, run: Run<'_>, costs: &[u8]) -> io::Result<()> {
+    let number = run.number;
+    print!(rt; "R{number} table")?;
+    let mut room = [1; 49];
+    let message = &mut room[..run.rate];
+    let mut report = [1; REPORT_BYTES];
+    let doubt = run.doubtful.len();
+    let answer = table_decoding::decode_table(run.rate, costs, doubt, message, &mut report);
+    print_answer(rt, answer, report, message)
+}
+
+fn by_session(rt: &impl Print, run: Run<'_>) -> Result<()> {
+    let number = run.number;
+    print!(rt; "R{number} session")?;
+    let mut room = [1; 49];
+    let message = &mut room[..run.rate];
+    let mut report = [1; REPORT_BYTES];
+    let answer = closing::close(filled(run)?, message, &mut report);
+    print_answer(rt, answer, report, message)?;
+    Ok(())
+}
+
+fn both(rt: &impl Print, run: Run<'_>) -> Result<()> {
+    by_table(rt, run, &table(run.leaning))?;
+    by_session(rt, run)
+}
+
+fn run_of(number: u8, rate: usize, doubtful: &[u8], leaning: usize) -> Run<'_>
     requires { rate ≤ 49 }
 {
-    let mut bits = 0u8;
-    for i in 0..rate {
-        bits = bits | message[i];
+    Run {
+        number,
+        rate,
+        doubtful,
+        leaning,
     }
-    bits
 }
 
-fn show_answer(number: u8, report: [u8; REPORT_BYTES], message: [u8; 49], rate: usize)
-    requires { rate ≤ 49 }
-{
-    show_byte(number);
-    show_report(report);
-    show_byte(seen(message, rate));
-    io::write_all(STDOUT_FILENO, b"\n");
-}
-
-fn by_table(run: u64, rate: usize, costs: [u8; 2048], doubt: usize)
-    requires { rate ≤ 49 }
-{
-    show_name(run, b" table");
-    let mut room = [1u8; 49];
-    let mut report = [1u8; REPORT_BYTES];
-    let number = table_decoding::decode_table(rate, &costs, doubt, &mut room[..rate], &mut report);
-    show_answer(number, report, room, rate);
-}
-
-fn by_session(run: u64, rate: usize, doubt: usize, m: usize)
-    requires { (rate ≤ 49) × (doubt ≤ 2) }
-{
-    show_name(run, b" session");
-    let mut room = [1u8; 49];
-    let mut report = [1u8; REPORT_BYTES];
-    let number = closing::close(filled(rate, doubt, m), &mut room[..rate], &mut report);
-    show_answer(number, report, room, rate);
-}
-
-fn both(run: u64, rate: usize, doubt: usize, m: usize)
-    requires { (rate ≤ 49) × (doubt ≤ 2) }
-{
-    by_table(run, rate, table(m), doubt);
-    by_session(run, rate, doubt, m);
-}
-
-fn main() {
-    both(1, 39, 0, 6);
-    both(2, 39, 0, 7);
-    by_session(3, 39, 1, 7);
-    both(4, 39, 2, 7);
-    both(5, 49, 0, 1);
-    both(5, 49, 0, 2);
-    by_table(6, 39, [0u8; 2048], 0);
+fn main(rt: HostRuntime) -> Result<()> {
+    both(&rt, run_of(1, 39, &[], 6))?;
+    both(&rt, run_of(2, 39, &[], 7))?;
+    by_session(&rt, run_of(3, 39, &[0], 7))?;
+    both(&rt, run_of(4, 39, &[0, 10], 7))?;
+    both(&rt, run_of(5, 49, &[], 1))?;
+    both(&rt, run_of(5, 49, &[], 2))?;
+    by_table(&rt, run_of(6, 39, &[], 0), &[0; 2048])?;
+    Ok(())
 }

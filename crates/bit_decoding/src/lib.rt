@@ -5,13 +5,13 @@
 ghost use Rattle.std.specs.Prelude.{◌≡◌};
 ghost use Rattle.book.specs.tables.Table.{closed};
 ghost use Rattle.book64.specs.Here.{bits_of};
+ghost use Rattle.refusals.specs.Numbers.{number_of};
 
 use checking::checks;
 use columns::bits::costs_from_bits;
-use decoding::decode;
 use doubt::MOST_DOUBT;
-use refusals::{ACCEPTED, WRONG_DOUBT};
-use summary::summary_of;
+use refusals::Refusal;
+use table_decoding::decode_costs;
 
 // A value for each bit of the symbol of each place.
 const FRAME_BYTES: usize = 256;
@@ -22,27 +22,13 @@ pub fn decode_bits(
     doubt: usize,
     message: &mut [u8],
     report: &mut [u8],
-) -> u8
-    ensures { closed result message.new report.new ≡ bits_of rate frame.now doubt message.old report.old }
+) -> Result<(), Refusal>
+    ensures { closed (number_of result) message.new report.new ≡ bits_of rate frame.now doubt message.old report.old }
 {
-    let checked = checks(rate, frame.len(), FRAME_BYTES, message.len(), report.len());
-    if checked != ACCEPTED {
-        return checked;
-    }
+    checks(rate, frame.len(), FRAME_BYTES, message.len(), report.len())?;
     if MOST_DOUBT < doubt {
-        return WRONG_DOUBT;
+        return Err(Refusal::WrongDoubt);
     }
     let costs = costs_from_bits(frame);
-    let summary = summary_of(&costs);
-    let picked = doubt::doubtful_by(summary, doubt);
-    let doubtful = picked.places;
-    decode(
-        rate,
-        &costs,
-        doubtful,
-        picked.count,
-        message,
-        report,
-        summary,
-    )
+    decode_costs(rate, &costs, doubt, message, report)
 }

@@ -1,35 +1,44 @@
 // A call of the elimination engine on standard input, answered on standard output, with what the tree finds for the word beside it.
 // reference/src/engine.rs has the layout.
-ghost use Rattle.std.specs.Prelude.{◌≤◌};
+ghost use Rattle.std.specs.Prelude.{◌≡◌, ◌≤◌};
+ghost use Rattle.branches.specs.Beside.{shown_of};
 
 use crate::branch::branch_beside;
-use stream::bytes::{MOST_BYTES, lent, number, read, write, write_byte};
+use candidate::Word;
+use columns::costs::PLACES;
+use refusals::{Refusal, number_of};
+use stream::bytes::{LENT, MOST_BYTES, lent, number, read, write, write_byte};
 
 // The rate in eight bytes, then the lengths of word, list, codeword buffer and buffer for Q, in two bytes each.
 const HEAD: usize = 16;
 
-// A number with one byte more; the remainder changes none of seven bytes.
-fn with_byte(number: usize, byte: u8) -> usize {
-    number % 72057594037927936 * 256 + byte as usize
-}
-
 fn rate_in(head: [u8; HEAD]) -> usize {
-    let mut rate = 0;
-    for i in 0..8 {
-        rate = with_byte(rate, head[i]);
-    }
-    rate
+    let [a, b, c, d, e, f, g, h, ..] = head;
+    u64::from_be_bytes([a, b, c, d, e, f, g, h]) as usize
 }
 
-// The engine's number and buffers, then the branch's number and codeword.
+// The number where the tree is not asked.
+const NOT_ASKED: u8 = 255;
+
+// The number and the codeword of what the tree answers; the bytes of a lent buffer where there is none.
+fn shown(beside: Option<Result<Word, Refusal>>) -> (u8, Word)
+    ensures { result ≡ shown_of beside }
+{
+    match beside {
+        Some(Ok(codeword)) => (0, codeword),
+        Some(Err(refusal)) => (u8::from(refusal), [LENT; PLACES]),
+        None => (NOT_ASKED, [LENT; PLACES]),
+    }
+}
+
+// The engine's number and buffers, then the tree's number and codeword.
 fn answer(rate: usize, word: &[u8], blanks: &[u8], codeword: &mut [u8], q: &mut [u8]) {
-    let number = engine::eliminate(rate, word, blanks, codeword, q);
-    write_byte(number);
+    let answer = engine::eliminate(rate, word, blanks, codeword, q);
+    write_byte(number_of(answer));
     write(codeword);
     write(q);
-    let beside = branch_beside(number, rate, word, blanks);
-    write_byte(beside.number);
-    let found = beside.codeword;
+    let (number, found) = shown(branch_beside(answer, rate, word, blanks));
+    write_byte(number);
     write(&found);
 }
 

@@ -8,10 +8,10 @@ ghost use Rattle.taking_apart.specs.Taking.{taken_by};
 ghost use Rattle.bursts.specs.Struck.{struck_by, through_of, Relied};
 
 use lists::copy;
-use refusals::{ACCEPTED, WRONG_SIZE};
+use refusals::Refusal;
 use superframe::building::build;
 use superframe::{FRAME_BYTES, HEAD_BYTES};
-use taking_apart::{Taken, take_apart};
+use taking_apart::take_apart;
 
 const SYMBOLS_SENT: usize = FRAME_BYTES - HEAD_BYTES;
 
@@ -38,7 +38,7 @@ fn lies_within(start: usize, long: usize) -> bool
     true
 }
 
-// Eight messages through a channel that strikes a superframe with a burst: the number with which building refuses, 'wrong size' for a burst that does not
+// Eight messages through a channel that strikes a superframe with a burst: what building refuses for, 'wrong size' for a burst that does not
 // lie within the symbols, or what taking apart answers.
 pub fn through_burst(
     rate: usize,
@@ -46,29 +46,25 @@ pub fn through_burst(
     start: usize,
     burst: &[u8],
     out: &mut [u8],
-) -> Taken
+) -> Result<u8, Refusal>
     ensures { taken_by result out.new ≡ through_of rate messages.now start burst.now out.old }
 {
     let mut frame = [0u8; FRAME_BYTES];
-    let number = build(rate, messages, &mut frame);
-    if number != ACCEPTED {
-        return Taken {
-            refusal: number,
-            status: 0,
-        };
-    }
+    build(rate, messages, &mut frame)?;
     if !lies_within(start, burst.len()) {
-        return Taken {
-            refusal: WRONG_SIZE,
-            status: 0,
-        };
+        return Err(Refusal::WrongSize);
     }
     strike(&mut frame, start, burst);
     take_apart(&frame, out)
 }
 
 // Document 02's sentence on bursts at rate 39 is the contract.
-pub fn at_rate_39(messages: &[u8], start: usize, burst: &[u8], out: &mut [u8]) -> Taken
+pub fn at_rate_39(
+    messages: &[u8],
+    start: usize,
+    burst: &[u8],
+    out: &mut [u8],
+) -> Result<u8, Refusal>
     ensures { Relied messages.now start burst.now out.old result out.new }
 {
     through_burst(39, messages, start, burst, out)

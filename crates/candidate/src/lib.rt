@@ -1,6 +1,7 @@
 // The candidate of a row: the message that it holds, by division, and its codeword. It knows of no costs, no tree and no answer.
 #![tactic(auto)]
 
+pub mod open;
 pub mod rate;
 
 ghost use Rattle.std.specs.Prelude.{◌≡◌, ◌≤◌, take};
@@ -10,10 +11,9 @@ ghost use Rattle.code.specs.Encoding.{encode_of, most_rate};
 ghost use Rattle.soft.specs.Blank.{flag_at};
 ghost use Rattle.soft.specs.Column.{places};
 ghost use Rattle.soft.specs.Total.{differing_in};
-ghost use Rattle.candidate.specs.Ranged.{Ranged};
 ghost use Rattle.candidate.specs.Candidate.{symbol_in, CandidateOf, ShownOf};
 
-use crate::rate::top_order;
+use crate::rate::Rate;
 use coefficients::orders::coefficients;
 use division::dividing::divide;
 use encoding::{MOST_RATE, codeword_of, order};
@@ -35,46 +35,40 @@ pub struct Candidate {
 }
 
 // The message of a function by order, with zeros behind it.
-fn message_of(function: [u8; PLACES], k: usize) -> Message
-    requires { k ≤ most_rate }
-    ensures { result ≡ padded most_rate (listed k (symbol_in function)) }
+fn message_of(function: [u8; PLACES], rate: Rate) -> Message
+    ensures { result ≡ padded most_rate (listed rate.k (symbol_in function)) }
 {
     let mut out = [0u8; MOST_RATE];
-    let mut t = 0;
-    while t < k {
+    for t in 0..rate.symbols() {
         out[t] = function[order(t)];
-        t += 1;
     }
     out
 }
 
-fn encoded(message: Message, k: usize) -> Word
-    requires { k ≤ most_rate }
-    ensures { result ≡ encode_of k (take k message) }
+fn encoded(message: Message, rate: Rate) -> Word
+    ensures { result ≡ encode_of rate.k (take rate.k message) }
 {
-    codeword_of(&message[0..k])
+    codeword_of(&message[..rate.k])
 }
 
 // What a row holds by the word that it has its values from: the only message whose codeword can be within T of a word that the row decides.
-pub fn candidate_of(row: Row, k: usize, word: Word) -> Candidate
-    requires { Ranged k }
-    ensures { CandidateOf k word row result }
+pub fn candidate_of(row: Row, rate: Rate, word: Word) -> Candidate
+    ensures { CandidateOf rate.k word row result }
 {
-    let function = divide(without_z(row, word), with_z(row), top_order(k));
-    let message = message_of(function, k);
-    let codeword = encoded(message, k);
+    let function = divide(without_z(row, word), with_z(row), rate.top_order());
+    let message = message_of(function, rate);
+    let codeword = encoded(message, rate);
     Candidate { message, codeword }
 }
 
 // What values at the places show: the message in the coefficients of the function that has them, and its codeword. Where they are a codeword of
 // the rate, it is this one.
-pub fn shown(values: Planes, k: usize) -> Candidate
-    requires { Ranged k }
-    ensures { ShownOf k values result }
+pub fn shown(values: Planes, rate: Rate) -> Candidate
+    ensures { ShownOf rate.k values result }
 {
     let function = coefficients(values);
-    let message = message_of(function, k);
-    let codeword = encoded(message, k);
+    let message = message_of(function, rate);
+    let codeword = encoded(message, rate);
     Candidate { message, codeword }
 }
 

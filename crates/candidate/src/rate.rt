@@ -1,52 +1,76 @@
-// What follows from the rate and the number of blank places: the orders that a message uses, how far apart codewords are, how many places may
-// be blank, how far from a word codewords are looked for, and up to which key rows are kept.
-ghost use Rattle.std.specs.Prelude.{◌≡◌, ◌-◌, ◌≤◌};
+// A rate of the code, and what follows from it and the number of blank places: the orders that a message uses, how far apart codewords are,
+// how many places may be blank, how far from a word codewords are looked for, and up to which key rows are kept.
+ghost use Rattle.std.specs.Prelude.{true, ◌≡◌, ◌↔◌, ◌-◌, ◌≤◌, IsSome, IfSome};
 ghost use Rattle.soft.specs.Column.{places};
+ghost use Rattle.code.specs.Encoding.{known_rate};
 ghost use Rattle.near.specs.Here.{m_of, blank_limit, reach_of, limit_of};
 ghost use Rattle.candidate.specs.Ranged.{Ranged};
 
-use encoding::order;
+use encoding::{MOST_RATE, known_rate, order};
 use planes::PLACES;
 
 // The genus of the curve: so many orders are absent.
 const GENUS: usize = 6;
 
-// M: a message of k symbols uses the orders up to it.
-pub fn top_order(k: usize) -> usize
-    requires { Ranged k }
-    ensures { result ≡ m_of k }
-{
-    k + GENUS - 1
+// A rate that the code has: messages of k symbols.
+#[derive(Clone, Copy)]
+pub struct Rate {
+    pub k: usize,
+    ghost ranged: { Ranged k },
 }
 
-// Two codewords differ in at least so many places.
-pub fn least_distance(k: usize) -> usize
-    requires { Ranged k }
-    ensures { result ≡ places - m_of k }
-{
-    PLACES - top_order(k)
-}
+impl Rate {
+    pub fn new(k: usize) -> Option<Rate>
+        ensures known { IsSome result ↔ (known_rate k ≡ true) }
+        ensures value { IfSome result (λ rate. rate.k ≡ k) }
+    {
+        if !known_rate(k) {
+            return None;
+        }
+        Some(Rate { k })
+    }
 
-// The most places that may be blank: with more there is no T.
-pub fn blank_limit(k: usize) -> usize
-    requires { Ranged k }
-    ensures { result ≡ blank_limit k }
-{
-    least_distance(k) - GENUS - 1
-}
+    // k, with its bound said once more: the compiler does not see what a type keeps, and without it divides for the order of each symbol.
+    pub fn symbols(self) -> usize
+        ensures { result ≡ self.k }
+    {
+        self.k.min(MOST_RATE)
+    }
 
-// T: the largest number of which twice, together with the blank places, is less than the least distance without the genus.
-pub fn reach(k: usize, blanks: usize) -> usize
-    requires { Ranged k × (blanks ≤ blank_limit k) }
-    ensures { result ≡ reach_of k blanks }
-{
-    (blank_limit(k) - blanks) / 2
-}
+    // M: a message of k symbols uses the orders up to it.
+    pub fn top_order(self) -> usize
+        ensures { result ≡ m_of self.k }
+    {
+        self.k + GENUS - 1
+    }
 
-// 2(o + M) + 1, where o is the order of message symbol T: T places have a locator up to it. The largest key that decoding needs.
-pub fn largest_key(k: usize, blanks: usize) -> usize
-    requires { Ranged k × (blanks ≤ blank_limit k) }
-    ensures { result ≡ limit_of k blanks }
-{
-    2 * (order(reach(k, blanks)) + top_order(k)) + 1
+    // Two codewords differ in at least so many places.
+    pub fn least_distance(self) -> usize
+        ensures { result ≡ places - m_of self.k }
+    {
+        PLACES - self.top_order()
+    }
+
+    // The most places that may be blank: with more there is no T.
+    pub fn blank_limit(self) -> usize
+        ensures { result ≡ blank_limit self.k }
+    {
+        self.least_distance() - GENUS - 1
+    }
+
+    // T: the largest number of which twice, together with the blank places, is less than the least distance without the genus.
+    pub fn reach(self, blanks: usize) -> usize
+        requires { blanks ≤ blank_limit self.k }
+        ensures { result ≡ reach_of self.k blanks }
+    {
+        (self.blank_limit() - blanks) / 2
+    }
+
+    // 2(o + M) + 1, where o is the order of message symbol T: T places have a locator up to it. The largest key that decoding needs.
+    pub fn largest_key(self, blanks: usize) -> usize
+        requires { blanks ≤ blank_limit self.k }
+        ensures { result ≡ limit_of self.k blanks }
+    {
+        2 * (order(self.reach(blanks)) + self.top_order()) + 1
+    }
 }

@@ -14,18 +14,16 @@ use Rattle.book.specs.Columns.{agree_refl, agree-sym, agree_trans}
 use Rattle.book.specs.rows.RowDelivery.{row-none, row_on, row-refused}
 use Rattle.book.specs.rows.AlikeDelivery.{Agreed, agreed-path, agreed-trans, row-alike}
 use Rattle.session.specs.declared.Session.{Session}
-use Rattle.session.specs.declared.Opened.{Opened}
-use Rattle.session.specs.declared.Delivered.{Delivered}
 use Rattle.session.specs.View.{book_of, Good}
-use Rattle.session.specs.Calls.{refused_with, Opening, Delivery}
+use Rattle.session.specs.Calls.{Ending, refused_with, Opening, Delivery}
 use Rattle.session.specs.Laws.{refused-opens}
 
-pub opening-agreed : {o q : Outcome} {r : Opened} → Agreed o q → Opening q r → Opening o r
+pub opening-agreed : {o q : Outcome} {r : Ending} → Agreed o q → Opening q r → Opening o r
 opening-agreed a d =
     record { number = d.number ∙ sym a.same_number; book = agree_trans d.book (agree-sym a.same_book); good = d.good }
 
 module _ (whole : Outcome) (current : Session) (good : Good current) where
-  module _ (e : Entry) (rest : List Entry) (r : Delivered) (same : Agreed whole (deliver_row (book_of current) (e ∷ rest)))
+  module _ (e : Entry) (rest : List Entry) (r : Ending) (same : Agreed whole (deliver_row (book_of current) (e ∷ rest)))
       (d : Delivery current e.place e.column r) where
     pub row-turn : r.refusal ≡ accepted → Agreed whole (deliver_row (book_of r.session) rest)
     row-turn n =

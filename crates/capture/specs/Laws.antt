@@ -20,13 +20,12 @@ use Rattle.book64.proofs.captures.RoundTrip.{write-whole, written-opened}
 use Rattle.book64.proofs.captures.WritingLaws.{writing-alike}
 use Rattle.book64.specs.Here.{ordered}
 use Rattle.session.specs.declared.Session.{Session}
-use Rattle.session.specs.declared.Opened.{Opened}
 use Rattle.session.specs.View.{new_session, book_of, Good}
-use Rattle.session.specs.Calls.{refused_with, Opening}
+use Rattle.session.specs.Calls.{Ending, refused_with, Opening}
 use Rattle.session.specs.Laws.{good-proper, refused-opens, one-session}
 use Rattle.capture.specs.Calls.{Writing}
 
-pub write-then-open : (s : Session) (before after : List ℕ) (r : ℕ) (o : Opened) → Good s → Writing s before r after → r ≡ accepted
+pub write-then-open : (s : Session) (before after : List ℕ) (r : ℕ) (o : Ending) → Good s → Writing s before r after → r ≡ accepted
     → Opening (open_capture_of after) o → (o.refusal ≡ accepted) × (o.session ≡ s)
 write-then-open s before after r o good w n d = (
   d.number ∙ ap (λ (x : Outcome). x.number) again,
@@ -42,7 +41,7 @@ write-then-open s before after r o good w n d = (
     again : open_capture_of after ≡ record { number = accepted; book = ordered (book_of s) }
     again = ap open_capture_of (w.bytes good) ∙ Rattle.book64.proofs.captures.RoundTrip.write-then-open (book_of s) before (good-proper s good) written
 
-pub open-then-write : (bytes before after : List ℕ) (r : ℕ) (o : Opened) → below 256 bytes ≡ true → Opening (open_capture_of bytes) o
+pub open-then-write : (bytes before after : List ℕ) (r : ℕ) (o : Ending) → below 256 bytes ≡ true → Opening (open_capture_of bytes) o
     → o.refusal ≡ accepted → length before ≡ length bytes → Writing o.session before r after
     → (r ≡ accepted) × ((after ≡ bytes) ↔ InPlaceOrder (records_in bytes))
 open-then-write bytes before after r o b d n e w =
@@ -55,7 +54,7 @@ open-then-write bytes before after r o b d n e w =
       (λ same. order.0 (sym written ∙ same), λ rises. written ∙ order.1 rises),
     )
 
-pub refused-fresh : (bytes : List ℕ) (o : Opened) → Opening (open_capture_of bytes) o → (o.refusal ≡ accepted → ⊥) → o.session ≡ new_session 39 []
+pub refused-fresh : (bytes : List ℕ) (o : Ending) → Opening (open_capture_of bytes) o → (o.refusal ≡ accepted → ⊥) → o.session ≡ new_session 39 []
 unfolding refused_with
 refused-fresh bytes o d n =
     let k : ℕ = (open_capture_of bytes).number in

@@ -20,10 +20,8 @@ use Rattle.book.specs.tables.Table as Table
 use Rattle.book.specs.rows.Delivery as BookDelivery
 use Rattle.book64.specs.Here.{places, width, table_length, open_of, deliver_row}
 use Rattle.session.specs.declared.Session.{Session}
-use Rattle.session.specs.declared.Opened.{Opened}
-use Rattle.session.specs.declared.Delivered.{Delivered}
 use Rattle.session.specs.View.{book_of, Good}
-use Rattle.session.specs.Calls.{refused_with, opened_of, Opening, Delivery}
+use Rattle.session.specs.Calls.{Ending, refused_with, opened_of, Opening, Delivery}
 use Rattle.session.specs.Answering.{Closing}
 use Rattle.session.specs.Laws.{refused-opens, opens}
 use Rattle.capture.specs.Calls.{Writing}
@@ -32,7 +30,7 @@ use Rattle.captures.specs.Calls.{filled, close_opened, write_opened, up_from, ta
 
 -- ---- closing and writing what was opened
 
-module _ (o : Outcome) (r : Opened) (d : Opening o r) where
+module _ (o : Outcome) (r : Ending) (d : Opening o r) where
   module _ (message report : List ℕ) where
     pub closed-refused : (r.refusal ≡ accepted → ⊥) → closed r.refusal message report ≡ close_opened o message report
     unfolding close_opened refused_closing
@@ -76,7 +74,7 @@ no-columns-left columns i = refl
 
 module _ (whole : Outcome) (current : Session) (good : Good current) (columns : ℕ → List ℕ) (i : ℕ)
     (same : Agreed whole (deliver_row (book_of current) (columns_from columns i))) where
-  module _ (h : i < places) (column : List ℕ) (read : column ≡ columns i) (r : Delivered) (d : Delivery current i column r) where
+  module _ (h : i < places) (column : List ℕ) (read : column ≡ columns i) (r : Ending) (d : Delivery current i column r) where
     next : Agreed whole (deliver_row (book_of current) (record { place = i; column = column } ∷ columns_from columns (i + 1)))
     next =
         agreed-trans same
@@ -100,10 +98,10 @@ module _ (whole : Outcome) (current : Session) (good : Good current) (columns : 
 
 -- ---- opening with a table
 
-pub as-book : (rate : ℕ) (list : List ℕ) (o : Opened) → o ≡ opened_of rate list → Opening (open_of rate list) o
+pub as-book : (rate : ℕ) (list : List ℕ) (o : Ending) → o ≡ opened_of rate list → Opening (open_of rate list) o
 as-book rate list o opened = subst (Opening (open_of rate list)) (sym opened) (opens rate list)
 
-module _ (rate : ℕ) (list table : List ℕ) (o : Opened) (opened : o ≡ opened_of rate list) where
+module _ (rate : ℕ) (list table : List ℕ) (o : Ending) (opened : o ≡ opened_of rate list) where
   opens_as : Opening (open_of rate list) o
   opens_as = as-book rate list o opened
 
@@ -122,7 +120,7 @@ module _ (rate : ℕ) (list table : List ℕ) (o : Opened) (opened : o ≡ opene
     unfolding deliver_table
     table-sized h = rw (table_on, ne_eqb (length table) table_length h) (refused-opens wrong_size)
 
-    pub table-opened : length table ≡ table_length → (costs : List ℕ) → costs ≡ costs_from (places * width) table → (r : Opened)
+    pub table-opened : length table ≡ table_length → (costs : List ℕ) → costs ≡ costs_from (places * width) table → (r : Ending)
         → Opening (deliver_row (book_of o.session) (table_entries (column_of width costs))) r → Opening (open_table rate list table) r
     unfolding deliver_table Table.table_columns
     table-opened h costs read r d =

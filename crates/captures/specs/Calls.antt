@@ -20,8 +20,7 @@ use Rattle.book.specs.tables.Table.{entries_of}
 use Rattle.book64.specs.captures.Writing.{write_of}
 use Rattle.book64.specs.captures.CaptureOpening.{open_capture_of}
 use Rattle.book64.specs.Here.{places, table_length, table_columns, refused_opening, open_of, on_accepted, deliver_row, close_of}
-use Rattle.session.specs.declared.Opened.{Opened}
-use Rattle.session.specs.Calls.{Opening}
+use Rattle.session.specs.Calls.{Ending, Opening}
 
 -- what a call answered, put together
 abbrev pub filled : ℕ → List ℕ → Filled
@@ -61,5 +60,5 @@ make_capture_of rate list table out = write_opened (open_table rate list table) 
 
 -- ---- by the session that an opening handed back
 
-pub record WritesOpened (opened : Opened) (before : List ℕ) (r : ℕ) (after : List ℕ) : Type 0 where
+pub record WritesOpened (opened : Ending) (before : List ℕ) (r : ℕ) (after : List ℕ) : Type 0 where
   pub answers : (o : Outcome) → Opening o opened → filled r after ≡ write_opened o before

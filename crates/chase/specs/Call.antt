@@ -4,6 +4,7 @@
 --   Asked rate costs doubtful doubt    a known rate, 1,024 costs, at most 12 doubtful places, different and below 64, and no more blank places than
 --                                      the rate allows
 --   well_formed rate costs doubtful doubt   the test of all of it but the blank places
+--   OpenFor rate costs doubtful doubt counts o   it may be asked, and o has its rate and these flags of the places that count
 --   nearest_of rate costs doubtful doubt   what the test words of the costs and the doubtful places find, where it may be asked for, and
 --                                      nothing where not
 --   NearestCall rate costs doubtful doubt f   what f says of the near codewords by it: document 01's result, and the answer's codeword
@@ -18,6 +19,8 @@ use Rattle.near.specs.Here.{Workable}
 use Rattle.search.specs.Call.{Scope}
 use Rattle.search.specs.Call as Family
 use Rattle.candidate.specs.Ranged.{known-range, workable}
+use Rattle.candidate.specs.OpenFlags.{OpenFlags}
+use Rattle.candidate.specs.declared.open.Open.{Open}
 use Rattle.answers.specs.declared.Finding.{Finding}
 use Rattle.answers.specs.Result.{finding_of, total_is, nothing_found}
 use Rattle.answers.specs.Nearest.{Nearest}
@@ -33,6 +36,12 @@ scope64 = record { member = m16; known = known_rate; workable = known-workable; 
 
 abbrev pub Asked : ℕ → List ℕ → List ℕ → ℕ → Type 0
 Asked rate costs doubtful doubt = Family.Asked scope64 rate costs doubtful doubt
+
+pub record OpenFor (rate : ℕ) (costs doubtful : List ℕ) (doubt : ℕ) (counts : List ℕ) (o : Open) : Type 0 where
+  pub asked : Asked o.rate.k costs doubtful doubt
+  pub rate_is : o.rate.k ≡ rate
+  pub counts_are : o.counts ≡ counts
+  pub flagged : OpenFlags o.rate.k (column_of symbols costs) o.counts o.blanks
 
 abbrev pub well_formed : ℕ → List ℕ → List ℕ → ℕ → Bool
 well_formed rate costs doubtful doubt = Family.well_formed scope64 rate costs doubtful doubt

@@ -4,26 +4,33 @@
 
 ghost use Rattle.std.specs.Prelude.{◌≡◌};
 ghost use Rattle.book64.specs.Here.{checks_of};
+ghost use Rattle.refusals.specs.Numbers.{number_of};
 
 use encoding::known_rate;
-use refusals::{ACCEPTED, UNKNOWN_RATE, WRONG_SIZE};
+use refusals::Refusal;
 use totals::report::REPORT_BYTES;
 
-// The refusal, or 0: by the lengths of what is given, beside the one wanted, of the message and of the report.
-pub fn checks(rate: usize, given: usize, wanted: usize, message: usize, report: usize) -> u8
-    ensures { result ≡ checks_of rate given wanted message report }
+// By the lengths of what is given, beside the one wanted, of the message and of the report.
+pub fn checks(
+    rate: usize,
+    given: usize,
+    wanted: usize,
+    message: usize,
+    report: usize,
+) -> Result<(), Refusal>
+    ensures { number_of result ≡ checks_of rate given wanted message report }
 {
     if !known_rate(rate) {
-        return UNKNOWN_RATE;
+        return Err(Refusal::UnknownRate);
     }
     if given != wanted {
-        return WRONG_SIZE;
+        return Err(Refusal::WrongSize);
     }
     if message != rate {
-        return WRONG_SIZE;
+        return Err(Refusal::WrongSize);
     }
     if report != REPORT_BYTES {
-        return WRONG_SIZE;
+        return Err(Refusal::WrongSize);
     }
-    ACCEPTED
+    Ok(())
 }

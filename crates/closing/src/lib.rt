@@ -2,39 +2,37 @@
 // It knows of no codeword: what is near is `decoding`'s.
 #![tactic(auto)]
 
+ghost use Rattle.refusals.specs.Numbers.{number_of};
 ghost use Rattle.session.specs.Answering.{Closing};
 
 use decoding::decode;
 use doubt::MOST_DOUBT;
-use refusals::{ACCEPTED, PLACE_MISSING, WRONG_DOUBT, WRONG_SIZE};
+use refusals::Refusal;
 use session::Session;
 use summary::summary_of;
 use totals::report::REPORT_BYTES;
 
 // A session record that was built by hand, with a rate or a doubtful list that no opening accepts, is refused: no contract says by which number.
-pub fn close(session: Session, message: &mut [u8], report: &mut [u8]) -> u8
-    ensures { Closing session message.old report.old result message.new report.new }
+pub fn close(session: Session, message: &mut [u8], report: &mut [u8]) -> Result<(), Refusal>
+    ensures { Closing session message.old report.old (number_of result) message.new report.new }
 {
     let rate = session.rate as usize;
     if message.len() != rate {
-        return WRONG_SIZE;
+        return Err(Refusal::WrongSize);
     }
     if report.len() != REPORT_BYTES {
-        return WRONG_SIZE;
+        return Err(Refusal::WrongSize);
     }
     let taken = session.taken;
     if !session::all_taken(taken) {
-        return PLACE_MISSING;
+        return Err(Refusal::PlaceMissing);
     }
     let doubt = session.doubt;
     let doubtful = session.doubtful;
     if MOST_DOUBT < doubt {
-        return WRONG_DOUBT;
+        return Err(Refusal::WrongDoubt);
     }
-    let opened = session::open(rate, &doubtful[..doubt]);
-    if opened.refusal != ACCEPTED {
-        return opened.refusal;
-    }
+    session::open(rate, &doubtful[..doubt])?;
     let costs = session.costs;
     let summary = summary_of(&costs);
     decode(rate, &costs, doubtful, doubt, message, report, summary)

@@ -35,11 +35,9 @@ pub fn fibres(values: Planes) -> Planes
 {
     let duals = y_duals();
     let mut out = [0u64; 4];
-    let mut j = 0;
-    while j < 4 {
+    for j in 0..4 {
         let next = sum(out, fibre(values, duals[j], j));
         out = next;
-        j += 1;
     }
     out
 }

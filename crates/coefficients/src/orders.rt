@@ -35,11 +35,9 @@ fn gathered(sums: Planes) -> Planes
 {
     let duals = x_duals();
     let mut out = [0u64; 4];
-    let mut x = 0;
-    while x < 16 {
+    for x in 0..16 {
         let next = sum(out, entry(sums, duals[x], x));
         out = next;
-        x += 1;
     }
     out
 }

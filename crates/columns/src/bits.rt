@@ -4,7 +4,8 @@ ghost use Rattle.lists.specs.Listed.{listed};
 ghost use Rattle.soft.specs.Column.{places, symbols};
 ghost use Rattle.soft.specs.Bits.{bits, bit_cost, symbol_cost, bit_column, bit_costs, values_at};
 
-use crate::costs::{COSTS, PLACES, SYMBOLS, byte_at};
+use crate::costs::{COSTS, PLACES, SYMBOLS};
+use lists::entry_or;
 
 const BITS: usize = 4;
 
@@ -54,7 +55,7 @@ fn values_at(frame: &[u8], place: usize) -> [u8; BITS]
 {
     let mut out = [0u8; BITS];
     for i in 0..BITS {
-        out[i] = byte_at(frame, BITS * place + i);
+        out[i] = entry_or(frame, BITS * place + i, 0);
     }
     out
 }
@@ -64,11 +65,9 @@ fn fill_columns(frame: &[u8], out: &mut [u16])
     requires { length out.old ≡ places * symbols }
     ensures { out.new ≡ bit_costs bits places frame.now }
 {
-    let mut place = 0;
-    while place < PLACES {
+    for place in 0..PLACES {
         let from = SYMBOLS * place;
         fill(values_at(frame, place), &mut out[from..from + SYMBOLS]);
-        place += 1;
     }
 }
 

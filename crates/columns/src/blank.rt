@@ -4,8 +4,8 @@ ghost use Rattle.lists.specs.Count.{count};
 ghost use Rattle.soft.specs.Column.{places, symbols, column_of};
 ghost use Rattle.soft.specs.Blank.{open_at, flag_at, flags_of};
 
-use crate::bit::bit;
-use crate::costs::{PLACES, SYMBOLS, number_at};
+use crate::costs::{PLACES, SYMBOLS};
+use lists::entry_or;
 
 // Whether a place is not blank: not all its costs are equal, whatever its gap. They are compared where they stand, up to the first that differs:
 // every frame asks this of every place. Past the last costs all read as 0, and `place * SYMBOLS` is not asked for.
@@ -15,13 +15,11 @@ pub fn is_open(costs: &[u16], place: usize) -> bool
     if costs.len() / SYMBOLS < place {
         return false;
     }
-    let first = number_at(costs, place * SYMBOLS);
-    let mut s = 1;
-    while s < SYMBOLS {
-        if number_at(costs, place * SYMBOLS + s) != first {
+    let first = entry_or(costs, place * SYMBOLS, 0);
+    for s in 1..SYMBOLS {
+        if entry_or(costs, place * SYMBOLS + s, 0) != first {
             return true;
         }
-        s += 1;
     }
     false
 }
@@ -32,7 +30,7 @@ pub fn open_places(costs: &[u16]) -> [u8; PLACES]
 {
     let mut out = [0u8; PLACES];
     for place in 0..PLACES {
-        out[place] = bit(is_open(costs, place)) as u8;
+        out[place] = u8::from(is_open(costs, place));
     }
     out
 }
@@ -43,7 +41,7 @@ pub fn blanks(flags: [u8; PLACES]) -> usize
 {
     let mut n = 0u16;
     for place in 0..PLACES {
-        n += bit(flags[place] != 1);
+        n += u16::from(flags[place] != 1);
     }
     n as usize
 }

@@ -5,7 +5,6 @@ ghost use Rattle.soft.specs.Column.{symbols, best_of, second_of, gap_of};
 ghost use Rattle.columns.specs.Two.{above, TwoOf};
 
 use crate::costs::SYMBOLS;
-use crate::least::{larger, lesser};
 
 // Above the numbers of all symbols: 65,536 costs times the symbols.
 const ABOVE: u32 = 65536 * SYMBOLS as u32;
@@ -29,7 +28,7 @@ fn number(cost: u16, symbol: usize) -> u32
 fn next_with(next: u32, least: u32, number: u32) -> u32
     ensures { result ≡ min next (max least number) }
 {
-    lesser(next, larger(least, number))
+    next.min(least.max(number))
 }
 
 fn two_least(column: [u16; SYMBOLS]) -> Two
@@ -40,7 +39,7 @@ fn two_least(column: [u16; SYMBOLS]) -> Two
     for symbol in 0..SYMBOLS {
         let number = number(column[symbol], symbol);
         next = next_with(next, least, number);
-        least = lesser(least, number);
+        least = least.min(number);
     }
     Two {
         best: least,

@@ -2,6 +2,8 @@
 ghost use Rattle.std.specs.Prelude.{◌≡◌, ◌+◌, ◌*◌, ◌<◌, ◌≤◌, length, get_or};
 ghost use Rattle.soft.specs.Column.{places, symbols, pair_at, costs_from, column_of, cost_of};
 
+use lists::entry_or;
+
 pub const PLACES: usize = 64;
 
 pub const SYMBOLS: usize = 16;
@@ -11,24 +13,6 @@ pub const COSTS: usize = 1024;
 // The largest cost, which reads 'at least'.
 pub const CEILING: u16 = 65535;
 
-pub fn byte_at(bytes: &[u8], at: usize) -> u8
-    ensures { result ≡ get_or bytes.now at 0 }
-{
-    if at < bytes.len() {
-        return bytes[at];
-    }
-    0
-}
-
-pub fn number_at(costs: &[u16], at: usize) -> u16
-    ensures { result ≡ get_or costs.now at 0 }
-{
-    if at < costs.len() {
-        return costs[at];
-    }
-    0
-}
-
 // Where the first byte is missing, so is the second, and `at + 1` is not asked for.
 fn pair_at(bytes: &[u8], at: usize) -> u16
     ensures { result ≡ pair_at bytes.now at }
@@ -36,10 +20,11 @@ fn pair_at(bytes: &[u8], at: usize) -> u16
     if bytes.len() <= at {
         return 0;
     }
-    (byte_at(bytes, at) as u16) * 256 + byte_at(bytes, at + 1) as u16
+    u16::from_be_bytes([entry_or(bytes, at, 0), entry_or(bytes, at + 1, 0)])
 }
 
-// Costs one after the other, as many as there is room for.
+// Costs one after the other, as many as there is room for. `bits` fills by another rule: as a parameter the rule would be a closure, and what is
+// said of each cost a clause on all its calls.
 fn fill(bytes: &[u8], out: &mut [u16])
     ensures { out.new ≡ costs_from (length out.old) bytes.now }
 {
@@ -48,20 +33,11 @@ fn fill(bytes: &[u8], out: &mut [u16])
     }
 }
 
-// A column from its 32 bytes.
-pub fn column_from(bytes: &[u8]) -> [u16; SYMBOLS]
-    ensures { result ≡ costs_from symbols bytes.now }
+// The costs of a column from its 32 bytes, or those of a table from its 2,048.
+pub fn costs_from<const N: usize>(bytes: &[u8]) -> [u16; N]
+    ensures { result ≡ costs_from N bytes.now }
 {
-    let mut out = [0u16; SYMBOLS];
-    fill(bytes, &mut out);
-    out
-}
-
-// The costs of a table from its 2,048 bytes.
-pub fn table_from(bytes: &[u8]) -> [u16; COSTS]
-    ensures { result ≡ costs_from (places * symbols) bytes.now }
-{
-    let mut out = [0u16; COSTS];
+    let mut out = [0u16; N];
     fill(bytes, &mut out);
     out
 }
@@ -113,5 +89,5 @@ pub fn cost_of(costs: &[u16], place: usize, symbol: u8) -> u16
     if costs.len() / SYMBOLS < place {
         return 0;
     }
-    number_at(costs, place * SYMBOLS + symbol as usize)
+    entry_or(costs, place * SYMBOLS + symbol as usize, 0)
 }

@@ -2,10 +2,8 @@
 // A table of costs is a slice of 1,024 numbers, sixteen to a place; what a shorter slice lacks reads as 0.
 #![tactic(auto)]
 
-pub mod bit;
 pub mod bits;
 pub mod blank;
 pub mod column;
 pub mod costs;
-pub mod least;
 pub mod word;

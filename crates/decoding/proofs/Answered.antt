@@ -18,8 +18,7 @@ use Rattle.soft.specs.Blank.{flag_at}
 use Rattle.soft.specs.Doubt.{most_doubt}
 use Rattle.soft.specs.Total.{pinned_of, changed_flags, report_of}
 use Rattle.soft.specs.Mark.{is_marked}
-use Rattle.answer.specs.declared.Margin.{Margin}
-use Rattle.answer.specs.Margin.{margin_is}
+use Rattle.answer.specs.Margin.{Margin, margin_is}
 use Rattle.code.specs.Encoding.{encode_of, most_rate}
 use Rattle.near.specs.Here.{m_of, blank_limit, blanks_in}
 use Rattle.book64.specs.Modem64.{modem64}

@@ -2,38 +2,37 @@
 // It knows of no session and checks no argument; the search is `chase`'s, and nothing here knows how it goes.
 #![tactic(auto)]
 
-ghost use Rattle.std.specs.Prelude.{true, ◌≡◌, List, ℕ, take};
-ghost use Rattle.code.specs.Encoding.{known_rate};
+ghost use Rattle.std.specs.Prelude.{◌≡◌, List, ℕ, take};
 ghost use Rattle.soft.specs.Column.{places, symbols, column_of};
 ghost use Rattle.soft.specs.Blank.{flags_of};
 ghost use Rattle.summary.specs.Summary.{SummaryOf};
 ghost use Rattle.book.specs.tables.Table.{closed};
 ghost use Rattle.book64.specs.Here.{decode_of};
 ghost use Rattle.decoding.specs.Decoding.{Decodable, unanswered_of};
+ghost use Rattle.refusals.specs.Numbers.{number_in, number_of};
 
-use candidate::rate::{blank_limit, least_distance};
+use answer::Answer;
+use candidate::rate::Rate;
 use columns::blank::blanks;
 use columns::costs::PLACES;
 use doubt::MOST_DOUBT;
 use lists::copy;
-use refusals::{ACCEPTED, NONE_NEAR, TOO_BLANK};
+use refusals::Refusal;
 use summary::Summary;
 
 // Why nothing was found: more places are blank than leave a T, or no codeword is near.
-fn unanswered(rate: usize, counts: [u8; PLACES]) -> u8
-    requires { known_rate rate ≡ true }
-    ensures { (columns : ℕ → List ℕ) → counts ≡ flags_of places columns → result ≡ unanswered_of rate columns }
+fn unanswered(rate: Rate, counts: [u8; PLACES]) -> Refusal
+    ensures { (columns : ℕ → List ℕ) → counts ≡ flags_of places columns → number_in result ≡ unanswered_of rate.k columns }
 {
-    let limit = blank_limit(rate);
-    let blank = blanks(counts);
-    if blank <= limit {
-        return NONE_NEAR;
+    if blanks(counts) <= rate.blank_limit() {
+        return Refusal::NoneNear;
     }
-    TOO_BLANK
+    Refusal::TooBlank
 }
 
 // 'Too many blank' or 'none near', the buffers as they were; or the answer's message and its report. With too many blank the search finds
 // nothing, so that a frame with an answer is not asked for its blanks twice.
+// `doubtful` and `doubt` are a list in the front of an array, as `nearest` takes it and as the contracts of both name it.
 pub fn decode(
     rate: usize,
     costs: &[u16],
@@ -42,25 +41,22 @@ pub fn decode(
     message: &mut [u8],
     report: &mut [u8],
     summary: Summary,
-) -> u8
+) -> Result<(), Refusal>
     requires { Decodable rate costs.now doubtful doubt message.old report.old × SummaryOf (column_of symbols costs.now) summary }
-    ensures { closed result message.new report.new ≡ decode_of rate (column_of symbols costs.now) (take doubt doubtful) message.old report.old }
+    ensures { closed (number_of result) message.new report.new ≡ decode_of rate (column_of symbols costs.now) (take doubt doubtful) message.old report.old }
 {
-    let counts = summary.counts;
-    let best_word = summary.best;
+    let of_rate = Rate { k: rate };
     let found = chase::nearest_by(rate, costs, doubtful, doubt, summary);
-    let answer = found.answer;
-    let answer::Answer::Near { total, margin } = answer else {
-        return unanswered(rate, counts);
+    let Answer::Near { total, margin } = found.answer else {
+        return Err(unanswered(of_rate, summary.counts));
     };
-    let best = found.message;
-    copy(&best, message);
+    copy(&found.message, message);
     let word = found.codeword;
     let pinned = totals::total::pinned(costs, &word);
-    let flags = totals::total::changed_places(&word, best_word, counts);
+    let flags = totals::total::changed_places(&word, summary.best, summary.counts);
     let changed = totals::total::changed(flags);
-    let mark = marks::mark(costs, &word, flags, least_distance(rate), summary);
+    let mark = marks::mark(costs, &word, flags, of_rate.least_distance(), summary);
     let bytes = totals::report::report(total, found.tests as u16, pinned, changed, margin, mark);
     copy(&bytes, report);
-    ACCEPTED
+    Ok(())
 }

@@ -18,16 +18,13 @@ fn y_powers(c: [u8; 64]) -> [[u8; 64]; 4]
 
 // The rest and a multiple of a function moved up by some orders; the rest is changed where it stands. Zero times the function changes nothing.
 fn less(rest: &mut [u8; 64], by: u8, function: [u8; 64], up: usize)
-    requires { length rest.old ≡ plain_width }
     ensures { rest.new ≡ listed plain_width (less_at rest.old by function up) }
 {
     if by == 0 {
         return;
     }
-    let mut k = up;
-    while k < 64 {
+    for k in up..64 {
         rest[k] = rest[k] ^ product(function[k - up], by);
-        k += 1;
     }
 }
 
@@ -65,9 +62,7 @@ pub fn divide(q0: [u8; 64], q1: [u8; 64], m: usize) -> [u8; 64]
     let powers = y_powers(q1);
     let mut rest = q0;
     let mut out = [0u8; 64];
-    let mut left = m + 1;
-    while 0 < left {
-        left -= 1;
+    for left in (0..m + 1).rev() {
         let a = next_at(rest, lead + left, left, by);
         less(&mut rest, a, powers[left % 4], x_moves(left));
         out[left] = a;

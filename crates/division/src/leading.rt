@@ -8,9 +8,7 @@ ghost use Rattle.division.specs.Parts.{y_at, LeadFound};
 pub fn lead(c: [u8; 64]) -> usize
     ensures { LeadFound c result }
 {
-    let mut n = 64;
-    while 0 < n {
-        n -= 1;
+    for n in (0..64).rev() {
         if c[n] % 16 != 0 {
             return n;
         }
@@ -24,15 +22,11 @@ pub fn times_y(c: [u8; 64]) -> [u8; 64]
     ensures { result ≡ listed plain_width (y_at c) }
 {
     let mut out = [0u8; 64];
-    let mut o = 5;
-    while o < 64 {
+    for o in 5..64 {
         out[o] = c[o - 5];
-        o += 1;
     }
-    let mut folded = 1;
-    while folded < 54 {
+    for folded in (1..54).step_by(4) {
         out[folded] = out[folded] ^ c[folded + 10];
-        folded += 4;
     }
     out
 }

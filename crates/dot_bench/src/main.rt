@@ -2,53 +2,49 @@
 // other, and the last of them printed. `bench/products` counts the instructions of each.
 #![tactic(auto)]
 
-ghost use Rattle.std.specs.Prelude.{◌≡◌};
+ghost use Rattle.std.specs.Prelude.{◌≡◌, ℕ};
+ghost use Rattle.galois.specs.Gf16.{times};
 ghost use Rattle.dot_bench.specs.Dot.{dot};
 
-// The descriptor of standard output.
-const STDOUT_FILENO: i32 = 1;
+use std::{env, io};
 
-fn dot_by_table(a: [u8; 134], b: [u8; 134]) -> u8
+// The dot product by a function that multiplies.
+fn dot<F: Fn(u8, u8) -> u8>(product: F, a: [u8; 134], b: [u8; 134]) -> u8
+    requires safe { F.IsAlwaysCallable product }
+    requires multiplies { (x y r : ℕ) → F.post product x y r → r ≡ times x y }
     ensures { result ≡ dot 134 a b }
 {
-    let mut sum: u8 = 0;
+    let mut sum = 0;
     for i in 0..134 {
-        sum = sum ^ galois::product_by_table(a[i], b[i]);
-    }
-    sum
-}
-
-fn dot_by_computing(a: [u8; 134], b: [u8; 134]) -> u8
-    ensures { result ≡ dot 134 a b }
-{
-    let mut sum: u8 = 0;
-    for i in 0..134 {
-        sum = sum ^ galois::product(a[i], b[i]);
+        sum ^= product(a[i], b[i]);
     }
     sum
 }
 
 // Each dot product changes both arrays for the next.
-fn thousand(by_table: bool) -> u8 {
-    let mut a = [5u8; 134];
-    let mut b = [11u8; 134];
-    let mut last: u8 = 0;
+fn thousand<F: Fn(u8, u8) -> u8>(product: F) -> u8
+    requires safe { F.IsAlwaysCallable product }
+    requires multiplies { (x y r : ℕ) → F.post product x y r → r ≡ times x y }
+{
+    let mut a = [5; 134];
+    let mut b = [11; 134];
+    let mut last = 0;
     for k in 0..1000 {
-        last = if by_table {
-            dot_by_table(a, b)
-        } else {
-            dot_by_computing(a, b)
-        };
+        last = dot(&product, a, b);
         a[k % 134] = last;
         b[k * 7 % 134] = last ^ 5;
     }
     last
 }
 
-fn main(rt: HostRuntime) -> std::io::Result<()> {
-    for word in std::env::args(&rt)?.skip(1) {
-        io::print_decimal(STDOUT_FILENO, thousand(word.starts_with('t')) as u64);
-        io::write_all(STDOUT_FILENO, b"\n");
+fn main(rt: HostRuntime) -> io::Result<()> {
+    for word in env::args(&rt)?.skip(1) {
+        let last = if word.starts_with('t') {
+            thousand(galois::product_by_table)
+        } else {
+            thousand(galois::product)
+        };
+        println!(rt; "{last}")?;
     }
     Ok(())
 }

@@ -14,9 +14,7 @@ ghost use Rattle.doubt.specs.Keys.{far};
 ghost use Rattle.doubt.specs.Picked.{PickedOf};
 ghost use Rattle.summary.specs.Summary.{SummaryOf};
 
-use columns::bit::bit;
 use columns::costs::{CEILING, PLACES};
-use columns::least::lesser;
 use summary::{Summary, summary_of};
 
 pub const MOST_DOUBT: usize = 12;
@@ -24,7 +22,7 @@ pub const MOST_DOUBT: usize = 12;
 // Above the key of every place that is not blank: 65,536 gaps times the places.
 const FAR: u32 = 65536 * PLACES as u32;
 
-// Places from the front of an array, and how many they are.
+// Places from the front of an array, and how many they are: the library has no heap.
 #[derive(Clone, Copy)]
 pub struct Picked {
     pub places: [u8; MOST_DOUBT],
@@ -82,7 +80,7 @@ fn least_from(keys: [u32; PLACES], bound: u32) -> u32
 {
     let mut least = FAR;
     for place in 0..PLACES {
-        least = lesser(least, from_bound(bound, keys[place]));
+        least = least.min(from_bound(bound, keys[place]));
     }
     least
 }
@@ -114,7 +112,6 @@ fn bound_of(keys: [u32; PLACES], doubt: usize) -> u32
 
 // One place more, if it is chosen and there is room.
 pub fn with_place(list: &mut [u8; MOST_DOUBT], at: usize, place: u8, chosen: bool)
-    requires { length list.old ≡ most_doubt }
     ensures { list.new ≡ cond chosen (set list.old at place) list.old }
 {
     if chosen {
@@ -135,7 +132,7 @@ fn picked_by(keys: [u32; PLACES], doubt: usize) -> Picked
     for place in 0..PLACES {
         let taken = keys[place] < bound;
         with_place(&mut out, found, place as u8, taken);
-        found += bit(taken) as usize;
+        found += usize::from(taken);
     }
     Picked {
         places: out,
@@ -173,7 +170,7 @@ fn count_below(keys: [u32; PLACES], limit: u32) -> usize
 {
     let mut n = 0u32;
     for place in 0..PLACES {
-        n += bit(keys[place] / (PLACES as u32) < limit) as u32;
+        n += u32::from(keys[place] / (PLACES as u32) < limit);
     }
     n as usize
 }
@@ -182,13 +179,7 @@ fn count_below(keys: [u32; PLACES], limit: u32) -> usize
 fn clamp(count: usize, most: usize) -> usize
     ensures { result ≡ clamp_of most count }
 {
-    if most <= count {
-        return most;
-    }
-    if count == 0 {
-        return 1;
-    }
-    count
+    count.max(1).min(most)
 }
 
 // What a threshold makes doubtful, by a summary of the columns.

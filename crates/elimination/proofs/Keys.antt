@@ -1,5 +1,6 @@
 -- One key of the elimination, and its ends.
-use mathlib.Core.Path.{◌≡◌, refl, sym, ap, ◌∙◌, subst}
+use mathlib.Core.Path.{◌≡◌, refl, ap, ◌∙◌, subst}
+use Rattle.std.specs.Prelude.{Some, None}
 use mathlib.Core.List.{List, []}
 use mathlib.Core.Logic.{◌≢◌}
 use Prim.Native.Nat.{ℕ, ◌+◌, ◌<◌, ◌≤◌}
@@ -22,22 +23,17 @@ use Rattle.parts.specs.Parts.{values_of}
 use Rattle.elimination.specs.declared.reducing.Reduced.{Reduced}
 use Rattle.elimination.specs.Terms.{TermRow}
 use Rattle.elimination.specs.Reducing.{pivot_values, Reduces}
-use Rattle.elimination.specs.Solving.{Tries, Keeps, SolvedOf}
+use Rattle.elimination.specs.Solving.{Tried, Keeps, SolvedOf}
 use Rattle.elimination.proofs.Monomials.{term-begins}
 open K16 use {𝟘}
 
 -- ---- one term
-pub absent-tries : (key M : ℕ) (symbols : List ℕ) (pivots : List (List ℕ)) (flags : List ℕ) {r : Reduced} → places m16 < r.place → ¬ IsKey m16.w M key
-    → Tries key M symbols pivots flags r
-absent-tries key M symbols pivots flags l n =
-    record { absent = λ h. n; reduced = λ h. absurd (omega arith); stops = λ h. absurd (omega arith) }
-
 pub term-tries : (key M : ℕ) (symbols : List ℕ) (pivots : List (List ℕ)) (flags row : List ℕ) {r : Reduced} → IsKey m16.w M key → TermRow M key symbols row
-    → Reduces row pivots flags r → Tries key M symbols pivots flags r
+    → Reduces row pivots flags r → Tried key M symbols pivots flags r
 term-tries key M symbols pivots flags row term T R =
     record {
-      absent = λ h. absurd (omega (arith, R.within));
-      reduced = λ h word carried P. R.reduced M key word P (term-begins M key symbols term row T word flags carried);
+      within = R.within;
+      reduced = λ word carried P. R.reduced M key word P (term-begins M key symbols term row T word flags carried);
       stops = R.stops;
     }
 
@@ -73,8 +69,12 @@ no_rows M flags symbols =
     }
 
 module _ {M : ℕ} {flags symbols : List ℕ} {key : ℕ} {pivots : List (List ℕ)} (R : Rows M flags symbols key pivots) where
-  module _ {r : Reduced} (T : Tries key M symbols pivots flags r) where
-    -- a term that is stopped has a row from then on; a key that is no term's changes nothing
+  -- a key that is no term's changes nothing
+  pub key-absent : ¬ IsKey m16.w M key → Rows M flags symbols (key + 1) pivots
+  key-absent n = record { stand = λ word carried. pivots-absent m16 M word flags n (R.stand word carried) }
+
+  module _ {r : Reduced} (T : Tried key M symbols pivots flags r) where
+    -- a term that is stopped has a row from then on
     pub key-turn : {after : List (List ℕ)} → r.place ≢ places m16 → Keeps pivots r.place r.row after → Rows M flags symbols (key + 1) after
     unfolding values_of
     key-turn {after} n K = record { stand = λ word carried. go word carried (dec_lt r.place (places m16)) }
@@ -84,28 +84,16 @@ module _ {M : ℕ} {flags symbols : List ℕ} {key : ℕ} {pivots : List (List �
             let s = T.stops l in
             let P = R.stand word carried in
             pivots-stored m16 M word flags r.place l (eq-eqb (get_or flags r.place 0) 1 s.counted) s.value s.free
-            (ap values_of (K.here l)) (λ q o. ap values_of (K.other q o)) (T.reduced (omega arith) word carried P) P
-        go word carried (no l) =
-            subst (λ (rows : List (List ℕ)). Values.Pivots m16 M word flags (key + 1) (pivot_values rows)) (sym (K.past (omega arith)))
-            (pivots-absent m16 M word flags (T.absent (omega arith)) (R.stand word carried))
+            (ap values_of (K.here l)) (λ q o. ap values_of (K.other q o)) (T.reduced word carried P) P
+        go word carried (no l) = absurd (n (omega (arith, T.within)))
 
     -- one that is zero at all places that count is the highest of the least Q
     pub key-found : {word : List ℕ} {limit : ℕ} → Carries (symbols_of word) symbols → r.place ≡ places m16 → key ≤ limit
-        → SolvedOf M word flags limit (record { key = key; row = r.row })
+        → SolvedOf M word flags limit (Some (record { key = key; row = r.row }))
     key-found {word} {limit} carried e le =
         let P = R.stand word carried in
-        record {
-          found = λ l.
-              reduced-least m16 M word flags P
-              (subst (λ p. Values.Reduced m16 M word flags key p (values_of r.row)) e (T.reduced (omega arith) word carried P));
-          none = λ l. absurd (omega arith);
-        }
+        (le, reduced-least m16 M word flags P (subst (λ p. Values.Reduced m16 M word flags key p (values_of r.row)) e (T.reduced word carried P)))
 
   -- no term up to the limit was one
-  pub key-none : {word : List ℕ} {limit : ℕ} {row : List ℕ} → Carries (symbols_of word) symbols → limit < key
-      → SolvedOf M word flags limit (record { key = key; row = row })
-  key-none {word} carried l =
-      record {
-        found = λ le. absurd (omega arith);
-        none = λ above Q m t e. omega (arith, pivots-none m16 M word flags (R.stand word carried) Q m t e);
-      }
+  pub key-none : (word : List ℕ) (limit : ℕ) → Carries (symbols_of word) symbols → limit < key → SolvedOf M word flags limit None
+  key-none word limit carried l Q m t e = omega (arith, pivots-none m16 M word flags (R.stand word carried) Q m t e)

@@ -52,8 +52,7 @@ pub fn reduce(row: Row, pivots: &Pivots, flags: [u8; PLACES]) -> Reduced
     ensures { Reduces row pivots.now flags result }
 {
     let mut rest = row;
-    let mut place = 0;
-    while place < PLACES {
+    for place in 0..PLACES {
         let pivot = pivots[place];
         let flag = flags[place];
         if stuck(rest, pivot, flag, place) {
@@ -61,7 +60,9 @@ pub fn reduce(row: Row, pivots: &Pivots, flags: [u8; PLACES]) -> Reduced
         }
         let next = cleared(rest, pivot, flag, place);
         rest = next;
-        place += 1;
     }
-    Reduced { place, row: rest }
+    Reduced {
+        place: PLACES,
+        row: rest,
+    }
 }

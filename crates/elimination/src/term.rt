@@ -15,11 +15,9 @@ fn power(base: Planes, n: usize) -> Planes
     ensures { PowerOf base n result }
 {
     let mut out = spread(1);
-    let mut i = 0;
-    while i < n {
+    for i in 0..n {
         let next = times(out, base);
         out = next;
-        i += 1;
     }
     out
 }

@@ -9,7 +9,9 @@ use lib.Bits.{bit_or, or_lt, or_add_and, and_le_l, and_le_r}
 use lib.ListN.{length, get_or, drop, replicate, get_or-replicate, get_or-eq_default}
 use lib.Pow.{pow_pos}
 use lib.Seq.{get_or-append-add, get_or-drop}
+use lib.Dec.{ltb}
 use borrow.Author.Count.{below_more}
+use borrow.Author.Tests.{lt-ltb, le-ltb}
 use Rattle.lists.specs.Every.{T_true, true-T}
 use Rattle.lists.specs.Filled.{Filled, filled-read, filled-length}
 use Rattle.lists.specs.Listed.{listed, listed_by, listed-length}
@@ -38,15 +40,23 @@ module _ (k : ℕ) (l : List ℕ) where
         below = λ h. or_lt k all (get_or l i 0) (t.below (λ j b. h j (omega arith))) (h i (omega arith));
       }
 
-  pub all-symbols : (i all : ℕ) → length l ≤ i → all < 2 ^ k → Passed k l i all → true ≡ all_below (2 ^ k) l
+  all-symbols : (i all : ℕ) → length l ≤ i → all < 2 ^ k → Passed k l i all → true ≡ all_below (2 ^ k) l
   all-symbols i all h b t = sym (T_true (all_below (2 ^ k) l) (all_below-from (2 ^ k) l (λ j g. omega (arith, t.above j (omega arith)))))
 
-  pub no_symbol : (i all : ℕ) → i ≤ length l → 2 ^ k ≤ all → Passed k l i all → false ≡ all_below (2 ^ k) l
+  no_symbol : (i all : ℕ) → i ≤ length l → 2 ^ k ≤ all → Passed k l i all → false ≡ all_below (2 ^ k) l
   no_symbol i all h b t = go (all_below (2 ^ k) l) refl
     where
       go : (b : Bool) → all_below (2 ^ k) l ≡ b → false ≡ b
       go true e = absurd (omega (arith, t.below (λ j g. all_below-at (2 ^ k) l (true-T (all_below (2 ^ k) l) e) j (omega arith))))
       go false e = refl
+
+  -- so the test of all bytes together is that of every byte
+  pub symbols-below : (i all : ℕ) → i ≡ length l → Passed k l i all → ltb all (2 ^ k) ≡ all_below (2 ^ k) l
+  symbols-below i all e t = go (dec_lt all (2 ^ k))
+    where
+      go : Dec (all < 2 ^ k) → ltb all (2 ^ k) ≡ all_below (2 ^ k) l
+      go (yes b) = lt-ltb all (2 ^ k) b ∙ all-symbols i all (omega arith) b t
+      go (no b) = le-ltb all (2 ^ k) (omega arith) ∙ no_symbol i all (omega arith) (omega arith) t
 
 -- ---- a message as a function
 pub filled-to : {l out : List ℕ} {f : ℕ → ℕ} {i n : ℕ} → i ≡ n → Filled l f i out → Filled l f n out
@@ -72,9 +82,6 @@ module _ (𝓜 : Member) (m : List ℕ) (o : ℕ) where
 
   pub symbol-coefficient : {t : ℕ} → Present w o → t ≡ rank w o → get_or m t 0 ≡ coefficient_of 𝓜 m o
   symbol-coefficient h e = ap (λ k. get_or m k 0) e ∙ sym (coefficient-present 𝓜 m o h)
-
-  pub beyond-coefficient : {t : ℕ} → Present w o → t ≡ rank w o → length m ≤ t → 0 ≡ coefficient_of 𝓜 m o
-  beyond-coefficient h e l = sym (get_or-eq_default m 0 l) ∙ symbol-coefficient h e
 
 -- from w(w − 1) on no order is missing: the symbol stands genus places before its order
 pub large-coefficient : (𝓜 : Member) (m : List ℕ) (o : ℕ) → 𝓜.w * (𝓜.w - 1) ≤ o → get_or m (o - genus 𝓜.w) 0 ≡ coefficient_of 𝓜 m o

@@ -13,10 +13,11 @@ ghost use Rattle.code.specs.Rates.{longest};
 ghost use Rattle.code.specs.Evaluation.{coefficient_of, function_of};
 ghost use Rattle.family.specs.Calls.{outcome};
 ghost use Rattle.code.specs.Calls.{encode_call};
+ghost use Rattle.refusals.specs.Numbers.{number_of};
 
 use evaluation::value::codeword;
-use lists::copy;
-use refusals::{ACCEPTED, NO_SYMBOL, UNKNOWN_RATE, WRONG_SIZE};
+use lists::{copy, entry_or};
+use refusals::Refusal;
 
 // The rates: so many symbols a message has.
 pub const LEAST_RATE: usize = 6;
@@ -61,11 +62,7 @@ fn coefficient(message: &[u8], order: usize) -> u8
     if order / 4 < order % 4 {
         return 0;
     }
-    let symbol = rank(order);
-    if symbol < message.len() {
-        return message[symbol];
-    }
-    0
+    entry_or(message, rank(order), 0)
 }
 
 // The coefficients of the orders below 12, among which some are missing, and zeros behind them.
@@ -73,10 +70,8 @@ fn lowest(message: &[u8]) -> [u8; 64]
     ensures { Filled (replicate 64 0) (coefficient_of message.now) 12 result }
 {
     let mut out = [0u8; 64];
-    let mut order = 0;
-    while order < 12 {
+    for order in 0..12 {
         out[order] = coefficient(message, order);
-        order += 1;
     }
     out
 }
@@ -85,10 +80,7 @@ fn lowest(message: &[u8]) -> [u8; 64]
 fn end_of(symbols: usize) -> usize
     ensures { result ≡ min (symbols + 6) 64 }
 {
-    if 58 <= symbols {
-        return 64;
-    }
-    symbols + 6
+    symbols.min(58) + 6
 }
 
 fn function_of(message: &[u8]) -> [u8; 64]
@@ -96,10 +88,8 @@ fn function_of(message: &[u8]) -> [u8; 64]
 {
     let end = end_of(message.len());
     let mut out = lowest(message);
-    let mut order = 12;
-    while order < end {
+    for order in 12..end {
         out[order] = message[order - 6];
-        order += 1;
     }
     out
 }
@@ -125,15 +115,10 @@ pub fn symbols_only(bytes: &[u8]) -> bool
     ensures { result ≡ all_below 16 bytes.now }
 {
     let mut all = 0u8;
-    let mut i = 0;
-    while i < bytes.len() {
-        all = all | bytes[i];
-        i += 1;
+    for &byte in bytes {
+        all |= byte;
     }
-    if 16 <= all {
-        return false;
-    }
-    true
+    all < 16
 }
 
 // The codeword of a message into the part of a frame that is lent for it.
@@ -145,25 +130,25 @@ fn encode_into(message: &[u8], part: &mut [u8])
 }
 
 // Encode: the codeword of the message into the 64 bytes of the frame from start on.
-pub fn encode(rate: usize, message: &[u8], frame: &mut [u8], start: usize) -> u8
-    ensures { outcome result frame.new ≡ encode_call rate message.now frame.old start }
+pub fn encode(rate: usize, message: &[u8], frame: &mut [u8], start: usize) -> Result<(), Refusal>
+    ensures { outcome (number_of result) frame.new ≡ encode_call rate message.now frame.old start }
 {
     if !known_rate(rate) {
-        return UNKNOWN_RATE;
+        return Err(Refusal::UnknownRate);
     }
     if message.len() != rate {
-        return WRONG_SIZE;
+        return Err(Refusal::WrongSize);
     }
     if frame.len() < 64 {
-        return WRONG_SIZE;
+        return Err(Refusal::WrongSize);
     }
     if frame.len() - 64 < start {
-        return WRONG_SIZE;
+        return Err(Refusal::WrongSize);
     }
     if !symbols_only(message) {
-        return NO_SYMBOL;
+        return Err(Refusal::NoSymbol);
     }
     let end = start + 64;
     encode_into(message, &mut frame[start..end]);
-    ACCEPTED
+    Ok(())
 }

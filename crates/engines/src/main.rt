@@ -6,19 +6,18 @@
 mod own;
 
 use branches::requests::answer_next;
-use own::compare_own;
+use own::print_own;
+use std::io;
 
-// A proved loop ends, and nothing says that the input does: the turns are counted down from a number that no run uses up.
-fn main() {
+// A proved loop ends, and nothing says that the input does: no run uses up the turns.
+fn main(rt: HostRuntime) -> io::Result<()> {
     if !answer_next() {
-        compare_own();
-        return;
+        return print_own(&rt);
     }
-    let mut turns = u64::MAX;
-    while turns > 0 {
+    for _turn in 0..u64::MAX {
         if !answer_next() {
-            return;
+            break;
         }
-        turns -= 1;
     }
+    Ok(())
 }

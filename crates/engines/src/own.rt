@@ -4,14 +4,13 @@
 ghost use Rattle.std.specs.Prelude.{◌≤◌};
 
 use agreement::compare;
-use branches::branch::{Branch, branch_in, faded_costs};
-use columns::costs::{PLACES, byte_at};
+use branches::branch::{branch_in, faded_costs};
+use candidate::Word;
+use columns::costs::PLACES;
 use encoding::{LEAST_RATE, MOST_RATE};
-use refusals::{ACCEPTED, NONE_NEAR};
-use stream::bytes::{LENT, write, write_byte};
-
-// The descriptor of standard output.
-const STDOUT_FILENO: i32 = 1;
+use refusals::Refusal;
+use std::io;
+use stream::bytes::LENT;
 
 // The bytes of Q.
 const Q_BYTES: usize = 98;
@@ -40,7 +39,7 @@ fn message(from: u64) -> [u8; MOST_RATE] {
     out
 }
 
-fn sent(rate: usize, from: u64) -> [u8; PLACES]
+fn sent(rate: usize, from: u64) -> Word
     requires { rate ≤ 52 }
 {
     let message = message(from);
@@ -54,15 +53,6 @@ fn spread(count: usize) -> [u8; PLACES] {
         out[i] = (i * PLACES / (count % PLACES + 1) % PLACES) as u8;
     }
     out
-}
-
-fn is_in(blanks: &[u8], place: usize) -> bool {
-    for i in 0..blanks.len() {
-        if byte_at(blanks, i) as usize == place {
-            return true;
-        }
-    }
-    false
 }
 
 // One of the wrong places that are left is taken, unless the place is blank.
@@ -87,13 +77,13 @@ fn received(symbol: u8, blank: bool, wrong: usize, number: u64) -> u8 {
 }
 
 // The word with so many wrong places, of those that are not blank, and any symbols at these.
-fn damaged(word: [u8; PLACES], blanks: &[u8], wrong: usize, from: u64) -> [u8; PLACES] {
+fn damaged(word: Word, blanks: &[u8], wrong: usize, from: u64) -> Word {
     let mut out = word;
     let mut left = wrong;
     let mut number = from;
     for i in 0..PLACES {
         let place = i * 27 % PLACES;
-        let blank = is_in(blanks, place);
+        let blank = blanks.contains(&(place as u8));
         number = next(number);
         out[place] = received(word[place], blank, left, number);
         left -= taken(blank, left);
@@ -101,38 +91,21 @@ fn damaged(word: [u8; PLACES], blanks: &[u8], wrong: usize, from: u64) -> [u8; P
     out
 }
 
-fn same(a: [u8; PLACES], b: [u8; PLACES]) -> bool {
-    for place in 0..PLACES {
-        if a[place] != b[place] {
-            return false;
-        }
-    }
-    true
-}
-
-fn sign(number: u8, codeword: [u8; PLACES], beside: Branch) -> u8 {
-    let found = beside.codeword;
-    if beside.number != number {
-        return b'!';
-    }
-    if !same(codeword, found) {
-        return b'!';
-    }
-    match number {
-        ACCEPTED => b'+',
-        NONE_NEAR => b'-',
-        _ => b'!',
+fn sign(answer: Result<(), Refusal>, codeword: Word, beside: Result<Word, Refusal>) -> char {
+    match (answer, beside) {
+        (Ok(()), Ok(found)) if codeword == found => '+',
+        (Err(Refusal::NoneNear), Err(Refusal::NoneNear)) if codeword == [LENT; PLACES] => '-',
+        _ => '!',
     }
 }
 
 // Both calls by name; the tree's columns are the word's, blank at the blank places.
-fn compare_word(rate: usize, word: [u8; PLACES], blanks: &[u8]) {
+fn compare_word(rate: usize, word: Word, blanks: &[u8]) -> char {
     let mut codeword = [LENT; PLACES];
     let mut q = [LENT; Q_BYTES];
     let costs = faded_costs(&word, blanks);
     let both = compare(rate, &costs, &word, blanks, &mut codeword, &mut q);
-    let found = both.found;
-    write_byte(sign(both.number, codeword, branch_in(found)));
+    sign(both.answer, codeword, branch_in(both.found))
 }
 
 // How many places are wrong, where so many more may be blank than are: T is half of that.
@@ -147,12 +120,12 @@ fn wrong_places(spare: usize, turn: usize) -> usize {
 }
 
 // The word of a turn, with these blank places and so many wrong ones.
-fn compare_turn(rate: usize, turn: usize, blanks: &[u8], wrong: usize)
+fn compare_turn(rate: usize, turn: usize, blanks: &[u8], wrong: usize) -> char
     requires { (rate ≤ 52) × (turn ≤ 16) }
 {
     let from = (rate * 16 + turn) as u64;
     let word = damaged(sent(rate, from), blanks, wrong, from + 1000);
-    compare_word(rate, word, blanks);
+    compare_word(rate, word, blanks)
 }
 
 // How many places are blank, of so many that may be.
@@ -168,28 +141,28 @@ fn blank_places(most: usize, turn: usize) -> usize
     }
 }
 
-fn compare_blanks(rate: usize, turn: usize)
+fn compare_blanks(rate: usize, turn: usize) -> char
     requires { (rate ≤ 52) × (turn ≤ 16) }
 {
     let most = MOST_RATE - rate;
     let count = blank_places(most, turn);
     let list = spread(count);
-    compare_turn(rate, turn, &list[..count], wrong_places(most - count, turn));
+    compare_turn(rate, turn, &list[..count], wrong_places(most - count, turn))
 }
 
-fn compare_rate(rate: usize)
+fn print_rate(rt: &impl Print, rate: usize) -> io::Result<()>
     requires { rate ≤ 52 }
 {
-    io::print_decimal(STDOUT_FILENO, rate as u64);
-    write(b" ");
+    print!(rt; "{rate} ")?;
     for turn in 0..16 {
-        compare_blanks(rate, turn);
+        print!(rt; "{}", compare_blanks(rate, turn))?;
     }
-    write(b"\n");
+    println!(rt)
 }
 
-pub fn compare_own() {
-    for rate in LEAST_RATE..MOST_RATE + 1 {
-        compare_rate(rate);
+pub fn print_own(rt: &impl Print) -> io::Result<()> {
+    for rate in LEAST_RATE..=MOST_RATE {
+        print_rate(rt, rate)?;
     }
+    Ok(())
 }

@@ -2,36 +2,30 @@
 // inverse; then the powers of α. What it must print was made by multiplying polynomials.
 #![tactic(auto)]
 
-// The descriptor of standard output.
-const STDOUT_FILENO: i32 = 1;
+ghost use Rattle.std.specs.Iterator.{IsFinite};
 
-fn digit(x: u8) {
-    io::print_hex(STDOUT_FILENO, x as u64, 1);
-}
+use std::io;
 
-fn end_line() {
-    io::write_all(STDOUT_FILENO, b"\n");
-}
-
-fn line(a: u8) {
-    for b in 0..16 {
-        digit(galois::product(a, b));
+// A digit for each symbol, on one line.
+fn print_row<I: Iterator<Item = u8> + Drop>(rt: &impl Print, symbols: I) -> io::Result<()>
+    requires can { I.can_next symbols }
+    requires ends { IsFinite (I.remaining symbols) }
+{
+    for symbol in symbols {
+        print!(rt; "{symbol:x}")?;
     }
-    end_line();
-    for b in 0..16 {
-        digit(galois::product_by_table(a, b));
-    }
-    end_line();
-    digit(galois::inverse(a));
-    end_line();
+    println!(rt)
 }
 
-fn main() {
+fn print_element(rt: &impl Print, a: u8) -> io::Result<()> {
+    print_row(rt, (0..16).map(|b| galois::product(a, b)))?;
+    print_row(rt, (0..16).map(|b| galois::product_by_table(a, b)))?;
+    println!(rt; "{:x}", galois::inverse(a))
+}
+
+fn main(rt: HostRuntime) -> io::Result<()> {
     for a in 0..16 {
-        line(a);
+        print_element(&rt, a)?;
     }
-    for n in 0..15 {
-        digit(galois::power(n));
-    }
-    end_line();
+    print_row(&rt, (0..15).map(galois::power))
 }

@@ -6,6 +6,7 @@ use Prim.Native.Nat.{ℕ, zero, suc, ◌+◌, ◌*◌, ◌/◌, ◌%◌, ◌^◌
 use native.Mathlib.Nat.{mod-eq_of_lt, mod-lt}
 use native.Mathlib.Numerals.{add-one}
 use native.Mathlib.Omega.{arith}
+use Rattle.std.specs.Prelude.{Option, Some, None}
 use lib.Bits.{bit_xor}
 use lib.Dec.{T, eqb, eqb→eq, lit<}
 use lib.ListN.{get_or}
@@ -24,13 +25,18 @@ use Rattle.planes.specs.Lanes.{lane}
 use Rattle.planes.specs.Elements.{element}
 use Rattle.planes.specs.Arrays.{planes_in, element_at, symbol_at, symbol-lt, element-symbol, symbols_of, Carries, product_of, product-element}
 use Rattle.coefficients.specs.Moved.{folded, element-folded}
-use Rattle.guess.specs.Guess.{overall, folded_of, symbol_in, with_bit, SumsOf}
+use Rattle.guess.specs.Guess.{overall, folded_of, symbol_in, with_bit, At, SumsOf}
 use Rattle.guess.specs.declared.Sums.{Sums}
 open K16 use {◌⊕◌, ◌⊗◌}
 
 -- the symbol at a lane is the number of its element
 symbol-value : (a : List ℕ) (p : ℕ) → symbol_at a p ≡ value (element_at a p)
 symbol-value a p = sym (ap value (element-symbol a p) ∙ value-to_f (symbol_at a p) ∙ mod-eq_of_lt (symbol-lt a p))
+
+-- what follows of a number follows where there is none
+pub at-turn : {P Q : ℕ → Type 0} → ((r : ℕ) → P r → Q r) → (o : Option ℕ) → At P o → At Q o
+at-turn f (Some r) h = (h.0, f r h.1)
+at-turn f None h = f (places m16) h
 
 four : {a b c d e f g h : ℕ} → a ≡ e → b ≡ f → c ≡ g → d ≡ h → a ∷ b ∷ c ∷ d ∷ [] ≡ e ∷ f ∷ g ∷ h ∷ []
 four p q r s = cc (p, q, r, s)

@@ -7,12 +7,12 @@ ghost use Rattle.lists.specs.XorSum.{xor_sum};
 ghost use Rattle.galois.specs.Field16.{value};
 ghost use Rattle.family.specs.Member.{m16, places};
 ghost use Rattle.planes.specs.Arrays.{element_at};
-ghost use Rattle.candidate.specs.Ranged.{Ranged};
 ghost use Rattle.guess.specs.Guess.{overall, folded_of, symbol_in, with_bit, SumsOf, PlaceAt, WrongPlace, KnownFirst};
 
 use answer::Answer;
 use answers::{Finding, none_near};
-use candidate::{Word, shown};
+use candidate::rate::Rate;
+use candidate::{Candidate, Word, shown};
 use columns::costs::PLACES;
 use curve::y_at;
 use galois::{inverse, product};
@@ -53,10 +53,8 @@ fn sum_with(word: Word, bit: usize) -> u8
     ensures { result ≡ xor_sum (places m16) (with_bit word bit) }
 {
     let mut out = 0u8;
-    let mut place = 0;
-    while place < PLACES {
+    for place in 0..PLACES {
         out ^= word[place] % 16 * ((place >> bit) % 2) as u8;
-        place += 1;
     }
     out
 }
@@ -65,10 +63,8 @@ fn sum_of(word: Word) -> u8
     ensures { result ≡ xor_sum (places m16) (symbol_in word) }
 {
     let mut out = 0u8;
-    let mut place = 0;
-    while place < PLACES {
-        out ^= word[place];
-        place += 1;
+    for &symbol in &word {
+        out ^= symbol;
     }
     out
 }
@@ -96,49 +92,44 @@ fn sums_of(word: Word) -> Sums
     }
 }
 
-// The place of a point, or 64 where it is none of the curve.
-fn place_at(x: u8, y: u8) -> usize
+// The place of a point of the curve.
+fn place_at(x: u8, y: u8) -> Option<usize>
     ensures { PlaceAt x y result }
 {
     let first = x as usize % 16 * FIBRE;
-    let mut r = 0;
-    while r < FIBRE {
+    for r in 0..FIBRE {
         if y_at(first + r) == y {
-            return first + r;
+            return Some(first + r);
         }
-        r += 1;
     }
-    PLACES
+    None
 }
 
-// The place where a change alone has the sums of the word, or 64: a codeword's are zero, so those of a word with one wrong symbol are the
-// change's. The sums with the squares of x and of y tell most words with more of them.
-fn wrong_place(word: Word, told: Sums) -> usize
+// The place where a change alone has the sums of the word: a codeword's are zero, so those of a word with one wrong symbol are the change's.
+// The sums with the squares of x and of y tell most words with more of them.
+fn wrong_place(word: Word, told: Sums) -> Option<usize>
     requires { SumsOf word told × (0 < told.all) }
     ensures { WrongPlace word told.all result }
 {
     let scale = inverse(told.all);
     let x = product(told.across, scale);
     if product(told.all, product(x, x)) != told.squares {
-        return PLACES;
+        return None;
     }
     let heights = ys();
     let by_y = times(planes(word), heights);
     let y = product(all_of(by_y), scale);
     if product(told.all, product(y, y)) != all_of(times(by_y, heights)) {
-        return PLACES;
+        return None;
     }
     place_at(x, y)
 }
 
 // The codeword that values show, known and not yet asked.
-fn known_of(values: Planes, k: usize) -> Finding
-    requires { Ranged k }
-    ensures { KnownFirst k result }
+fn known_of(values: Planes, rate: Rate) -> Finding
+    ensures { KnownFirst rate.k result }
 {
-    let held = shown(values, k);
-    let message = held.message;
-    let codeword = held.codeword;
+    let Candidate { message, codeword } = shown(values, rate);
     Finding {
         answer: Answer::NoneNear,
         message,
@@ -148,37 +139,32 @@ fn known_of(values: Planes, k: usize) -> Finding
 }
 
 // The word with one wrong symbol mended.
-fn mended(word: Word, told: Sums, k: usize) -> Finding
-    requires { Ranged k × SumsOf word told × (0 < told.all) }
-    ensures { KnownFirst k result }
+fn mended(word: Word, told: Sums, rate: Rate) -> Finding
+    requires { SumsOf word told × (0 < told.all) }
+    ensures { KnownFirst rate.k result }
 {
-    let place = wrong_place(word, told);
-    if PLACES <= place {
+    let Some(place) = wrong_place(word, told) else {
         return none_near();
-    }
+    };
     let mut out = word;
     out[place] ^= told.all;
-    known_of(planes(out), k)
+    known_of(planes(out), rate)
 }
 
 // The sums of a codeword are zero. Where the word is neither one nor one but for a symbol, by these sums, the zero word is known.
-pub fn first_known(word: Word, k: usize) -> Finding
-    requires { Ranged k }
-    ensures { KnownFirst k result }
+pub fn first_known(word: Word, rate: Rate) -> Finding
+    ensures { KnownFirst rate.k result }
 {
     let told = sums_of(word);
     if told.all != 0 {
-        return mended(word, told, k);
+        return mended(word, told, rate);
     }
-    if told.across != 0 {
-        return none_near();
-    }
-    if told.squares != 0 {
+    if told.across != 0 || told.squares != 0 {
         return none_near();
     }
     let values = planes(word);
     if all_of(times(values, ys())) != 0 {
         return none_near();
     }
-    known_of(values, k)
+    known_of(values, rate)
 }

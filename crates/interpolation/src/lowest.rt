@@ -9,12 +9,14 @@ ghost use Rattle.interpolant.specs.LeastQ.{reading_length, reading_of};
 ghost use Rattle.interpolant.specs.Reading.{byte_of};
 ghost use Rattle.interpolation.specs.Reading.{Lowest, Interpolated};
 
-use crate::{LIMIT, PLACES};
+use crate::LIMIT;
+use basis::step::choice;
 use basis::{CLASSES, Leads, Rows};
 use galois::inverse;
 use parts::READING;
 use parts::bytes::scaled;
 use parts::orders::{with_z, without_z};
+use planes::PLACES;
 
 // The coefficient at a key, where no order is above 63.
 fn coefficient(q0: [u8; PLACES], q1: [u8; PLACES], key: usize, m: usize) -> u8
@@ -45,7 +47,7 @@ fn field_equation() -> [u8; READING]
 fn lowest(leads: Leads) -> usize
     ensures { Lowest leads result }
 {
-    basis::step::choice([1; CLASSES], leads)
+    choice([1; CLASSES], leads).unwrap_or(0)
 }
 
 // The row of least lead, divided by its leading coefficient; where all classes are spent, x^16 + x.

@@ -3,27 +3,26 @@ ghost use Rattle.std.specs.Prelude.{◌≡◌, ◌<◌, ◌≤◌, length};
 ghost use Rattle.interpolation.specs.Extending.{ExtendsOwn, Extends};
 
 use basis::step::{choice, discrepancies, moved_rows, next_rows};
-use basis::{CLASSES, Leads, Rows};
+use basis::{Leads, Rows};
 use curve::x_at;
 
 // The basis of the polynomials that vanish at a place too, with the word's own symbol there. Rows and leads are changed where they stand.
 pub fn extend_own(rows: &mut Rows, leads: &mut Leads, limit: usize, place: usize)
-    requires { (length rows.old ≡ 8) × (length leads.old ≡ 8) × (limit ≤ 127) × (place < 64) }
+    requires { (limit ≤ 127) × (place < 64) }
     ensures { ExtendsOwn limit place rows.old leads.old rows.new leads.new }
 {
     let held = *leads;
     let ds = discrepancies(rows, held, limit, place);
-    let at = choice(ds, held);
-    if CLASSES <= at {
+    let Some(at) = choice(ds, held) else {
         return;
-    }
+    };
     leads[at] = held[at] + 8;
     next_rows(rows, ds, at, x_at(place));
 }
 
 // The same with another symbol there, which the word has from then on; the change is the exclusive or of both.
 pub fn extend(rows: &mut Rows, leads: &mut Leads, limit: usize, place: usize, change: u8)
-    requires { (length rows.old ≡ 8) × (length leads.old ≡ 8) × (limit ≤ 127) × (place < 64) }
+    requires { (limit ≤ 127) × (place < 64) }
     ensures { Extends limit place change rows.old leads.old rows.new leads.new }
 {
     if change == 0 {

@@ -3,13 +3,13 @@ ghost use Rattle.std.specs.Prelude.{◌≡◌, ◌<◌, ◌≤◌, length};
 ghost use Rattle.values.specs.Settled.{settled};
 ghost use Rattle.interpolation.specs.Extending.{Stored, ExtendsIf};
 
-use crate::PLACES;
 use crate::node::extend_own;
 use basis::{CLASSES, Leads, Rows};
+use planes::PLACES;
 
 // A place whose flag is not 1 changes nothing.
 fn extend_if(rows: &mut Rows, leads: &mut Leads, limit: usize, place: usize, flag: u8)
-    requires { (length rows.old ≡ 8) × (length leads.old ≡ 8) × (limit ≤ 127) × (place < 64) }
+    requires { (limit ≤ 127) × (place < 64) }
     ensures { ExtendsIf limit place flag rows.old leads.old rows.new leads.new }
 {
     if flag == 1 {
@@ -31,10 +31,8 @@ pub fn settle(
     *leads = crate::start::start_leads(m);
     let mut rows = [[0u64; 8]; CLASSES];
     crate::start::start_rows(&mut rows, m, word);
-    let mut place = 0;
-    while place < PLACES {
+    for place in 0..PLACES {
         extend_if(&mut rows, leads, limit, place, flags[place]);
-        place += 1;
     }
     rows
 }

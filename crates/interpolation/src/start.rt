@@ -4,13 +4,12 @@ ghost use Rattle.lists.specs.Listed.{listed};
 ghost use Rattle.hermitian.specs.Keys.{first};
 ghost use Rattle.interpolation.specs.Start.{YPowers, StartRow, Started};
 
-use crate::PLACES;
 use basis::{CLASSES, Leads, Rows};
-use planes::Planes;
 use planes::constants::{spread, ys};
 use planes::lanes::times;
 use planes::rows::{Row, joined};
 use planes::words::planes;
+use planes::{PLACES, Planes};
 
 // 1, y, y^2 and y^3 at all places.
 fn y_powers() -> [Planes; 4]
@@ -36,15 +35,12 @@ fn start_row(r: usize, m: usize, powers: [Planes; 4], symbols: Planes) -> Row
 
 // They are laid where the rows stand.
 pub fn start_rows(rows: &mut Rows, m: usize, word: [u8; PLACES])
-    requires { length rows.old ≡ 8 }
     ensures { Started m word rows.old rows.new }
 {
     let powers = y_powers();
     let symbols = planes(word);
-    let mut r = 0;
-    while r < CLASSES {
+    for r in 0..CLASSES {
         rows[r] = start_row(r, m, powers, symbols);
-        r += 1;
     }
 }
 
@@ -63,10 +59,8 @@ pub fn start_leads(m: usize) -> Leads
     ensures { result ≡ listed 8 (first 4 m) }
 {
     let mut out = [0usize; CLASSES];
-    let mut r = 0;
-    while r < CLASSES {
+    for r in 0..CLASSES {
         out[r] = start_lead(r, m);
-        r += 1;
     }
     out
 }

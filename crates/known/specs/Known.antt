@@ -1,7 +1,5 @@
 -- A known codeword in document 01's modem, as the family has it, of the structs.
 --
---   left_of undecided       the doubtful places that a node has still to decide
---   Fits undecided         at most twelve places are doubtful, and no more are left
 --   filled_of c word ps     the word with the symbols of c at the places ps
 --   governs_of k counts b known word ps   whether the known codeword is so close to the word, by the flags of the places that count and the number
 --                          of the others, that no other can be near
@@ -9,10 +7,9 @@
 --   WithinOf k counts b …  what counting the test words within T of c below a node finds
 --   known_total columns known   the total of the known codeword
 --   answer_here columns known tests   what is found where tests of the test words are within T of the known codeword, and no other codeword is near
-use Rattle.std.specs.Prelude.{Bool, List, ℕ, ◌-◌, ◌≤◌, take, drop}
+use Rattle.std.specs.Prelude.{Bool, List, ℕ}
 use Rattle.soft.specs.Blank.{flag_at}
 use Rattle.soft.specs.Column.{places}
-use Rattle.soft.specs.Doubt.{most_doubt}
 use Rattle.family.specs.Member.{m16}
 use Rattle.near.specs.Governing as Governing
 use Rattle.near.specs.Written as Written
@@ -20,13 +17,6 @@ use Rattle.near.specs.Choices as Choices
 use Rattle.search.specs.Known as Family
 use Rattle.answers.specs.declared.Finding.{Finding}
 use Rattle.answers.specs.Result.{fields_of, finding_of}
-use Rattle.known.specs.declared.Undecided.{Undecided}
-
-abbrev pub left_of : Undecided → List ℕ
-left_of u = drop (u.doubt - u.left) (take u.doubt u.doubtful)
-
-abbrev pub Fits : Undecided → Type 0
-Fits u = (u.doubt ≤ most_doubt) × (u.left ≤ u.doubt)
 
 abbrev pub filled_of : List ℕ → List ℕ → List ℕ → List ℕ
 filled_of c word ps = Governing.filled_of places c word ps

@@ -2,68 +2,50 @@
 // is near, and the answer there. It knows of no rows and no basis.
 #![tactic(auto)]
 
-ghost use Rattle.std.specs.Prelude.{◌&&◌, ◌≡◌, ◌≤◌, eqb};
-ghost use Rattle.lists.specs.Count.{bit};
+ghost use Rattle.std.specs.Prelude.{◌&&◌, ◌≡◌, ◌≤◌, eqb, length};
 ghost use Rattle.lists.specs.Choices.{choices_of};
 ghost use Rattle.soft.specs.Column.{symbols, column_of};
 ghost use Rattle.soft.specs.Doubt.{most_doubt};
-ghost use Rattle.near.specs.Here.{blank_limit};
 ghost use Rattle.near.specs.Choices.{closer_of};
-ghost use Rattle.candidate.specs.Ranged.{Ranged};
-ghost use Rattle.known.specs.Known.{left_of, Fits, filled_of, governs_of, closest_test, agreeing_in, WithinOf, known_total, answer_here};
+ghost use Rattle.known.specs.Known.{filled_of, governs_of, closest_test, agreeing_in, WithinOf, known_total, answer_here};
 
-use answer::{Answer, Margin};
+use answer::Answer;
 use answers::{Finding, missed};
-use candidate::rate::{least_distance, reach};
+use candidate::open::Open;
 use candidate::{Word, distance};
 use columns::column::{best, second};
 use columns::costs::{PLACES, SYMBOLS, column_of};
-use doubt::MOST_DOUBT;
 use totals::total::total;
 
-// The doubtful places that a node has still to decide: of the first `doubt` in the list the last `left`.
+// The doubtful places that a node has still to decide, in the order in which they are decided.
 #[derive(Clone, Copy)]
-pub struct Undecided {
-    pub doubtful: [u8; MOST_DOUBT],
-    pub doubt: usize,
-    pub left: usize,
+pub struct Undecided<'a> {
+    pub places: &'a [u8],
+    ghost few: { length places.now ≤ most_doubt },
 }
 
-// The word with the codeword's symbols at the doubtful places left.
-fn filled(codeword: Word, word: Word, undecided: Undecided) -> Word
-    requires { Fits undecided }
-    ensures { result ≡ filled_of codeword word (left_of undecided) }
+// The word with the codeword's symbols at some places.
+fn filled(codeword: Word, word: Word, places: &[u8]) -> Word
+    ensures { result ≡ filled_of codeword word places.now }
 {
-    let doubtful = undecided.doubtful;
-    let doubt = undecided.doubt;
     let mut out = word;
-    let mut i = doubt - undecided.left;
-    while i < doubt {
-        let place = doubtful[i] as usize % PLACES;
+    for &p in places {
+        let place = p as usize % PLACES;
         out[place] = codeword[place];
-        i += 1;
     }
     out
 }
 
-// Is no other codeword than the known one within T of any test word below a node? Of the places that count, those with the flag 1, two codewords
-// differ in at least 64 - M without the blank ones; and the known one differs from such a test word only in decided places in which it differs
-// from the word, and in places left.
-pub fn governs(
-    known: Finding,
-    word: Word,
-    k: usize,
-    undecided: Undecided,
-    counts: [u8; PLACES],
-    blanks: usize,
-) -> bool
-    requires { Ranged k × Fits undecided × (blanks ≤ blank_limit k) }
-    ensures { result ≡ governs_of k counts blanks known word (left_of undecided) }
+// Is no other codeword than the known one within T of any test word below a node? Of the places that count, two codewords differ in at least
+// 64 - M without the blank ones; and the known one differs from such a test word only in decided places in which it differs from the word, and in
+// places left.
+pub fn governs(known: Finding, word: Word, counted: &Open, undecided: Undecided<'_>) -> bool
+    ensures { result ≡ governs_of counted.now.rate.k counted.now.counts counted.now.blanks known word undecided.entry.places.now }
 {
-    let codeword = known.codeword;
-    let agreed = filled(codeword, word, undecided);
-    let apart = distance(codeword, agreed, counts) + undecided.left + reach(k, blanks);
-    apart < least_distance(k) - blanks
+    let places = undecided.places;
+    let agreed = filled(known.codeword, word, places);
+    let apart = distance(known.codeword, agreed, counted.counts) + places.len() + counted.reach();
+    apart < counted.least_distance()
 }
 
 // Of the best and the second symbol of a column the given one, if it is one of them, and the best otherwise.
@@ -82,48 +64,33 @@ fn closer(symbol: u8, column: [u16; SYMBOLS]) -> u8
 }
 
 // The test word below a node that differs least from the codeword.
-fn closest(codeword: Word, word: Word, costs: &[u16], undecided: Undecided) -> Word
-    requires { Fits undecided }
-    ensures { result ≡ closest_test (column_of symbols costs.now) codeword word (left_of undecided) }
+fn closest(codeword: Word, word: Word, costs: &[u16], places: &[u8]) -> Word
+    ensures { result ≡ closest_test (column_of symbols costs.now) codeword word places.now }
 {
-    let doubtful = undecided.doubtful;
-    let doubt = undecided.doubt;
     let mut out = word;
-    let mut i = doubt - undecided.left;
-    while i < doubt {
-        let place = doubtful[i] as usize % PLACES;
+    for &p in places {
+        let place = p as usize % PLACES;
         out[place] = closer(codeword[place], column_of(costs, place));
-        i += 1;
     }
     out
 }
 
-// 1 for a place that counts, where two words have the same symbol, and 0 for any other.
-fn agrees(flag: u8, symbol: u8, other: u8) -> usize
-    ensures { (result ≡ bit (eqb flag 1 && eqb symbol other)) × (result ≤ 1) }
+// Whether a place counts, by its flag, and two words have the same symbol there.
+fn agrees(flag: u8, symbol: u8, other: u8) -> bool
+    ensures { result ≡ (eqb flag 1 && eqb symbol other) }
 {
-    if flag != 1 {
-        return 0;
-    }
-    if symbol != other {
-        return 0;
-    }
-    1
+    flag == 1 && symbol == other
 }
 
-// At how many of the doubtful places left, of those that count, the word has the codeword's symbol.
-fn agreeing(codeword: Word, word: Word, undecided: Undecided, counts: [u8; PLACES]) -> usize
-    requires { Fits undecided }
-    ensures { result ≡ agreeing_in counts codeword word (left_of undecided) }
+// At how many of some places, of those that count, the word has the codeword's symbol.
+fn agreeing(codeword: Word, word: Word, places: &[u8], counts: [u8; PLACES]) -> usize
+    ensures number { result ≡ agreeing_in counts codeword word places.now }
+    ensures few { result ≤ length places.now }
 {
-    let doubtful = undecided.doubtful;
-    let doubt = undecided.doubt;
     let mut n = 0;
-    let mut i = doubt - undecided.left;
-    while i < doubt {
-        let place = doubtful[i] as usize % PLACES;
-        n += agrees(counts[place], codeword[place], word[place]);
-        i += 1;
+    for &p in places {
+        let place = p as usize % PLACES;
+        n += usize::from(agrees(counts[place], codeword[place], word[place]));
     }
     n
 }
@@ -135,11 +102,9 @@ fn choices(m: usize, most: usize) -> usize
 {
     let mut exactly = 1;
     let mut sum = 1;
-    let mut i = 0;
-    while i < most {
+    for i in 0..most {
         exactly = exactly * (m - i) / (i + 1);
         sum += exactly;
-        i += 1;
     }
     sum
 }
@@ -150,43 +115,35 @@ pub fn tests_within(
     codeword: Word,
     word: Word,
     costs: &[u16],
-    k: usize,
-    undecided: Undecided,
-    counts: [u8; PLACES],
-    blanks: usize,
+    counted: &Open,
+    undecided: Undecided<'_>,
 ) -> usize
-    requires { Ranged k × Fits undecided × (blanks ≤ blank_limit k) }
-    ensures { WithinOf k counts blanks (column_of symbols costs.now) codeword word (left_of undecided) undecided.left result }
+    ensures { WithinOf counted.now.rate.k counted.now.counts counted.now.blanks (column_of symbols costs.now) codeword word undecided.entry.places.now
+        (length undecided.entry.places.now) result }
 {
-    let left = undecided.left;
-    let nearest = closest(codeword, word, costs, undecided);
-    let apart = distance(codeword, nearest, counts);
-    let most = reach(k, blanks);
+    let places = undecided.places;
+    let nearest = closest(codeword, word, costs, places);
+    let apart = distance(codeword, nearest, counted.counts);
+    let most = counted.reach();
     if most < apart {
         return 0;
     }
-    let agreed = agreeing(codeword, nearest, undecided, counts);
+    let agreed = agreeing(codeword, nearest, places, counted.counts);
     let spare = most - apart;
     if agreed <= spare {
-        return 1 << left;
+        return 1 << places.len();
     }
-    choices(agreed, spare) << (left - agreed)
+    choices(agreed, spare) << (places.len() - agreed)
 }
 
 // The total of the known codeword: it stands in the answer, where there is one.
 fn known_total(known: Finding, costs: &[u16]) -> u32
     ensures { result ≡ known_total (column_of symbols costs.now) known }
 {
-    let answer = known.answer;
-    let Answer::Near {
-        total: due,
-        margin: _,
-    } = answer
-    else {
-        let codeword = known.codeword;
-        return total(costs, &codeword);
-    };
-    due
+    match known.answer {
+        Answer::Near { total, .. } => total,
+        Answer::NoneNear => total(costs, &known.codeword),
+    }
 }
 
 // The known codeword as the answer of the test words below a node, where so many of them are within T of it and no other is near. So it has
@@ -197,15 +154,12 @@ pub fn as_answer_here(known: Finding, tests: usize, costs: &[u16]) -> Finding
     if tests == 0 {
         return missed(known);
     }
-    let message = known.message;
-    let codeword = known.codeword;
     Finding {
         answer: Answer::Near {
             total: known_total(known, costs),
-            margin: Margin::Absent,
+            margin: None,
         },
-        message,
-        codeword,
         tests,
+        ..known
     }
 }

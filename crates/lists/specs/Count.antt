@@ -1,6 +1,7 @@
 -- Sums of numbers over the numbers below a bound, how many of those pass a test, and which they are.
 --
 --   bit b            1 for a test that passes, 0 for one that fails
+--   from_bit         a test as a number, as the library converts it
 --   sum_of n f        f 0 + f 1 + … + f (n − 1)
 --   count n f        how many numbers below n pass the test f
 --   kept n f         the numbers below n that pass it, rising
@@ -18,6 +19,7 @@ use mathlib.Core.List.{List, [], ◌∷◌, ◌++◌, append-nil, Memᴰ}
 use Rattle.std.proofs.Math.Nat.{le_step}
 use Rattle.std.proofs.Math.ListN.{get_or-append}
 use Rattle.std.proofs.lemmas.List.{get_or_at}
+use Rattle.std.specs.Int.{from_bool}
 use Rattle.lists.specs.Member.{member-at}
 
 abbrev pub bit : Bool → ℕ
@@ -27,6 +29,10 @@ bit false = 0
 pub bit_le : (b : Bool) → bit b ≤ 1
 bit_le true = omega arith
 bit_le false = omega arith
+
+pub from_bit : {n : ℕ} (b : Bool) → n ≡ from_bool b → (n ≡ bit b) × (n ≤ 1)
+from_bit true e = (e, omega (arith, e))
+from_bit false e = (e, omega (arith, e))
 
 unfoldable pub sum_of : ℕ → (ℕ → ℕ) → ℕ
 sum_of zero f = 0

@@ -4,6 +4,7 @@
 --   over-same        two lists of one length: nothing of into is left
 --   over-short       into is not longer than from: from's first entries
 --   over-entries     the entries of from, one by one, as far as both lists go
+--   over-front       as many entries of from as both lists have, and the rest of into
 use Rattle.std.specs.Prelude.{◌≡◌, ℕ, min, ◌≤◌, get_or}
 use Rattle.std.proofs.Math.Path.{sym, ap, ap₂}
 use Rattle.std.proofs.Common.{◌∙◌, drop_of_length-le, take_all}
@@ -25,10 +26,11 @@ module _ {A : Type 0} where
   pub over-same : (from into : List A) → length into ≡ length from → over from into ≡ from
   over-same from into e = over-short from into (omega arith) ∙ ap (λ n. take n from) e ∙ take-length from
 
-  pub over-entries : (d : A) (from into : List A) (n : ℕ) → n ≡ min (length from) (length into)
-      → listed n (λ k. get_or from k d) ++ drop n into ≡ over from into
+  -- its front may be given by an equation
+  pub over-front : (from into front : List A) (n : ℕ) → n ≡ min (length from) (length into) → front ≡ take n from
+      → front ++ drop n into ≡ over from into
   unfolding over
-  over-entries d from into n e = ap (λ (r : List A). r ++ drop n into) (listed-take n from d (omega arith)) ∙ go (dec_le (length from) (length into))
+  over-front from into front n e f = ap (λ (l : List A). l ++ drop n into) f ∙ go (dec_le (length from) (length into))
     where
       go : Dec (length from ≤ length into) → take n from ++ drop n into ≡ take (length into) from ++ drop (length from) into
       go (yes h) =
@@ -38,3 +40,7 @@ module _ {A : Type 0} where
           let q : n ≡ length into = omega arith in
           ap₂ (λ (a b : List A). a ++ b) (ap (λ k. take k from) q)
           (drop_of_length-le into {i = n} (omega arith) ∙ sym (drop_of_length-le into {i = length from} (omega arith)))
+
+  pub over-entries : (d : A) (from into : List A) (n : ℕ) → n ≡ min (length from) (length into)
+      → listed n (λ k. get_or from k d) ++ drop n into ≡ over from into
+  over-entries d from into n e = over-front from into (listed n (λ k. get_or from k d)) n e (listed-take n from d (omega arith))

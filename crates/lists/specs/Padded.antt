@@ -8,11 +8,13 @@
 --   padded-take      a list with room is read back from the front
 --   padded-rest      behind the list stand zeros
 --   padded-over      it is the list written over zeros
+--   padded-same      a list as long as the array is itself
 use Rattle.std.specs.Prelude.{Bool, true, false, cond, ◌≡◌, refl, List, [], ◌∷◌, ◌++◌, ℕ, zero, suc, ◌<◌, ◌≤◌, length, set, take, drop, replicate}
 use Rattle.std.proofs.Common.{sym, ap, ◌∙◌, append-nil, le_of_suc-le-suc, arith}
 use Rattle.std.proofs.Math.Decide.{dec_le}
 use Rattle.std.proofs.Math.Seq.{set_out}
-use Rattle.lists.specs.Over.{over}
+use Rattle.std.proofs.lemmas.List.{length-replicate}
+use Rattle.lists.specs.Over.{over, over-same}
 
 unfoldable pub padded : ℕ → List ℕ → List ℕ
 padded zero [] = []
@@ -81,3 +83,6 @@ padded-if w l x at true e = go (dec_le w at)
     go : Dec (w ≤ at) → set (padded w l) at x ≡ padded w (l ++ (x ∷ []))
     go (yes h) = set_out (padded w l) at x (omega (arith, padded-length w l)) ∙ sym (padded-full w l (x ∷ []) (omega arith))
     go (no h) = ap (λ n. set (padded w l) n x) e ∙ padded-snoc w l x (omega arith)
+
+pub padded-same : (w : ℕ) (l : List ℕ) → length l ≡ w → padded w l ≡ l
+padded-same w l e = sym (padded-over w l) ∙ over-same l (replicate w 0) (length-replicate {A = ℕ} w 0 ∙ sym e)

@@ -4,7 +4,7 @@
 --   search-below           either no number below n passes, or one of them is smallest
 --   smallest-exists        where one below n passes, one of them is smallest
 --   smallest-kept, smallest-replaced   with one more number: the smallest stays, or the new one is smaller
-use Rattle.std.specs.Prelude.{◌≡◌, ◌⊎◌, ℕ, zero, suc, ◌<◌, ◌≤◌}
+use Rattle.std.specs.Prelude.{◌⊎◌, ℕ, zero, suc, ◌<◌, ◌≤◌}
 use Rattle.std.proofs.Common.{sym, subst, inl, inr, ⊎_elim, le_refl, lt-suc_self, eq-or-lt_of_le, le_of_suc-le-suc, le_trans, arith}
 use Rattle.std.proofs.Math.Nat.{le_step}
 use Rattle.std.proofs.Math.Decide.{dec_le}

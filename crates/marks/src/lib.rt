@@ -14,8 +14,8 @@ ghost use Rattle.summary.specs.Summary.{SummaryOf};
 ghost use Rattle.weighing.specs.Low.{above, excess_by, GapBy, below_by, sum_below};
 ghost use Rattle.marks.specs.Low.{Gaps, Splits, LowSum, clear_of, Markable};
 
-use columns::bit::bit;
-use columns::costs::{PLACES, byte_at, cost_of};
+use columns::costs::{PLACES, cost_of};
+use lists::entry_or;
 use summary::Summary;
 use totals::total::changed;
 
@@ -29,11 +29,7 @@ fn over(costs: &[u16], word: &[u8], place: usize, flag: u8, least: u16) -> u32
     if flag != 1 {
         return 0;
     }
-    let cost = cost_of(costs, place, byte_at(word, place));
-    if cost < least {
-        return 0;
-    }
-    (cost - least) as u32
+    cost_of(costs, place, entry_or(word, place, 0)).saturating_sub(least) as u32
 }
 
 // What the changed places together cost over their best costs.
@@ -72,7 +68,7 @@ fn count_below(gaps: [u32; PLACES], limit: u32) -> usize
 {
     let mut n = 0u32;
     for place in 0..PLACES {
-        n += bit(gaps[place] < limit) as u32;
+        n += u32::from(gaps[place] < limit);
     }
     n as usize
 }
@@ -121,7 +117,8 @@ fn next_width(below: usize, few: usize, width: u32, half: u32) -> u32
     width - half
 }
 
-// A number that at most so few gaps are below, and at least so few up to: their part of the numbers is halved again and again.
+// A number that at most so few gaps are below, and at least so few up to: their part of the numbers is halved again and again, so that no index
+// is counted.
 fn threshold(gaps: [u32; PLACES], few: usize) -> u32
     requires { few ≤ below_by places above gaps }
     ensures { Splits gaps few result }

@@ -9,6 +9,8 @@ ghost use Rattle.book64.specs.Here.{table_of, bits_of, table_below_of};
 ghost use Rattle.superframe.specs.Superframe.{build_of, taken, taken_of};
 ghost use Rattle.captures.specs.Calls.{filled, decode_capture_of, sort_capture_of, make_capture_of};
 
+use refusals::number_of;
+
 #[unsafe(no_mangle)]
 pub extern "C" fn hermitian_encode(
     rate: usize,
@@ -18,14 +20,14 @@ pub extern "C" fn hermitian_encode(
 ) -> u8
     ensures { outcome result frame.new ≡ encode_call rate message.now frame.old start }
 {
-    encoding::encode(rate, message, frame, start)
+    number_of(encoding::encode(rate, message, frame, start))
 }
 
 #[unsafe(no_mangle)]
 pub extern "C" fn hermitian_read_back(rate: usize, word: &[u8], message: &mut [u8]) -> u8
     ensures { outcome result message.new ≡ read_back_call rate word.now message.old }
 {
-    reading_back::read_back(rate, word, message)
+    number_of(reading_back::read_back(rate, word, message))
 }
 
 #[unsafe(no_mangle)]
@@ -38,7 +40,7 @@ pub extern "C" fn hermitian_decode_table(
 ) -> u8
     ensures { closed result message.new report.new ≡ table_of rate table.now doubt message.old report.old }
 {
-    table_decoding::decode_table(rate, table, doubt, message, report)
+    number_of(table_decoding::decode_table(rate, table, doubt, message, report))
 }
 
 // A signed byte of the frame is its byte in two's complement.
@@ -52,7 +54,7 @@ pub extern "C" fn hermitian_decode_bits(
 ) -> u8
     ensures { closed result message.new report.new ≡ bits_of rate frame.now doubt message.old report.old }
 {
-    bit_decoding::decode_bits(rate, frame, doubt, message, report)
+    number_of(bit_decoding::decode_bits(rate, frame, doubt, message, report))
 }
 
 #[unsafe(no_mangle)]
@@ -66,14 +68,14 @@ pub extern "C" fn hermitian_decode_table_below(
 ) -> u8
     ensures { closed result message.new report.new ≡ table_below_of rate table.now threshold most message.old report.old }
 {
-    threshold_decoding::decode_table_below(rate, table, threshold, most, message, report)
+    number_of(threshold_decoding::decode_table_below(rate, table, threshold, most, message, report))
 }
 
 #[unsafe(no_mangle)]
 pub extern "C" fn hermitian_build_superframe(rate: usize, messages: &[u8], frame: &mut [u8]) -> u8
     ensures { outcome result frame.new ≡ build_of rate messages.now frame.old }
 {
-    superframe::building::build(rate, messages, frame)
+    number_of(superframe::building::build(rate, messages, frame))
 }
 
 // The status is written in any case, 0 where the call is refused.
@@ -85,9 +87,16 @@ pub extern "C" fn hermitian_take_superframe_apart(
 ) -> u8
     ensures { taken result status.new messages.new ≡ taken_of frame.now messages.old }
 {
-    let answer = taking_apart::take_apart(frame, messages);
-    *status = answer.status;
-    answer.refusal
+    match taking_apart::take_apart(frame, messages) {
+        Ok(named) => {
+            *status = named;
+            0
+        }
+        Err(refusal) => {
+            *status = 0;
+            refusal.into()
+        }
+    }
 }
 
 #[unsafe(no_mangle)]
@@ -98,14 +107,14 @@ pub extern "C" fn hermitian_decode_capture(
 ) -> u8
     ensures { closed result message.new report.new ≡ decode_capture_of capture.now message.old report.old }
 {
-    captures::decode_capture(capture, message, report)
+    number_of(captures::decode_capture(capture, message, report))
 }
 
 #[unsafe(no_mangle)]
 pub extern "C" fn hermitian_sort_capture(capture: &[u8], sorted: &mut [u8]) -> u8
     ensures { filled result sorted.new ≡ sort_capture_of capture.now sorted.old }
 {
-    captures::sort_capture(capture, sorted)
+    number_of(captures::sort_capture(capture, sorted))
 }
 
 #[unsafe(no_mangle)]
@@ -117,5 +126,5 @@ pub extern "C" fn hermitian_make_capture(
 ) -> u8
     ensures { filled result capture.new ≡ make_capture_of rate doubtful.now table.now capture.old }
 {
-    captures::make_capture(rate, doubtful, table, capture)
+    number_of(captures::make_capture(rate, doubtful, table, capture))
 }

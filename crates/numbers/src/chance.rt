@@ -1,8 +1,8 @@
-// How seldom noise alone is taken for a codeword, as it was reckoned and not proved: of all words of 64 symbols fewer than one in 10 to this
-// power is within T of a codeword, where T is that of the rate with no place blank. tests/statement reckons it anew, in whole numbers.
-ghost use Rattle.std.specs.Prelude.{◌<◌};
-ghost use Rattle.candidate.specs.Ranged.{Ranged};
+// How seldom noise alone is taken for a codeword, where the rate has no place blank. tests/statement reckons it anew, in whole numbers.
+ghost use Rattle.numbers.specs.Chance.{Seldom};
+ghost use Rattle.numbers.specs.Most.{Most};
 
+use candidate::rate::Rate;
 use encoding::LEAST_RATE;
 
 // From the smallest rate on.
@@ -11,9 +11,9 @@ const POWERS_OF_TEN: [usize; 47] = [
     16, 16, 15, 16, 15, 15, 14, 15, 14, 15, 13, 14, 13, 14, 13, 14, 13, 14, 13, 15, 13, 15, 14,
 ];
 
-pub fn chance(k: usize) -> usize
-    requires { Ranged k }
+// Of all words of 64 symbols at most one in 10 to this power is within T of a codeword, by the sum of what lies within T of each.
+pub fn chance(rate: Rate) -> usize
+    ensures { Most (Seldom rate.k) result }
 {
-    let powers = POWERS_OF_TEN;
-    powers[k - LEAST_RATE]
+    POWERS_OF_TEN[rate.k - LEAST_RATE]
 }

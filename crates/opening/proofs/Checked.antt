@@ -20,7 +20,7 @@ use Rattle.book64.specs.captures.Versions.{misfit-refused, suited-opens}
 use Rattle.book.proofs.sentences.Sentences.{opening-only}
 use Rattle.book.specs.rows.AlikeDelivery.{agreed-path, agreed-trans, row-alike}
 use Rattle.book64.specs.Here.{places, open_of, deliver_row}
-use Rattle.session.specs.declared.Opened.{Opened}
+use Rattle.session.specs.Calls.{Ending}
 use Rattle.session.specs.View.{book_of}
 use Rattle.session.specs.Calls.{refused_with, opened_of, Opening}
 use Rattle.session.specs.Laws.{refused-opens, opens}
@@ -99,7 +99,7 @@ module _ (bytes : List ℕ) where
             let known = (opening-only modem64 (rate_in bytes) list (sym (opens (rate_in bytes) list).number ∙ n)).0 in
             rw (misfit-refused bytes sized versioned measured m known) (refused-opens wrong_doubt)
 
-        pub delivering : (rest : List ℕ) (r : Opened) → (opened_of (rate_in bytes) list).refusal ≡ accepted
+        pub delivering : (rest : List ℕ) (r : Ending) → (opened_of (rate_in bytes) list).refusal ≡ accepted
             → version_in bytes ≡ version_of (doubt_in bytes)
             → rest ≡ take (length bytes - (5 + doubt_in bytes)) (drop (5 + doubt_in bytes) bytes)
             → Opening (deliver_row (book_of (opened_of (rate_in bytes) list).session) (records_of places rest)) r

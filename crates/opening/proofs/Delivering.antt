@@ -12,7 +12,7 @@ use Rattle.book64.specs.Here.{places, width, deliver_row}
 use Rattle.book.specs.rows.AlikeDelivery.{Agreed, agreed-path, agreed-trans}
 use Rattle.soft.specs.Column.{costs_from}
 use Rattle.session.specs.declared.Session.{Session}
-use Rattle.session.specs.declared.Delivered.{Delivered}
+use Rattle.session.specs.Calls.{Ending}
 use Rattle.session.specs.View.{book_of, Good}
 use Rattle.session.specs.Calls.{refused_with, Opening, Delivery}
 use Rattle.capture.specs.Rest.{rest-first}
@@ -47,7 +47,7 @@ whole start records = deliver_row (book_of start) (records_of places records)
 abbrev left : Session → List ℕ → ℕ → Outcome
 left current records i = deliver_row (book_of current) (records_of (places - i) (drop (record_length * i) records))
 
-module _ (start current : Session) (records column : List ℕ) (i : ℕ) (r : Delivered) (h : i < places) (good : Good current)
+module _ (start current : Session) (records column : List ℕ) (i : ℕ) (r : Ending) (h : i < places) (good : Good current)
     (same : Agreed (whole start records) (left current records i))
     (read : column ≡ costs_from width (take (record_length * i + record_length - (record_length * i + 1)) (drop (record_length * i + 1) records)))
     (d : Delivery current (get_or records (record_length * i) 0) column r) where

@@ -7,70 +7,57 @@ ghost use Rattle.book64.specs.captures.Capture.{records_of, record_length};
 ghost use Rattle.book64.specs.captures.CaptureOpening.{open_capture_of};
 ghost use Rattle.book64.specs.Here.{places, deliver_row};
 ghost use Rattle.session.specs.View.{book_of, Good};
-ghost use Rattle.session.specs.Calls.{Opening};
+ghost use Rattle.session.specs.Calls.{started, Opening};
 
 use capture::{
     BODY_AT, BODY_BYTES, DOUBT_AT, HEAD_BYTES, LEAST_BYTES, LENGTH_HIGH_AT, LENGTH_LOW_AT,
     MOST_BYTES, RATE_AT, RECORD_BYTES, VERSION_AT, is_version, version_of,
 };
 use columns::costs::PLACES;
-use session::{Opened, Session};
+use refusals::Refusal;
+use session::Session;
 
 // The 64 records delivered in their order, up to the first that is refused.
-fn deliver_records(opened: Session, records: &[u8]) -> Opened
+fn deliver_records(opened: Session, records: &[u8]) -> Result<Session, Refusal>
     requires { Good opened × (length records.now ≡ record_length * places) }
-    ensures { Opening (deliver_row (book_of opened) (records_of places records.now)) result }
+    ensures { Opening (deliver_row (book_of opened) (records_of places records.now)) (started result) }
 {
     let mut current = opened;
-    let mut i = 0;
-    while i < PLACES {
+    for i in 0..PLACES {
         let at = RECORD_BYTES * i;
         let place = records[at] as usize;
-        let column = columns::costs::column_from(&records[at + 1..at + RECORD_BYTES]);
-        let delivered = session::deliver(current, place, column);
-        let number = delivered.refusal;
-        if number != refusals::ACCEPTED {
-            return session::refused(number);
-        }
-        current = delivered.session;
-        i += 1;
+        let column = columns::costs::costs_from(&records[at + 1..at + RECORD_BYTES]);
+        session::deliver(&mut current, place, column)?;
     }
-    Opened {
-        refusal: refusals::ACCEPTED,
-        session: current,
-    }
+    Ok(current)
 }
 
-pub fn open_capture(bytes: &[u8]) -> Opened
-    ensures { Opening (open_capture_of bytes.now) result }
+pub fn open_capture(bytes: &[u8]) -> Result<Session, Refusal>
+    ensures { Opening (open_capture_of bytes.now) (started result) }
 {
     if bytes.len() < LEAST_BYTES {
-        return session::refused(refusals::WRONG_LENGTH);
+        return Err(Refusal::WrongLength);
     }
     if MOST_BYTES < bytes.len() {
-        return session::refused(refusals::WRONG_LENGTH);
+        return Err(Refusal::WrongLength);
     }
     let version = bytes[VERSION_AT];
     if !is_version(version) {
-        return session::refused(refusals::WRONG_VERSION);
+        return Err(Refusal::WrongVersion);
     }
-    let length = 256 * (bytes[LENGTH_HIGH_AT] as usize) + bytes[LENGTH_LOW_AT] as usize;
+    let length = u16::from_be_bytes([bytes[LENGTH_HIGH_AT], bytes[LENGTH_LOW_AT]]) as usize;
     let doubt = bytes[DOUBT_AT] as usize;
     if length + BODY_AT != bytes.len() {
-        return session::refused(refusals::WRONG_LENGTH);
+        return Err(Refusal::WrongLength);
     }
     if length != BODY_BYTES + doubt {
-        return session::refused(refusals::WRONG_LENGTH);
+        return Err(Refusal::WrongLength);
     }
     let start = HEAD_BYTES + doubt;
     let suited = version_of(doubt);
-    let opened = session::open(bytes[RATE_AT] as usize, &bytes[HEAD_BYTES..start]);
-    let refusal = opened.refusal;
-    if refusal != refusals::ACCEPTED {
-        return session::refused(refusal);
-    }
+    let opened = session::open(bytes[RATE_AT] as usize, &bytes[HEAD_BYTES..start])?;
     if version != suited {
-        return session::refused(refusals::WRONG_DOUBT);
+        return Err(Refusal::WrongDoubt);
     }
-    deliver_records(opened.session, &bytes[start..])
+    deliver_records(opened, &bytes[start..])
 }

@@ -17,9 +17,7 @@ pub fn sixteen(word: [u8; 64], from: usize) -> u64
     ensures { result ≡ sixteen_of from word }
 {
     let mut out = 0u64;
-    let mut i = 16usize;
-    while 0 < i {
-        i -= 1;
+    for i in (0..16).rev() {
         out = out * 2 + bits_apart(word[from + i]);
     }
     out

@@ -30,10 +30,8 @@ pub fn scaled(q0: [u8; PLACES], q1: [u8; PLACES], by: u8) -> [u8; READING]
     ensures { (M : ℕ) → result ≡ listed reading_length (byte_of M (scale K16 (to_f by) (polynomial_of M q0 q1))) }
 {
     let mut out = [0u8; READING];
-    let mut i = 0;
-    while i < READING {
+    for i in 0..READING {
         out[i] = product(by, shown(q0, q1, i));
-        i += 1;
     }
     out
 }

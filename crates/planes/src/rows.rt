@@ -30,6 +30,7 @@ pub fn joined(whole: Planes, slope: Planes) -> Row
     ]
 }
 
+// As in `lanes`, written out: one operation a line, where a length as a parameter would need a loop and what it keeps.
 fn sum(a: Row, b: Row) -> Row
     ensures { result ≡ row_sum a b }
 {

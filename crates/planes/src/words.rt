@@ -46,15 +46,13 @@ pub fn symbols(a: Planes) -> [u8; PLACES]
     ensures { result ≡ word_of a }
 {
     let mut out = [0u8; PLACES];
-    let mut x = 0;
-    while x < 16 {
+    for x in 0..16 {
         let four = four(a, x);
         let place = x * 4;
         out[place] = (four % 256) as u8;
         out[place + 1] = (four / 256 % 256) as u8;
         out[place + 2] = (four / 65536 % 256) as u8;
         out[place + 3] = (four / 16777216 % 256) as u8;
-        x += 1;
     }
     out
 }

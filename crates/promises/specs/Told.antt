@@ -48,9 +48,8 @@ use Rattle.book.specs.tables.Table as Table
 use Rattle.book64.specs.captures.Writing.{write_of}
 use Rattle.book64.specs.Here.{places, width, mark_in, mark-byte, columns_of, close_of, table_columns, picked_of, picked_below, table_of, table_below_of, frame_length, power, table_made, bits_of, checks_of, AreColumns}
 use Rattle.session.specs.declared.Session.{Session}
-use Rattle.session.specs.declared.Opened.{Opened}
 use Rattle.session.specs.Answering.{Closing}
-use Rattle.session.specs.Calls.{Opening}
+use Rattle.session.specs.Calls.{Ending, Opening}
 use Rattle.session.specs.View.{held, book_of, Good}
 use Rattle.calls.specs.Held as Fields
 use Rattle.calls.specs.HeldLaws.{columns-table}
@@ -235,7 +234,7 @@ by_closing {s} {message} {report} {message'} {report'} {r} c small =
 pub by-look-up : {bytes part : List ℕ} {p : ℕ} → part ≡ look_up_of bytes p → below 256 bytes ≡ true → ColumnTold bytes p part
 by-look-up {bytes} {part} {p} e small = subst (ColumnTold bytes p) (sym e) (column-told bytes p small)
 
-pub by_opening : {bytes before after : List ℕ} {r : ℕ} {o : Opened} → Opening (open_capture_of bytes) o → Writing o.session before r after
+pub by_opening : {bytes before after : List ℕ} {r : ℕ} {o : Ending} → Opening (open_capture_of bytes) o → Writing o.session before r after
     → below 256 bytes ≡ true → WrittenAgain bytes before r after
 by_opening {bytes} {before} {after} {r} {o} d w small =
     record {

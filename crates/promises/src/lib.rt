@@ -4,8 +4,10 @@
 #![tactic(auto)]
 
 ghost use Rattle.book.specs.tables.Table.{closed};
+ghost use Rattle.refusals.specs.Numbers.{number_of};
 ghost use Rattle.promises.specs.Told.{TableTold, BelowTold, BitsTold, SessionTold, ColumnTold, WrittenAgain};
 
+use refusals::Refusal;
 use session::Session;
 
 pub fn decode_table(
@@ -14,8 +16,8 @@ pub fn decode_table(
     doubt: usize,
     message: &mut [u8],
     report: &mut [u8],
-) -> u8
-    ensures { TableTold rate table.now doubt message.old report.old (closed result message.new report.new) }
+) -> Result<(), Refusal>
+    ensures { TableTold rate table.now doubt message.old report.old (closed (number_of result) message.new report.new) }
 {
     ranges::bytes(table);
     table_decoding::decode_table(rate, table, doubt, message, report)
@@ -28,8 +30,8 @@ pub fn decode_table_below(
     most: usize,
     message: &mut [u8],
     report: &mut [u8],
-) -> u8
-    ensures { BelowTold rate table.now threshold most message.old report.old (closed result message.new report.new) }
+) -> Result<(), Refusal>
+    ensures { BelowTold rate table.now threshold most message.old report.old (closed (number_of result) message.new report.new) }
 {
     ranges::bytes(table);
     threshold_decoding::decode_table_below(rate, table, threshold, most, message, report)
@@ -41,14 +43,14 @@ pub fn decode_bits(
     doubt: usize,
     message: &mut [u8],
     report: &mut [u8],
-) -> u8
-    ensures { BitsTold rate frame.now doubt message.old report.old (closed result message.new report.new) }
+) -> Result<(), Refusal>
+    ensures { BitsTold rate frame.now doubt message.old report.old (closed (number_of result) message.new report.new) }
 {
     bit_decoding::decode_bits(rate, frame, doubt, message, report)
 }
 
-pub fn close(session: Session, message: &mut [u8], report: &mut [u8]) -> u8
-    ensures { SessionTold session message.old report.old (closed result message.new report.new) }
+pub fn close(session: Session, message: &mut [u8], report: &mut [u8]) -> Result<(), Refusal>
+    ensures { SessionTold session message.old report.old (closed (number_of result) message.new report.new) }
 {
     let table = session.costs;
     ranges::costs(&table);
@@ -62,11 +64,11 @@ pub fn look_up<'a>(capture: &'a [u8], place: usize) -> &'a [u8]
     look_up::look_up(capture, place)
 }
 
-// The two calls one after the other.
-pub fn write_again(capture: &[u8], out: &mut [u8]) -> u8
-    ensures { WrittenAgain capture.now out.old result out.new }
+// The two calls one after the other; the second writes what the first leaves, refused or not.
+pub fn write_again(capture: &[u8], out: &mut [u8]) -> Result<(), Refusal>
+    ensures { WrittenAgain capture.now out.old (number_of result) out.new }
 {
     ranges::bytes(capture);
-    let opened = opening::open_capture(capture);
-    writing::write_capture(opened.session, out)
+    let opened = opening::open_capture(capture).unwrap_or(session::fresh());
+    writing::write_capture(opened, out)
 }

@@ -5,14 +5,15 @@
 ghost use Rattle.std.specs.Prelude.{◌≡◌};
 ghost use Rattle.lists.specs.Listed.{listed};
 ghost use Rattle.book64.specs.Here.{places};
+ghost use Rattle.refusals.specs.Numbers.{number_of};
 ghost use Rattle.session.specs.Answering.{Reading};
 ghost use Rattle.reading.specs.Flags.{flag_of, read_flag};
 
+use columns::costs::PLACES;
 use doubt::MOST_DOUBT;
-use interpolation::PLACES;
 use lists::copy;
 use parts::READING;
-use refusals::{ACCEPTED, UNKNOWN_RATE, WRONG_DOUBT, WRONG_SIZE};
+use refusals::Refusal;
 use session::Session;
 
 // M above the rate: a message of k symbols uses the orders up to k + 5.
@@ -38,28 +39,26 @@ fn flags(taken: [bool; PLACES], doubtful: &[u8], counts: [u8; PLACES]) -> [u8; P
     ensures { result ≡ listed places (read_flag taken doubtful.now counts) }
 {
     let mut out = [0u8; PLACES];
-    let mut place = 0;
-    while place < PLACES {
+    for place in 0..PLACES {
         out[place] = flag(taken[place], doubtful, place, counts[place]);
-        place += 1;
     }
     out
 }
 
 // Only a session record that was built by hand meets a refusal after the first.
-pub fn read_interpolant(session: Session, out: &mut [u8]) -> u8
-    ensures { Reading session out.old result out.new }
+pub fn read_interpolant(session: Session, out: &mut [u8]) -> Result<(), Refusal>
+    ensures { Reading session out.old (number_of result) out.new }
 {
     if out.len() != READING {
-        return WRONG_SIZE;
+        return Err(Refusal::WrongSize);
     }
     let rate = session.rate as usize;
     if !encoding::known_rate(rate) {
-        return UNKNOWN_RATE;
+        return Err(Refusal::UnknownRate);
     }
     let doubt = session.doubt;
     if MOST_DOUBT < doubt {
-        return WRONG_DOUBT;
+        return Err(Refusal::WrongDoubt);
     }
     let taken = session.taken;
     let doubtful = session.doubtful;
@@ -69,5 +68,5 @@ pub fn read_interpolant(session: Session, out: &mut [u8]) -> u8
     let settled = flags(taken, &doubtful[..doubt], counts);
     let bytes = interpolation::lowest::reading(word, settled, rate + M_ABOVE_RATE);
     copy(&bytes, out);
-    ACCEPTED
+    Ok(())
 }

@@ -2,54 +2,51 @@
 // a blank place, which is not interpolated: it is the new session's.
 #![tactic(auto)]
 
-use io::print_decimal;
+ghost use Rattle.std.specs.Prelude.{◌≤◌};
+
+use anyhow::Result;
+use refusals::{Refusal, number_of};
 use session::Session;
+use std::io;
 
-// The descriptor of standard output.
-const STDOUT_FILENO: i32 = 1;
-
-fn show(n: u64) {
-    print_decimal(STDOUT_FILENO, n);
-    io::write_all(STDOUT_FILENO, b" ");
-}
-
-fn show_byte(byte: u8) {
-    show(byte as u64);
-}
-
-fn show_reading(from: Session) {
-    let mut out = [255u8; 98];
-    show_byte(reading::read_interpolant(from, &mut out));
-    for i in 0..98 {
-        show_byte(out[i]);
+fn print_reading(rt: &impl Print, from: Session) -> io::Result<()> {
+    let mut out = [255; 98];
+    print!(rt; "{} ", number_of(reading::read_interpolant(from, &mut out)))?;
+    for byte in out {
+        print!(rt; "{byte} ")?;
     }
-    io::write_all(STDOUT_FILENO, b"\n");
+    println!(rt)
 }
 
 // Cost 0 for one symbol, 9 for the others.
 fn column(best: usize) -> [u16; 16] {
-    let mut out = [9u16; 16];
+    let mut out = [9; 16];
     out[best % 16] = 0;
     out
 }
 
-fn settled(count: usize) -> Session {
-    let mut held = session::open(39, b"").session;
-    for place in 0..64 {
-        if place < count {
-            held = session::deliver(held, place, column(place * 7)).session;
-        }
+// A session with the first so many places settled.
+fn settled(count: usize) -> Result<Session, Refusal>
+    requires { count ≤ 64 }
+{
+    let mut held = session::open(39, b"")?;
+    for place in 0..count {
+        session::deliver(&mut held, place, column(place * 7))?;
     }
-    held
+    Ok(held)
 }
 
-fn faded() -> Session {
-    session::deliver(session::open(39, b"").session, 0, [9u16; 16]).session
+// A new session with place 0 blank.
+fn faded() -> Result<Session, Refusal> {
+    let mut held = session::open(39, b"")?;
+    session::deliver(&mut held, 0, [9; 16])?;
+    Ok(held)
 }
 
-fn main() {
-    show_reading(settled(0));
-    show_reading(settled(1));
-    show_reading(settled(64));
-    show_reading(faded());
+fn main(rt: HostRuntime) -> Result<()> {
+    print_reading(&rt, settled(0)?)?;
+    print_reading(&rt, settled(1)?)?;
+    print_reading(&rt, settled(64)?)?;
+    print_reading(&rt, faded()?)?;
+    Ok(())
 }

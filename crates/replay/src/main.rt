@@ -8,57 +8,35 @@ use session::Session;
 use stream::bytes::{MOST_BYTES, number, read};
 use stream::replies::answer;
 
-// The session after a call, and whether there was one.
-#[derive(Clone, Copy)]
-struct Turn {
-    called: bool,
-    session: Session,
-}
-
-fn ended(current: Session) -> Turn {
-    Turn {
-        called: false,
-        session: current,
-    }
-}
-
-// Reads a call's arguments into the space given for them, and answers it.
-fn answer_next(current: Session, letter: u8, arguments: &mut [u8]) -> Turn {
+// Reads a call's arguments into the space given for them, and answers it: the session that it leaves, or none where the input ends.
+fn answer_next(current: Session, letter: u8, arguments: &mut [u8]) -> Option<Session> {
     let length = arguments.len();
     if read(arguments) < length {
-        return ended(current);
+        return None;
     }
-    let left = answer(current, letter, arguments);
-    Turn {
-        called: true,
-        session: left,
-    }
+    Some(answer(current, letter, arguments))
 }
 
-fn next_call(current: Session) -> Turn {
+fn next_call(current: Session) -> Option<Session> {
     let mut head = [0u8; 3];
     if read(&mut head) < 3 {
-        return ended(current);
+        return None;
     }
     let length = number(head[1], head[2]);
     if MOST_BYTES < length {
-        return ended(current);
+        return None;
     }
     let mut arguments = io::buffer();
     answer_next(current, head[0], &mut arguments[..length])
 }
 
-// A proved loop ends, and nothing says that the input does: the turns are counted down from a number that no run uses up.
+// A proved loop ends, and nothing says that the input does: no run has as many turns as there are here.
 fn main() {
-    let new = session::refused(refusals::ACCEPTED);
-    let mut current = new.session;
-    let mut turns = u64::MAX;
-    while turns > 0 {
-        let turn = next_call(current);
-        if !turn.called {
-            return;
+    let mut current = session::fresh();
+    for _ in 0..u64::MAX {
+        match next_call(current) {
+            Some(left) => current = left,
+            None => return,
         }
-        current = turn.session;
-        turns -= 1;
     }
 }

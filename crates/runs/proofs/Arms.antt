@@ -8,11 +8,11 @@ use Rattle.book64.specs.calls.Calls.{deliver, reading, writing, closing, withdra
 use Rattle.session.specs.declared.Session.{Session}
 use Rattle.runs.specs.declared.Kind.{Kind}
 use Rattle.runs.specs.declared.Kind.TheVariants.{Deliver, Read, Write, Close, Withdraw}
-use Rattle.runs.specs.declared.Stepped.{Stepped}
+use Rattle.session.specs.Calls.{Ending}
 use Rattle.runs.specs.Step.{Step, answer_with}
 use Rattle.runs.specs.Stepping.{call_of, step_answer, Spared, Stepping}
 
-module _ {kind : Kind} {s : Session} {place : ℕ} {column first second : List ℕ} {r : Stepped} where
+module _ {kind : Kind} {s : Session} {place : ℕ} {column first second : List ℕ} {r : Ending} where
   pub by_delivery : kind ≡ Deliver → Step s (deliver place column) (answer_with r.refusal [] []) r.session
       → Stepping kind s place column first second r first second
   unfolding call_of step_answer Spared

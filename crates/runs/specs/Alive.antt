@@ -14,14 +14,13 @@ use Rattle.book64.proofs.calls.Calls.{others64}
 use Rattle.book64.specs.Here.{report_length, open_of}
 use Rattle.calls.proofs.Alive as any
 use Rattle.session.specs.declared.Session.{Session}
-use Rattle.session.specs.declared.Opened.{Opened}
 use Rattle.session.specs.View.{keeping}
-use Rattle.session.specs.Calls.{Opening}
+use Rattle.session.specs.Calls.{Ending, Opening}
 use Rattle.runs.specs.Step.{Step}
 use Rattle.runs.specs.Runs.{Run}
 
 pub record Answered (rate : ℕ) (m message report : List ℕ) : Type 0 where
-  pub opened : Opened
+  pub opened : Ending
   pub opening : Opening (open_of rate []) opened
   pub calls : List Call
   pub many : length calls ≡ 64

@@ -32,9 +32,8 @@ use Rattle.book64.specs.calls.CallLaws.{AllFit}
 use Rattle.book64.specs.calls.Undone.{Spares}
 use Rattle.book64.proofs.calls.Undone.{accepted_of}
 use Rattle.session.specs.declared.Session.{Session}
-use Rattle.session.specs.declared.Opened.{Opened}
 use Rattle.session.specs.View.{keeping, book_of, Good}
-use Rattle.session.specs.Calls.{Opening}
+use Rattle.session.specs.Calls.{Ending, Opening}
 use Rattle.runs.specs.Step.{Step}
 use Rattle.runs.specs.Runs.{Run}
 use Rattle.runs.specs.Follows.{closed_by, blanks_after, ReachAfter, ByCapture, Start, start-stands, CaptureStarts, capture-starts}
@@ -49,7 +48,7 @@ pub data ClosedAfter (book : Book) (calls : List Call) (a : Answer) : Type 0 whe
 pub record Demand3 : Type 0 where
   -- 'For every rate and every strictly rising list of up to 8 doubtful places, none above 63, opening accepts;' document 02: 'Demand 3 is read with
   -- lists of up to 12 places'
-  pub opening_accepts : {rate : ℕ} {list : List ℕ} {r : Opened} → Rate rate → DoubtfulList list → Opening (open_of rate list) r
+  pub opening_accepts : {rate : ℕ} {list : List ℕ} {r : Ending} → Rate rate → DoubtfulList list → Opening (open_of rate list) r
       → r.refusal ≡ accepted
   -- document 02: 'The rate becomes any k from 6 to 52'
   pub rates : (rate : ℕ) → Rate rate ↔ ((6 ≤ rate) × (rate ≤ 52))
@@ -97,7 +96,7 @@ pub record Demand3 : Type 0 where
       → IsAnswer (after_all book calls) T (closed_by a)
   -- document 01: 'opening an accepted capture counts as opening with its rate and list and then delivering its records in their order': it is one of
   -- the openings (Start) of which all of this is said
-  pub captures : {bytes : List ℕ} {r : Opened} → ByCapture bytes r → r.refusal ≡ accepted → CaptureStarts bytes r
+  pub captures : {bytes : List ℕ} {r : Ending} → ByCapture bytes r → r.refusal ≡ accepted → CaptureStarts bytes r
   -- document 01: 'Only an accepted delivery changes the book. A refused call leaves its buffers as they were.' Of document 02 an accepted withdrawal does, too
   pub only_changes : (book : Book) (call : Call)
       → (after book call ≡ book)
@@ -117,11 +116,11 @@ pub record Demand3 : Type 0 where
   pub in_order : {book : Book} {s t : Session} {calls : List Call} {given : List Answer} → Start book s → Run s calls given t
       → {out : List ℕ} {a : Answer} {u : Session} → Step t (writing out) a u → a.number ≡ accepted → InPlaceOrder (records_in a.first)
   -- 'and writing what was read from an accepted capture returns it unchanged exactly if it is in place order'
-  pub unchanged : {bytes out : List ℕ} {r : Opened} {a : Answer} {u : Session} → ByCapture bytes r
+  pub unchanged : {bytes out : List ℕ} {r : Ending} {a : Answer} {u : Session} → ByCapture bytes r
       → r.refusal ≡ accepted → Step r.session (writing out) a u → length out ≡ length bytes
       → (a.number ≡ accepted) × ((a.first ≡ bytes) ↔ InPlaceOrder (records_in bytes))
   -- document 02: 'Captures in other orders are still read, but are written back in place order': each place with its column
-  pub written_back : (bytes : List ℕ) {out : List ℕ} {r : Opened} {a : Answer} {u : Session} → ByCapture bytes r
+  pub written_back : (bytes : List ℕ) {out : List ℕ} {r : Ending} {a : Answer} {u : Session} → ByCapture bytes r
       → r.refusal ≡ accepted → Step r.session (writing out) a u → length out ≡ length bytes
       → (p : ℕ) → column_in (records_in a.first) p ≡ column_in (records_in bytes) p
   -- document 02: 'A delivery shall be undone: … the session answers and reads as if that delivery, and every call refused since, had never been made. It need

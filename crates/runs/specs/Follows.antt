@@ -36,9 +36,8 @@ use Rattle.book64.proofs.calls.CallLaws.{rate-held}
 use Rattle.book64.specs.captures.Captured.{deliveries}
 use Rattle.book64.proofs.captures.Captured.{capture-opens, capture-costs}
 use Rattle.session.specs.declared.Session.{Session}
-use Rattle.session.specs.declared.Opened.{Opened}
 use Rattle.session.specs.View.{keeping}
-use Rattle.session.specs.Calls.{Opening}
+use Rattle.session.specs.Calls.{Ending, Opening}
 use Rattle.calls.specs.Follows as any
 use Rattle.calls.proofs.Follows as any-laws
 use Rattle.calls.proofs.Follows.{new-rate}
@@ -60,20 +59,20 @@ ReachAfter book calls T = IsReach book.rate (blanks_after book calls) T
 abbrev pub capture_book : List ℕ → Book
 capture_book bytes = after_all (new_book (rate_in bytes) (list_in bytes)) (deliveries (records_in bytes))
 
-pub record ByCapture (bytes : List ℕ) (r : Opened) : Type 0 where
+pub record ByCapture (bytes : List ℕ) (r : Ending) : Type 0 where
   pub opening : Opening (open_capture_of bytes) r
   pub small : below 256 bytes ≡ true
 
 pub data Start : Book → Session → Type 0 where
-  by_opening : {rate : ℕ} {list : List ℕ} {r : Opened} → Rate rate → DoubtfulList list → Opening (open_of rate list) r
+  by_opening : {rate : ℕ} {list : List ℕ} {r : Ending} → Rate rate → DoubtfulList list → Opening (open_of rate list) r
       → Start (new_book rate list) r.session
-  by_capture : {r : Opened} (bytes : List ℕ) → Rate (rate_in bytes) → ByCapture bytes r → r.refusal ≡ accepted
+  by_capture : {r : Ending} (bytes : List ℕ) → Rate (rate_in bytes) → ByCapture bytes r → r.refusal ≡ accepted
       → Start (capture_book bytes) r.session
 
 abbrev pub Stands : Book → Session → Type 0
 Stands book s = any.Stands modem64 keeping book s
 
-capture-stands : {r : Opened} (bytes : List ℕ) → Rate (rate_in bytes) → ByCapture bytes r → r.refusal ≡ accepted
+capture-stands : {r : Ending} (bytes : List ℕ) → Rate (rate_in bytes) → ByCapture bytes r → r.refusal ≡ accepted
     → Stands (capture_book bytes) r.session
 capture-stands bytes known opened n =
     let o : (open_capture_of bytes).number ≡ accepted = sym opened.opening.number ∙ n in
@@ -102,13 +101,13 @@ start-follows start = any-laws.stands-follows modem64 keeping others64 (start-st
 pub one_start : {book : Book} {s t : Session} → Start book s → Start book t → s ≡ t
 one_start a b = any-laws.one-stands modem64 keeping (start-stands a) (start-stands b)
 
-pub record CaptureStarts (bytes : List ℕ) (r : Opened) : Type 0 where
+pub record CaptureStarts (bytes : List ℕ) (r : Ending) : Type 0 where
   pub rate : Rate (rate_in bytes)
   pub list : DoubtfulList (list_in bytes)
   pub records : (a : Answer) → Memᴰ a (answers (new_book (rate_in bytes) (list_in bytes)) (deliveries (records_in bytes))) → a.number ≡ accepted
   pub start : Start (capture_book bytes) r.session
 
-pub capture-starts : {bytes : List ℕ} {r : Opened} → ByCapture bytes r → r.refusal ≡ accepted → CaptureStarts bytes r
+pub capture-starts : {bytes : List ℕ} {r : Ending} → ByCapture bytes r → r.refusal ≡ accepted → CaptureStarts bytes r
 capture-starts {bytes} opened n =
     let c = capture-opens bytes (sym opened.opening.number ∙ n) in
     let k = opening-only modem64 (rate_in bytes) (list_in bytes) c.opened in

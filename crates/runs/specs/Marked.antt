@@ -15,9 +15,8 @@ use Rattle.book64.proofs.calls.Calls.{others64, after_all}
 use Rattle.calls.proofs.Marked as any
 use Rattle.book64.specs.Here.{open_of, DoubtfulList, RowColumns, mark_in, mark-byte, CheapestIn}
 use Rattle.session.specs.declared.Session.{Session}
-use Rattle.session.specs.declared.Opened.{Opened}
 use Rattle.session.specs.View.{keeping, book_of, Good}
-use Rattle.session.specs.Calls.{Opening}
+use Rattle.session.specs.Calls.{Ending, Opening}
 use Rattle.runs.specs.Step.{Step}
 use Rattle.runs.specs.Runs.{Run}
 use Rattle.runs.specs.Follows.{closed_by, capture_book, ByCapture, Start, by_opening, start-stands, capture-starts}
@@ -31,13 +30,13 @@ pub run-marked : {book : Book} {s : Session} → Start book s → {calls : List 
     → a.number ≡ accepted → mark_in a.second ≡ 1 → CheapestIn (after_all book calls) (closed_by a)
 run-marked start run {a = a} step n mark = any.run-marked others64 keeping (start-stands start) run step n (mark-byte a.second ∙ mark)
 
-pub opened-marked : {rate : ℕ} {list : List ℕ} {r : Opened} → Rate rate → DoubtfulList list → Opening (open_of rate list) r
+pub opened-marked : {rate : ℕ} {list : List ℕ} {r : Ending} → Rate rate → DoubtfulList list → Opening (open_of rate list) r
     → {calls : List Call} {given : List Answer} {t : Session} → Run r.session calls given t
     → {message report : List ℕ} {a : Answer} {u : Session} → Step t (closing message report) a u → a.number ≡ accepted
     → mark_in a.second ≡ 1 → CheapestIn (after_all (new_book rate list) calls) (closed_by a)
 opened-marked known doubtful opened run step n mark = run-marked (by_opening known doubtful opened) run step n mark
 
-pub capture-marked : {r : Opened} (bytes : List ℕ) → ByCapture bytes r → r.refusal ≡ accepted
+pub capture-marked : {r : Ending} (bytes : List ℕ) → ByCapture bytes r → r.refusal ≡ accepted
     → {calls : List Call} {given : List Answer} {t : Session} → Run r.session calls given t
     → {message report : List ℕ} {a : Answer} {u : Session} → Step t (closing message report) a u → a.number ≡ accepted
     → mark_in a.second ≡ 1 → CheapestIn (after_all (capture_book bytes) calls) (closed_by a)

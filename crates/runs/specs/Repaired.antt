@@ -33,9 +33,8 @@ use Rattle.calls.proofs.Repaired as any-laws
 use Rattle.book.proofs.sentences.Repairs.{few-alone}
 use Rattle.book64.specs.Here.{open_of, columns_of, Missing, report_length, DoubtfulList, FewWrong, FewDoubtful, Alone, not_best, TooFar, Repaired, NoDearer, Sure, RefusedAs, Never}
 use Rattle.session.specs.declared.Session.{Session}
-use Rattle.session.specs.declared.Opened.{Opened}
 use Rattle.session.specs.View.{keeping}
-use Rattle.session.specs.Calls.{Opening}
+use Rattle.session.specs.Calls.{Ending, Opening}
 use Rattle.runs.specs.Step.{Step}
 use Rattle.runs.specs.Runs.{Run}
 use Rattle.runs.specs.Follows.{closed_by, Follows, blanks_after, ReachAfter, capture_book, ByCapture, start-follows, start-rate, capture-starts}
@@ -79,7 +78,7 @@ Full rate list calls = any.Full others64 rate list calls
 abbrev pub columns_after : ℕ → List ℕ → List Call → ℕ → List ℕ
 columns_after rate list calls = any.columns_after others64 rate list calls
 
-module _ {rate : ℕ} (known : Rate rate) {r : Opened} {calls : List Call} {given : List Answer} {t : Session} {message report : List ℕ}
+module _ {rate : ℕ} (known : Rate rate) {r : Ending} {calls : List Call} {given : List Answer} {t : Session} {message report : List ℕ}
     {a : Answer} {u : Session} (step : Step t (closing message report) a u) (long : length message ≡ rate) (whole_report : length report ≡ report_length)
     (m : List ℕ) where
   pub run-repaired : Opening (open_of rate []) r → Run r.session calls given t → Full rate [] calls
@@ -120,7 +119,7 @@ module _ {rate : ℕ} (known : Rate rate) {r : Opened} {calls : List Call} {give
 
 -- ---- a session opened by an accepted capture
 
-module _ (bytes : List ℕ) {r : Opened} (opened : ByCapture bytes r) (taken : r.refusal ≡ accepted) {calls : List Call}
+module _ (bytes : List ℕ) {r : Ending} (opened : ByCapture bytes r) (taken : r.refusal ≡ accepted) {calls : List Call}
     {given : List Answer} {t : Session} (run : Run r.session calls given t) {message report : List ℕ} {a : Answer} {u : Session}
     (step : Step t (closing message report) a u) (long : length message ≡ (capture_book bytes).rate) (whole_report : length report ≡ report_length)
     (full : (p : ℕ) → Missing (after_all (capture_book bytes) calls).row p → ⊥) {T : ℕ} (reach : ReachAfter (capture_book bytes) calls T) (m : List ℕ) where

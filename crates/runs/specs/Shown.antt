@@ -30,9 +30,8 @@ use Rattle.book64.specs.Here.{open_of, DoubtfulList, RowColumns, ReportedIn}
 use Rattle.book64.specs.readings.ReadingSentences.{Reads}
 use Rattle.book64.proofs.readings.ReadingSentences.{reading-least}
 use Rattle.session.specs.declared.Session.{Session}
-use Rattle.session.specs.declared.Opened.{Opened}
 use Rattle.session.specs.View.{keeping, book_of, Good}
-use Rattle.session.specs.Calls.{Opening}
+use Rattle.session.specs.Calls.{Ending, Opening}
 use Rattle.session.specs.Laws.{good-proper}
 use Rattle.runs.specs.Step.{Step}
 use Rattle.runs.specs.Runs.{Run}
@@ -80,20 +79,20 @@ module _ {book : Book} {s : Session} (start : Start book s) {calls : List Call} 
   pub run-writes : {out : List ℕ} {a : Answer} {u : Session} → Step t (writing out) a u → a.number ≡ accepted → InPlaceOrder (records_in a.first)
   run-writes step n = step-writes good step n
 
-pub opened-shows : {rate : ℕ} {list : List ℕ} {r : Opened} → Rate rate → DoubtfulList list → Opening (open_of rate list) r
+pub opened-shows : {rate : ℕ} {list : List ℕ} {r : Ending} → Rate rate → DoubtfulList list → Opening (open_of rate list) r
     → {calls : List Call} {given : List Answer} {t : Session} → Run r.session calls given t
     → {message report : List ℕ} {a : Answer} {u : Session} → Step t (closing message report) a u → a.number ≡ accepted
     → ReportedIn (after_all (new_book rate list) calls) (closed_by a)
 opened-shows known doubtful opened run step n = run-shows (by_opening known doubtful opened) run step n
 
-pub capture-shows : {r : Opened} (bytes : List ℕ) → ByCapture bytes r → r.refusal ≡ accepted
+pub capture-shows : {r : Ending} (bytes : List ℕ) → ByCapture bytes r → r.refusal ≡ accepted
     → {calls : List Call} {given : List Answer} {t : Session} → Run r.session calls given t
     → {message report : List ℕ} {a : Answer} {u : Session} → Step t (closing message report) a u → a.number ≡ accepted
     → ReportedIn (after_all (capture_book bytes) calls) (closed_by a)
 capture-shows bytes opened n run step m = run-shows (capture-starts {bytes = bytes} opened n).start run step m
 
 -- writing what an accepted capture opened as
-pub capture-written : {bytes out : List ℕ} {r : Opened} {a : Answer} {u : Session} → ByCapture bytes r
+pub capture-written : {bytes out : List ℕ} {r : Ending} {a : Answer} {u : Session} → ByCapture bytes r
     → r.refusal ≡ accepted → Step r.session (writing out) a u → length out ≡ length bytes
     → (a.number ≡ accepted) × ((a.first ≡ bytes) ↔ InPlaceOrder (records_in bytes))
 unfolding any.answer
@@ -108,7 +107,7 @@ capture-written {bytes} {out} opened n step long =
     )
 
 -- and each place is written back with its column
-pub capture-back : (bytes : List ℕ) {out : List ℕ} {r : Opened} {a : Answer} {u : Session} → ByCapture bytes r
+pub capture-back : (bytes : List ℕ) {out : List ℕ} {r : Ending} {a : Answer} {u : Session} → ByCapture bytes r
     → r.refusal ≡ accepted → Step r.session (writing out) a u → length out ≡ length bytes
     → (p : ℕ) → column_in (records_in a.first) p ≡ column_in (records_in bytes) p
 unfolding any.answer

@@ -17,10 +17,8 @@ use Rattle.book64.proofs.calls.Calls.{others64}
 use Rattle.book64.specs.Here.{width, IsColumn}
 use Rattle.calls.specs.Step as any
 use Rattle.session.specs.declared.Session.{Session}
-use Rattle.session.specs.declared.Delivered.{Delivered}
-use Rattle.session.specs.declared.Withdrawn.{Withdrawn}
 use Rattle.session.specs.View.{keeping}
-use Rattle.session.specs.Calls.{Delivery, Withdrawal}
+use Rattle.session.specs.Calls.{Ending, Delivery, Withdrawal}
 use Rattle.session.specs.Answering.{Reading, Closing}
 use Rattle.capture.specs.Calls.{Writing}
 unfoldable pub use Rattle.calls.specs.Step.{changes}
@@ -33,11 +31,11 @@ Step s call a t = any.Step others64 keeping s call a t
 pub typed-column : (column : List ℕ) → length column ≡ width → below 65536 column ≡ true → IsColumn column
 typed-column = any.typed-column modem64
 
-pub delivery-step : {s : Session} {p : ℕ} {column : List ℕ} {r : Delivered} → Delivery s p column r → IsColumn column
+pub delivery-step : {s : Session} {p : ℕ} {column : List ℕ} {r : Ending} → Delivery s p column r → IsColumn column
     → Step s (deliver p column) (answer_with r.refusal [] []) r.session
 delivery-step d column = any.delivery-step others64 keeping d column
 
-pub withdrawal-step : {s : Session} {p : ℕ} {r : Withdrawn} → Withdrawal s p r → Step s (withdraw p) (answer_with r.refusal [] []) r.session
+pub withdrawal-step : {s : Session} {p : ℕ} {r : Ending} → Withdrawal s p r → Step s (withdraw p) (answer_with r.refusal [] []) r.session
 withdrawal-step w = any.withdrawal-step others64 keeping w
 
 pub reading_step : {s : Session} {out out' : List ℕ} {n : ℕ} → Reading s out n out' → Step s (reading out) (answer_with n out' []) s

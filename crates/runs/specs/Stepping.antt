@@ -11,7 +11,7 @@ use Rattle.book64.specs.calls.Calls.{Call, deliver, reading, writing, closing, w
 use Rattle.session.specs.declared.Session.{Session}
 use Rattle.runs.specs.declared.Kind.{Kind}
 use Rattle.runs.specs.declared.Kind.TheVariants.{Deliver, Read, Write, Close, Withdraw}
-use Rattle.runs.specs.declared.Stepped.{Stepped}
+use Rattle.session.specs.Calls.{Ending}
 use Rattle.runs.specs.Step.{Step, answer_with}
 
 unfoldable pub call_of : Kind → ℕ → List ℕ → List ℕ → List ℕ → Call
@@ -35,6 +35,6 @@ Spared Write first second first' second' = second' ≡ second
 Spared Close first second first' second' = Unit
 Spared Withdraw first second first' second' = (first' ≡ first) × (second' ≡ second)
 
-pub record Stepping (kind : Kind) (s : Session) (place : ℕ) (column first second : List ℕ) (r : Stepped) (first' second' : List ℕ) : Type 0 where
+pub record Stepping (kind : Kind) (s : Session) (place : ℕ) (column first second : List ℕ) (r : Ending) (first' second' : List ℕ) : Type 0 where
   pub made : Step s (call_of kind place column first second) (step_answer kind r.refusal first' second') r.session
   pub spared : Spared kind first second first' second'

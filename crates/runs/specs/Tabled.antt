@@ -29,9 +29,8 @@ use Rattle.book64.specs.Here.{places, open_of, table_length, table_columns, pick
 use Rattle.calls.specs.Tabled as any
 use Rattle.calls.proofs.Tabled as any-laws
 use Rattle.session.specs.declared.Session.{Session}
-use Rattle.session.specs.declared.Opened.{Opened}
 use Rattle.session.specs.View.{keeping}
-use Rattle.session.specs.Calls.{Opening}
+use Rattle.session.specs.Calls.{Ending, Opening}
 use Rattle.runs.specs.Step.{Step}
 use Rattle.runs.specs.Runs.{Run}
 use Rattle.runs.specs.Follows.{closed_by}
@@ -63,7 +62,7 @@ brings-holds brings rate list = any-laws.brings-holds others64 brings rate list
 
 -- ---- the claim
 
-module _ {rate : ℕ} (known : Rate rate) (table : List ℕ) (whole : length table ≡ table_length) (doubt : ℕ) (few : doubt ≤ most_doubt) {r : Opened}
+module _ {rate : ℕ} (known : Rate rate) (table : List ℕ) (whole : length table ≡ table_length) (doubt : ℕ) (few : doubt ≤ most_doubt) {r : Ending}
     (opened : Opening (open_of rate (picked_of table doubt)) r) where
   pub picked-accepted : r.refusal ≡ accepted
   picked-accepted = any-laws.picked-accepted others64 keeping (rate_known known) table whole doubt few opened
@@ -81,7 +80,7 @@ module _ {rate : ℕ} (known : Rate rate) (table : List ℕ) (whole : length tab
 
 -- ---- the same by a threshold: with the doubt that is counted the places picked are the same, and so is the answer
 
-module _ {rate : ℕ} (known : Rate rate) (table : List ℕ) (whole : length table ≡ table_length) (t m : ℕ) (few : m ≤ most_doubt) {r : Opened}
+module _ {rate : ℕ} (known : Rate rate) (table : List ℕ) (whole : length table ≡ table_length) (t m : ℕ) (few : m ≤ most_doubt) {r : Ending}
     (opened : Opening (open_of rate (picked_below table t m)) r) where
   pub picked-below-accepted : r.refusal ≡ accepted
   picked-below-accepted = any-laws.picked-below-accepted others64 keeping (rate_known known) table whole t m few opened

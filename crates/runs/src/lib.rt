@@ -6,13 +6,15 @@
 ghost use Rattle.std.specs.Prelude.{[]};
 ghost use Rattle.book64.specs.calls.Calls.{deliver, reading, writing, closing, withdraw};
 ghost use Rattle.book64.specs.Here.{open_of};
-ghost use Rattle.session.specs.Calls.{Opening};
+ghost use Rattle.refusals.specs.Numbers.{number_of};
+ghost use Rattle.session.specs.Calls.{ended, started, Opening};
 ghost use Rattle.runs.specs.Follows.{ByCapture};
 ghost use Rattle.runs.specs.Step.{Step, answer_with};
 ghost use Rattle.runs.specs.Stepping.{Stepping};
 
 use columns::costs::SYMBOLS;
-use session::{Opened, Session};
+use refusals::Refusal;
+use session::Session;
 
 // The calls that a list is made of.
 #[derive(Clone, Copy)]
@@ -24,89 +26,60 @@ pub enum Kind {
     Withdraw,
 }
 
-// What a call answers beside its lent buffers: 0 or the refusal's number, and the session.
-#[derive(Clone, Copy)]
-pub struct Stepped {
-    pub refusal: u8,
-    pub session: Session,
-}
-
-pub fn open(rate: usize, doubtful: &[u8]) -> Opened
-    ensures { Opening (open_of rate doubtful.now) result }
+pub fn open(rate: usize, doubtful: &[u8]) -> Result<Session, Refusal>
+    ensures { Opening (open_of rate doubtful.now) (started result) }
 {
     session::open(rate, doubtful)
 }
 
-pub fn open_capture(bytes: &[u8]) -> Opened
-    ensures { ByCapture bytes.now result }
+pub fn open_capture(bytes: &[u8]) -> Result<Session, Refusal>
+    ensures { ByCapture bytes.now (started result) }
 {
     ranges::bytes(bytes);
     opening::open_capture(bytes)
 }
 
-fn make_delivery(session: Session, place: usize, column: [u16; SYMBOLS]) -> Stepped
-    ensures { Step session (deliver place column) (answer_with result.refusal [] []) result.session }
+fn make_delivery(session: &mut Session, place: usize, column: [u16; SYMBOLS]) -> Result<(), Refusal>
+    ensures { Step session.old (deliver place column) (answer_with (number_of result) [] []) session.new }
 {
     ranges::costs(&column);
-    let delivered = session::deliver(session, place, column);
-    let left = delivered.session;
-    Stepped {
-        refusal: delivered.refusal,
-        session: left,
-    }
+    session::deliver(session, place, column)
 }
 
-fn make_reading(session: Session, out: &mut [u8]) -> Stepped
-    ensures { Step session (reading out.old) (answer_with result.refusal out.new []) result.session }
+fn make_reading(session: &Session, out: &mut [u8]) -> Result<(), Refusal>
+    ensures { Step session.now (reading out.old) (answer_with (number_of result) out.new []) session.now }
 {
-    let refusal = reading::read_interpolant(session, out);
-    Stepped {
-        refusal: refusal,
-        session: session,
-    }
+    reading::read_interpolant(*session, out)
 }
 
-fn make_writing(session: Session, out: &mut [u8]) -> Stepped
-    ensures { Step session (writing out.old) (answer_with result.refusal out.new []) result.session }
+fn make_writing(session: &Session, out: &mut [u8]) -> Result<(), Refusal>
+    ensures { Step session.now (writing out.old) (answer_with (number_of result) out.new []) session.now }
 {
-    let refusal = writing::write_capture(session, out);
-    Stepped {
-        refusal: refusal,
-        session: session,
-    }
+    writing::write_capture(*session, out)
 }
 
-fn make_closing(session: Session, message: &mut [u8], report: &mut [u8]) -> Stepped
-    ensures { Step session (closing message.old report.old) (answer_with result.refusal message.new report.new) result.session }
+fn make_closing(session: &Session, message: &mut [u8], report: &mut [u8]) -> Result<(), Refusal>
+    ensures { Step session.now (closing message.old report.old) (answer_with (number_of result) message.new report.new) session.now }
 {
-    let refusal = closing::close(session, message, report);
-    Stepped {
-        refusal: refusal,
-        session: session,
-    }
+    closing::close(*session, message, report)
 }
 
-fn make_withdrawal(session: Session, place: usize) -> Stepped
-    ensures { Step session (withdraw place) (answer_with result.refusal [] []) result.session }
+fn make_withdrawal(session: &mut Session, place: usize) -> Result<(), Refusal>
+    ensures { Step session.old (withdraw place) (answer_with (number_of result) [] []) session.new }
 {
-    let withdrawn = session::withdraw(session, place);
-    let freed = withdrawn.session;
-    Stepped {
-        refusal: withdrawn.refusal,
-        session: freed,
-    }
+    session::withdraw(session, place)
 }
 
 // Makes one call. Place and column are a delivery's, and the place a withdrawal's; reading and writing are lent the first buffer, closing both.
 pub fn step(
     kind: Kind,
-    session: Session,
+    session: &mut Session,
     place: usize,
     column: [u16; SYMBOLS],
     first: &mut [u8],
     second: &mut [u8],
-) -> Stepped
-    ensures { Stepping kind session place column first.old second.old result first.new second.new }
+) -> Result<(), Refusal>
+    ensures { Stepping kind session.old place column first.old second.old (ended result session.new) first.new second.new }
 {
     match kind {
         Kind::Deliver => make_delivery(session, place, column),

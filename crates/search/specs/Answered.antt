@@ -21,8 +21,7 @@ use Rattle.std.proofs.Math.ListN.{get_or-replicate}
 use Rattle.lists.specs.Padded.{padded, padded-take, padded-zeros}
 use Rattle.lists.specs.Words.{Word, all_below-from}
 use Rattle.family.specs.Encoding.{encode_of}
-use Rattle.answer.specs.declared.Margin.{Margin}
-use Rattle.answer.specs.Margin.{margin_from, is-from, from_is}
+use Rattle.answer.specs.Margin.{Margin, margin_from, is-from, from_is}
 use Rattle.near.specs.Near.{message_cost}
 use Rattle.near.specs.Reach.{reach_in}
 use Rattle.search.specs.Open.{answer_of, margin_of}

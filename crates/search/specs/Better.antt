@@ -16,8 +16,7 @@ use Rattle.lists.specs.Every.{both}
 use Rattle.lists.specs.Words.{is_before}
 use Rattle.lists.specs.Answers.{no-worse-same, beats, beats-yes, beats-no, better, pick}
 use Rattle.lists.specs.Margin.{lesser}
-use Rattle.answer.specs.declared.Margin.{Margin}
-use Rattle.answer.specs.Margin.{margin_is, margin_from, is-from}
+use Rattle.answer.specs.Margin.{Margin, margin_is, margin_from, is-from}
 use Rattle.near.specs.Near.{message_cost}
 use Rattle.near.specs.Reach.{reach_in}
 use Rattle.search.specs.Open.{tests_near, answer_of, margin_of, result_for}

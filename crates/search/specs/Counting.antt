@@ -5,9 +5,10 @@
 --   choose-fits, choices-fit, choose-times   the choices at few places are few
 --   counted-far, counted-every, counted-some, agreed-left   the cases of counting below a node: none is near, all are, or some
 --   tests_fit           the counts of two branches together
-use Rattle.std.specs.Prelude.{Bool, ◌≡◌, refl, List, ◌≢◌, ℕ, ◌+◌, ◌-◌, ◌*◌, ◌%◌, ◌^◌, ◌<◌, ◌≤◌, length}
+use Rattle.std.specs.Prelude.{Bool, true, false, ◌≡◌, refl, List, ◌≢◌, ℕ, ◌+◌, ◌-◌, ◌*◌, ◌%◌, ◌^◌, ◌<◌, ◌≤◌, length}
 use Rattle.std.proofs.Common.{sym, ap, ◌∙◌, subst, mul-le-mul, mul-le-mul_right, mod-eq_of_lt, arith, pow_mono, pow-add}
 use Rattle.std.proofs.Math.Pow.{pow-lt}
+use Rattle.lists.specs.Count.{bit}
 use Rattle.lists.specs.Choices.{choose_of, choices_of, choose-few, choices-few}
 use Rattle.soft.specs.Blank.{flag_at}
 use Rattle.soft.specs.Column.{column_of}

@@ -4,7 +4,7 @@
 --   count-start, count_turn, count_fits    and how many they are
 --   doubled-end                            all of them
 --   doubled-few, doubled-take              they are no more than the doubtful ones, and are read back from the front
-use Rattle.std.specs.Prelude.{Bool, true, false, cond, ◌≡◌, refl, List, [], ◌∷◌, ◌++◌, ℕ, ◌+◌, ◌<◌, ◌≤◌, length, get_or, set, take, replicate}
+use Rattle.std.specs.Prelude.{Bool, cond, ◌≡◌, List, [], ◌∷◌, ◌++◌, ℕ, ◌+◌, ◌<◌, ◌≤◌, length, get_or, set, take, replicate}
 use Rattle.std.proofs.Common.{sym, ap, ap₂, ◌∙◌, add-one, arith, length-append, length-take, take-suc}
 use Rattle.lists.specs.Count.{bit, length-if}
 use Rattle.lists.specs.Padded.{padded, padded-nil, padded-if, padded-take}

@@ -6,7 +6,7 @@
 --   sound-below              what is found is sound
 --   governs-only             a codeword that passes the test is the only one
 --   governed-nearest         where it is the only one, what is found is what the search would find
-use Rattle.std.specs.Prelude.{Bool, ◌≡◌, ℕ, ◌+◌, ◌-◌, ◌<◌, eqb, take}
+use Rattle.std.specs.Prelude.{Bool, ◌≡◌, ℕ, ◌+◌, ◌-◌, ◌<◌, eqb, take, None}
 use Rattle.std.proofs.Math.Bool.{true, false, cond}
 use Rattle.std.proofs.Math.Path.{refl, sym, ap, ap₂}
 use Rattle.std.proofs.Common.{◌∙◌, subst, arith}
@@ -19,7 +19,6 @@ use Rattle.soft.specs.Blank.{open_at, flag_at}
 use Rattle.soft.specs.BlankLaws.{open-count}
 use Rattle.soft.specs.Total.{total_of, differing_in}
 use Rattle.soft.specs.TestWord.{expand}
-use Rattle.answer.specs.declared.Margin.TheVariants.{Absent}
 use Rattle.answer.specs.Margin.{margin_is}
 use Rattle.family.specs.Member.{Member, places}
 use Rattle.near.specs.Near.{m_of, reach_of, message_cost}
@@ -39,7 +38,7 @@ use Rattle.search.specs.Known.{governs_of, tests_within, total_for, known_total,
 module _ (𝓜 : Member) (columns : ℕ → List ℕ) (known : Finding) (tests : ℕ) where
   -- the known codeword is the answer, without a runner-up
   abbrev alone : Finding
-  alone = counted tests (answering (Near (known_total 𝓜 columns known) Absent) known)
+  alone = counted tests (answering (Near (known_total 𝓜 columns known) None) known)
 
   pub below_none : tests ≡ 0 → answer_here 𝓜 columns known tests ≡ missed_of known
   unfolding answer_here
@@ -72,7 +71,7 @@ module _ {𝓜 : Member} {most k : ℕ} {columns : ℕ → List ℕ} {known : Fi
     where
       go : (b : Bool) → Sound 𝓜 most k columns (cond b (missed_of known) (alone 𝓜 columns known tests))
       go true = sound-missed s
-      go false = sound-counted tests (sound-answering Absent known-total s)
+      go false = sound-counted tests (sound-answering None known-total s)
 
   module _ (rate : Workable 𝓜 k) {counts : List ℕ} {b : ℕ} (marked : OpenFlags 𝓜 k columns counts b) where
     abbrev on : ℕ → Bool
@@ -112,6 +111,6 @@ module _ {𝓜 : Member} {most k : ℕ} {columns : ℕ → List ℕ} {known : Fi
             (nearest-missed known (within_none 𝓜 on T rate s.word columns ts only (sym count ∙ z)))
         go (no n) =
             subst (Nearest 𝓜 k columns ts) (sym (below-some 𝓜 columns known tests n))
-            (nearest-some (alone 𝓜 columns known tests) (known_total 𝓜 columns known) Absent refl
+            (nearest-some (alone 𝓜 columns known tests) (known_total 𝓜 columns known) None refl
             (within-tests 𝓜 on T rate s.word ts only ∙ sym count) (within-some 𝓜 on T rate s.word columns ts only (omega (arith, count)))
             known-total (sym (margin-governed 𝓜 on T k columns ts only)))

@@ -8,11 +8,10 @@
 --   known_total columns known   the total of the known codeword, from the answer that it stands beside, if it is one; total_for, total-by: by that answer
 --   answer_here columns known tests   what is found where tests of the test words are within T of the known codeword, and no other codeword is near: it is
 --                          the answer, without a runner-up, or none is near
-use Rattle.std.specs.Prelude.{Bool, cond, ◌≡◌, List, ℕ, ◌+◌, ◌-◌, eqb, ltb, length}
+use Rattle.std.specs.Prelude.{Bool, cond, ◌≡◌, List, ℕ, ◌+◌, ◌-◌, eqb, ltb, length, None}
 use Rattle.std.proofs.Math.Path.{sym, ap}
 use Rattle.soft.specs.Blank.{flag_at}
 use Rattle.soft.specs.Total.{total_of, differing_in}
-use Rattle.answer.specs.declared.Margin.TheVariants.{Absent}
 use Rattle.answer.specs.declared.Answer.{Answer}
 use Rattle.answer.specs.declared.Answer.TheVariants.{NoneNear, Near}
 use Rattle.family.specs.Member.{Member, places}
@@ -53,4 +52,4 @@ module _ (𝓜 : Member) where
   total-by columns known e = ap (total_for columns known.codeword) (sym e)
 
   unfoldable pub answer_here : (ℕ → List ℕ) → Finding → ℕ → Finding
-  answer_here columns known tests = cond (eqb tests 0) (missed_of known) (counted tests (answering (Near (known_total columns known) Absent) known))
+  answer_here columns known tests = cond (eqb tests 0) (missed_of known) (counted tests (answering (Near (known_total columns known) None) known))

@@ -10,8 +10,7 @@ use Rattle.std.proofs.Common.{◌∙◌, arith}
 use Rattle.std.proofs.Math.Option.{Option, some, none}
 use Rattle.std.proofs.Math.ListN.{take}
 use Rattle.refusals.specs.Refusal.{accepted, none_near}
-use Rattle.answer.specs.declared.Margin.{Margin}
-use Rattle.answer.specs.Margin.{margin_is}
+use Rattle.answer.specs.Margin.{Margin, margin_is}
 use Rattle.near.specs.Near.{message_cost}
 use Rattle.near.specs.Reach.{reach_in}
 use Rattle.search.specs.Open.{tests_near, answer_of, margin_of, result_for, result_of}

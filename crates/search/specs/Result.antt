@@ -16,8 +16,7 @@ use Rattle.std.proofs.Math.Option.{Option, none, some}
 use Rattle.refusals.specs.Refusal.{accepted, none_near}
 use Rattle.lists.specs.Padded.{padded}
 use Rattle.family.specs.Encoding.{encode_of}
-use Rattle.answer.specs.declared.Margin.{Margin}
-use Rattle.answer.specs.Margin.{margin_is, margin_from}
+use Rattle.answer.specs.Margin.{Margin, margin_is, margin_from}
 use Rattle.family.specs.Member.{Member, places}
 use Rattle.search.specs.Open.{tests_near, result_for, result_of}
 use Rattle.near.specs.Result.{Result, refused_result}

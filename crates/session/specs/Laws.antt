@@ -9,23 +9,25 @@
 --   delivery-above, delivery-taken, delivery-accepted   the three cases of delivery
 --   without_column s p    the session with the flag of a place not set, and zeros for its column
 --   withdrawal-above, withdrawal-free, withdrawal-accepted   the three cases of a withdrawal
+--   opening-as           an opening that ends as another does
 --   refused-opens        what a refused opening hands back
 --   opened-rate, opened-list, opened-new, opens   opening answers as the book does, and gives a good session
+--   opened-refused       an opening that is not accepted ends as a refused one of its number does
 --   one-session          two good sessions whose books agree are one
 use Rattle.std.specs.Prelude.{Bool, true, false, ◌≡◌, List, ℕ, ◌*◌, ◌<◌, ◌≤◌, length, get_or, set, replicate}
 use Rattle.std.proofs.Math.Path.{refl}
-use Rattle.std.proofs.Common.{ap}
+use Rattle.std.proofs.Common.{sym, ap, subst}
 use Rattle.refusals.specs.Refusal.{accepted, unknown_rate, wrong_doubt, no_place, place_taken, not_taken}
 use Rattle.lists.specs.Listed.{listed}
 use Rattle.lists.specs.Block.{put_block}
 use Rattle.code.specs.Encoding.{known_rate}
 use Rattle.book64.specs.Modem64.{modem64}
-use Rattle.book.specs.Book.{taken}
+use Rattle.book.specs.Book.{Outcome, taken}
 use Rattle.book.specs.Columns.{Agree}
 use Rattle.book64.specs.Here.{places, width, fit_doubt, refused_opening, open_of, wide, Proper}
 use Rattle.session.specs.declared.Session.{Session}
 use Rattle.session.specs.View.{new_session, held, keeping, entry_at, book_of, Good}
-use Rattle.session.specs.Calls.{refused_with, opened_of, declined_with, Opening, Delivery, denied_with, Withdrawal}
+use Rattle.session.specs.Calls.{Ending, refused_with, opened_of, declined_with, Opening, Delivery, Withdrawal}
 use Rattle.calls.specs.Held as Fields
 use Rattle.calls.specs.HeldLaws as laws
 use Rattle.calls.specs.Keeping as kept
@@ -85,12 +87,12 @@ without_column s p =
     }
 
 module _ (s : Session) (p : ℕ) where
-  pub withdrawal-above : places ≤ p → Withdrawal s p (denied_with no_place s)
-  unfolding denied_with
+  pub withdrawal-above : places ≤ p → Withdrawal s p (declined_with no_place s)
+  unfolding declined_with
   withdrawal-above = cases.withdrawal-above modem64 keeping s p
 
-  pub withdrawal-free : p < places → get_or s.taken p false ≡ false → Withdrawal s p (denied_with not_taken s)
-  unfolding denied_with
+  pub withdrawal-free : p < places → get_or s.taken p false ≡ false → Withdrawal s p (declined_with not_taken s)
+  unfolding declined_with
   withdrawal-free = cases.withdrawal-free modem64 keeping s p
 
   pub withdrawal-accepted : p < places → get_or s.taken p false ≡ true → {left : Session} → left ≡ without_column s p
@@ -99,6 +101,9 @@ module _ (s : Session) (p : ℕ) where
   withdrawal-accepted h there e = cases.withdrawal-accepted modem64 keeping s p h there (ap (λ (x : Session). held x) e)
 
 -- ---- opening
+
+pub opening-as : {o : Outcome} {q r : Ending} → q ≡ r → Opening o r → Opening o q
+opening-as {o} e d = subst (λ (x : Ending). Opening o x) (sym e) d
 
 pub refused-opens : (n : ℕ) → Opening (refused_opening n) (refused_with n)
 unfolding refused_with new_session Fields.new_held
@@ -117,6 +122,18 @@ module _ (rate : ℕ) (list : List ℕ) where
       → opened_of rate list ≡ record { refusal = accepted; session = new_session rate list }
   unfolding opened_of
   opened-new r f = rw (r, f)
+
+  pub opened-refused : ((opened_of rate list).refusal ≡ accepted → ⊥) → refused_with (opened_of rate list).refusal ≡ opened_of rate list
+  unfolding refused_with
+  opened-refused n = go (known_rate rate) refl (fit_doubt list) refl
+    where
+      Whole : Ending → Type 0
+      Whole o = refused_with o.refusal ≡ o
+
+      go : (a : Bool) → known_rate rate ≡ a → (b : Bool) → fit_doubt list ≡ b → Whole (opened_of rate list)
+      go false r b f = subst Whole (sym (opened-rate r)) refl
+      go true r false f = subst Whole (sym (opened-list r f)) refl
+      go true r true f = absurd (n (ap (λ (o : Ending). o.refusal) (opened-new r f)))
 
   by-rate : known_rate rate ≡ false → Opening (open_of rate list) (refused_with unknown_rate)
   unfolding refused_with new_session Fields.new_held

@@ -1,13 +1,15 @@
 -- What a session stands for: the book that its fields hold, and which sessions hold one.
 --
 --   new_session rate list a newly opened session: the doubtful list in twelve numbers, 1,024 costs of zero and no place taken
+--   with_place s p flag column   the session with the flag of a place and its column; all else is as it was
 --   held s               the session's fields; keeping: the struct keeps these and nothing else (`calls` Keeping)
 --   entry_at costs p      a place and its column in the table
 --   all_taken flags       the flags of all 64 places are set
 --   book_of s             the session's rate, its doubtful list, and the places taken with their columns, rising: of the order of arrival nothing is held
 --   Good s               what holds of every session from opening: a count within its array, a known rate, a fit list, and zeros wherever nothing is
 --                        held (Held)
-use Rattle.std.specs.Prelude.{Bool, false, refl, List, ℕ, ◌*◌, length, replicate}
+use Rattle.std.specs.Prelude.{Bool, false, refl, List, ℕ, ◌*◌, length, replicate, set}
+use Rattle.lists.specs.Block.{put_block}
 use Rattle.lists.specs.Padded.{padded}
 use Rattle.soft.specs.Doubt.{most_doubt}
 use Rattle.book64.specs.Modem64.{modem64}
@@ -26,6 +28,16 @@ new_session rate list =
       doubtful = padded most_doubt list;
       taken = replicate places false;
       costs = replicate (places * width) 0;
+    }
+
+unfoldable pub with_place : Session → ℕ → Bool → List ℕ → Session
+with_place s p flag column =
+    record {
+      rate = s.rate;
+      doubt = s.doubt;
+      doubtful = s.doubtful;
+      taken = set s.taken p flag;
+      costs = put_block width p column s.costs;
     }
 
 -- the session's fields

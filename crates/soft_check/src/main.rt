@@ -3,72 +3,61 @@
 #![tactic(auto)]
 
 use columns::{bits, column, costs};
-use io::print_decimal;
+use std::io;
 use totals::total;
 
-// The descriptor of standard output.
-const STDOUT_FILENO: i32 = 1;
-
-fn show(n: u64) {
-    print_decimal(STDOUT_FILENO, n);
-    io::write_all(STDOUT_FILENO, b" ");
-}
-
-fn show_place(place: u8) {
-    show(place as u64);
-}
-
-fn end_line() {
-    io::write_all(STDOUT_FILENO, b"\n");
-}
-
-fn show_column(c: [u16; 16]) {
-    show(column::best(c) as u64);
-    show(column::second(c) as u64);
-    show(column::gap(c) as u64);
-    end_line();
+fn print_column(rt: &impl Print, c: [u16; 16]) -> io::Result<()> {
+    println!(rt;
+        "{} {} {} ",
+        column::best(c),
+        column::second(c),
+        column::gap(c)
+    )
 }
 
 // The column of four bit values: best, second and gap, and what symbols 0, 5, 7, 8 and 15 cost.
-fn show_bits(values: [u8; 4]) {
+fn print_bits(rt: &impl Print, values: [u8; 4]) -> io::Result<()> {
     let c = bits::column_from_bits(values);
-    show_column(c);
-    show(c[0] as u64);
-    show(c[5] as u64);
-    show(c[7] as u64);
-    show(c[8] as u64);
-    show(c[15] as u64);
-    end_line();
+    print_column(rt, c)?;
+    println!(rt; "{} {} {} {} {} ", c[0], c[5], c[7], c[8], c[15])
 }
 
-fn main() {
+// The three doubtful places, and how many there are.
+fn print_doubtful(rt: &impl Print, table: &[u16]) -> io::Result<()> {
+    let picked = doubt::doubtful(table, 3);
+    let [first, second, third, ..] = picked.places;
+    let count = picked.count;
+    println!(rt; "{first} {second} {third} {count} ")
+}
+
+// What the zero word costs, at how many places its cost is pinned, and at how many it differs from the best symbols.
+fn print_zero_word(rt: &impl Print, table: &[u16]) -> io::Result<()> {
+    let word = [0u8; 64];
+    let summary = summary::summary_of(table);
+    let changed = total::changed_places(&word, summary.best, summary.counts);
+    println!(rt;
+        "{} {} {} ",
+        total::total(table, &word),
+        total::pinned(table, &word),
+        total::changed(changed)
+    )
+}
+
+fn main(rt: HostRuntime) -> io::Result<()> {
     let mut nine = [7u16; 16];
     nine[5] = 0;
     nine[9] = 0;
-    show_column(nine);
-    show_column([65535u16; 16]);
+    print_column(&rt, nine)?;
+    print_column(&rt, [65535; 16])?;
     // Every place but 0 and 2 is blank, so only these two are doubtful.
     let mut bytes = [255u8; 2048];
     bytes[0] = 0;
     bytes[64] = 1;
-    let table = costs::table_from(&bytes);
-    let picked = doubt::doubtful(&table, 3);
-    let places = picked.places;
-    show_place(places[0]);
-    show_place(places[1]);
-    show_place(places[2]);
-    show(picked.count as u64);
-    end_line();
-    let word = [0u8; 64];
-    let summary = summary::summary_of(&table);
-    let best = summary.best;
-    let counts = summary.counts;
-    show(total::total(&table, &word) as u64);
-    show(total::pinned(&table, &word) as u64);
-    show(total::changed(total::changed_places(&word, best, counts)) as u64);
-    end_line();
+    let table: [u16; 1024] = costs::costs_from(&bytes);
+    print_doubtful(&rt, &table)?;
+    print_zero_word(&rt, &table)?;
     // 127, -1, 0 and -128; then the dearest symbol there is; then a blank column.
-    show_bits([127, 255, 0, 128]);
-    show_bits([128; 4]);
-    show_bits([0; 4]);
+    print_bits(&rt, [127, 255, 0, 128])?;
+    print_bits(&rt, [128; 4])?;
+    print_bits(&rt, [0; 4])
 }

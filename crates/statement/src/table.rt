@@ -1,84 +1,78 @@
 // The two tables of all rates, as they stand in docs/RATES.md: the numbers of each, and T by blank places.
-ghost use Rattle.std.specs.Prelude.{◌≤◌};
-ghost use Rattle.candidate.specs.Ranged.{Ranged};
-
-use candidate::rate::blank_limit;
+use candidate::rate::Rate;
 use encoding::{LEAST_RATE, MOST_RATE};
-use numbers::told::{tell, tell_blanks, write};
+use numbers::chance::chance;
+use numbers::sums::{bits_within, never_another, sure_doubt, whole_reach};
+use std::io;
 
 // Numbers of blank places that have a column.
 const BLANKS: [usize; 20] = [
     0, 1, 2, 3, 4, 5, 6, 7, 8, 9, 10, 11, 12, 13, 16, 20, 24, 32, 40, 46,
 ];
 
-fn head() {
-    write(
-        b"| Rate | Wrong | Doubtful | Refused | Never another | Blank | Distance | Burst | Bits | Burst bits | By chance |\n\
-        |---|---|---|---|---|---|---|---|---|---|---|\n",
-    );
+fn print_head(rt: &impl Print) -> io::Result<()> {
+    println!(rt;
+        "| Rate | Wrong | Doubtful | Refused | Never another | Blank | Distance | Burst | Bits | Burst bits | By chance |\n\
+        |---|---|---|---|---|---|---|---|---|---|---|"
+    )
 }
 
 // The least distance is known exactly at two rates.
-fn exactly(k: usize) {
-    if k == 39 {
-        write(b"exactly ");
-    }
-    if k == 49 {
-        write(b"exactly ");
+fn exactly(rate: Rate) -> &'static str {
+    match rate.k {
+        39 | 49 => "exactly ",
+        _ => "",
     }
 }
 
-fn row(k: usize)
-    requires { Ranged k }
-{
-    tell(k, b"| @k | @T | @d | @f to @e | @e | @B | ");
-    exactly(k);
-    tell(k, b"@D | @S | @u | @v | 10^@c |\n");
+fn print_row(rt: &impl Print, rate: Rate) -> io::Result<()> {
+    let reach = whole_reach(rate);
+    let never = never_another(rate, 0);
+    let symbols = 8 * reach;
+    println!(rt;
+        "| {} | {reach} | {} | {} to {never} | {never} | {} | {}{} | {symbols} | {} | {} | 10^{} |",
+        rate.k,
+        sure_doubt(rate, 0),
+        reach + 1,
+        rate.blank_limit(),
+        exactly(rate),
+        rate.least_distance(),
+        bits_within(reach),
+        bits_within(symbols),
+        chance(rate)
+    )
 }
 
-fn blank_head() {
-    write(
-        b"\n| Rate | 0 | 1 | 2 | 3 | 4 | 5 | 6 | 7 | 8 | 9 | 10 | 11 | 12 | 13 | 16 | 20 | 24 | 32 | 40 | 46 |\n\
-        |---|---|---|---|---|---|---|---|---|---|---|---|---|---|---|---|---|---|---|---|---|\n",
-    );
+fn print_blank_head(rt: &impl Print) -> io::Result<()> {
+    println!(rt;
+        "\n| Rate | 0 | 1 | 2 | 3 | 4 | 5 | 6 | 7 | 8 | 9 | 10 | 11 | 12 | 13 | 16 | 20 | 24 | 32 | 40 | 46 |\n\
+        |---|---|---|---|---|---|---|---|---|---|---|---|---|---|---|---|---|---|---|---|---|"
+    )
 }
 
-fn blank_cell(k: usize, blanks: usize)
-    requires { Ranged k }
-{
-    if blank_limit(k) < blanks {
-        write(b" - |");
-        return;
+fn print_blank_cell(rt: &impl Print, rate: Rate, blanks: usize) -> io::Result<()> {
+    if rate.blank_limit() < blanks {
+        return print!(rt; " - |");
     }
-    tell_blanks(k, blanks, b" @T |");
+    print!(rt; " {} |", rate.reach(blanks))
 }
 
-fn blank_row(k: usize)
-    requires { Ranged k }
-{
-    tell(k, b"| @k |");
-    let blanks = BLANKS;
-    for i in 0..20 {
-        blank_cell(k, blanks[i]);
+fn print_blank_row(rt: &impl Print, rate: Rate) -> io::Result<()> {
+    print!(rt; "| {} |", rate.k)?;
+    for blanks in BLANKS {
+        print_blank_cell(rt, rate, blanks)?;
     }
-    write(b"\n");
+    println!(rt)
 }
 
-fn rows() {
-    for k in LEAST_RATE..MOST_RATE + 1 {
-        row(k);
+pub fn print_tables(rt: &impl Print) -> io::Result<()> {
+    print_head(rt)?;
+    for k in LEAST_RATE..=MOST_RATE {
+        print_row(rt, Rate { k })?;
     }
-}
-
-fn blank_rows() {
-    for k in LEAST_RATE..MOST_RATE + 1 {
-        blank_row(k);
+    print_blank_head(rt)?;
+    for k in LEAST_RATE..=MOST_RATE {
+        print_blank_row(rt, Rate { k })?;
     }
-}
-
-pub fn write_table() {
-    head();
-    rows();
-    blank_head();
-    blank_rows();
+    Ok(())
 }

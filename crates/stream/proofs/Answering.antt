@@ -20,7 +20,7 @@ use Rattle.book64.specs.Here.{open_of}
 use Rattle.session.specs.declared.Session.{Session}
 use Rattle.runs.specs.declared.Kind.{Kind}
 use Rattle.runs.specs.declared.Kind.TheVariants.{Deliver, Read, Write, Close, Withdraw}
-use Rattle.runs.specs.declared.Stepped.{Stepped}
+use Rattle.session.specs.Calls.{Ending}
 use Rattle.runs.specs.Step.{changes}
 use Rattle.runs.specs.Stepping.{Stepping, call_of}
 use Rattle.stream.specs.Changes.{Change, renewed, delivered, withdrawn, kept, change_by, open_letter, capture_letter, deliver_letter, withdraw_letter, number_in, numbered_change, change_of, Leaves, leaves_delivered, leaves_withdrawn, leaves_kept}
@@ -28,7 +28,7 @@ use Rattle.stream.specs.Changes.{Change, renewed, delivered, withdrawn, kept, ch
 pub leaves-as : {s t : Session} {change other : Change} → change ≡ other → Leaves s other t → Leaves s change t
 leaves-as {s} {t} e = subst (λ c. Leaves s c t) (sym e)
 
-pub leaves-step : {kind : Kind} {s : Session} {place : ℕ} {column first second first' second' : List ℕ} {r : Stepped}
+pub leaves-step : {kind : Kind} {s : Session} {place : ℕ} {column first second first' second' : List ℕ} {r : Ending}
     → Stepping kind s place column first second r first' second' → Leaves s (change_by kind place column) r.session
 unfolding change_by call_of changes after
 leaves-step {kind = Deliver} step = leaves_delivered (λ good. record { good = step.made.good good; same = step.made.book good })

@@ -1,4 +1,5 @@
 // Bytes from standard input and to standard output, and buffers to lend. Numbers are two bytes, high first.
+// The kit's `io` reads and writes: its calls cannot fail, and no more can `replies::answer`, which hands back a session whatever becomes of a write.
 ghost use Rattle.std.specs.Prelude.{◌≡◌, ◌+◌, ◌*◌, length};
 ghost use Rattle.io.specs.Counts.{IsPrefixLen};
 
@@ -21,7 +22,7 @@ pub fn read(out: &mut [u8]) -> usize
 pub fn number(high: u8, low: u8) -> usize
     ensures { result ≡ 256 * high + low }
 {
-    256 * (high as usize) + low as usize
+    usize::from(u16::from_be_bytes([high, low]))
 }
 
 // What lent buffers hold before a call.

@@ -4,33 +4,46 @@ ghost use Rattle.std.specs.Prelude.{◌≡◌, ◌≤◌};
 ghost use Rattle.soft.specs.Column.{symbols, costs_from};
 ghost use Rattle.book64.specs.captures.CaptureOpening.{open_capture_of};
 ghost use Rattle.book64.specs.Here.{open_of};
+ghost use Rattle.session.specs.Calls.{session_in};
 ghost use Rattle.stream.specs.Changes.{delivered, withdrawn, change_by, numbered_change, change_of, StandsFor, Leaves};
 
 use crate::bytes;
 use crate::bytes::{lent, write, write_byte};
 use columns::costs::SYMBOLS;
+use refusals::{Refusal, number_of};
 use runs::Kind;
 use session::Session;
 
 fn write_number(number: usize) {
-    write_byte((number / 256 % 256) as u8);
-    write_byte((number % 256) as u8);
+    write(&((number % 65536) as u16).to_be_bytes());
+}
+
+// Writes the number of an opening's answer; a refused one leaves a new session of rate 39.
+fn told(answer: Result<Session, Refusal>) -> Session
+    ensures { result ≡ session_in answer }
+{
+    match answer {
+        Ok(session) => {
+            write_byte(0);
+            session
+        }
+        Err(refusal) => {
+            write_byte(u8::from(refusal));
+            session::fresh()
+        }
+    }
 }
 
 fn open(rate: usize, doubtful: &[u8]) -> Session
     ensures { StandsFor (open_of rate doubtful.now).book result }
 {
-    let opened = runs::open(rate, doubtful);
-    write_byte(opened.refusal);
-    opened.session
+    told(runs::open(rate, doubtful))
 }
 
 fn open_capture(bytes: &[u8]) -> Session
     ensures { StandsFor (open_capture_of bytes.now).book result }
 {
-    let opened = runs::open_capture(bytes);
-    write_byte(opened.refusal);
-    opened.session
+    told(runs::open_capture(bytes))
 }
 
 // Makes a call and writes its answer.
@@ -44,11 +57,12 @@ fn make(
 ) -> Session
     ensures { Leaves current (change_by kind place column) result }
 {
-    let made = runs::step(kind, current, place, column, first, second);
-    write_byte(made.refusal);
+    let mut left = current;
+    let answer = runs::step(kind, &mut left, place, column, first, second);
+    write_byte(number_of(answer));
     write(first);
     write(second);
-    made.session
+    left
 }
 
 // Makes a call that is lent buffers of these sizes: none for a size of 0.
@@ -78,7 +92,7 @@ fn lend(
 fn deliver(current: Session, place: usize, column: &[u8]) -> Session
     ensures { Leaves current (delivered place (costs_from symbols column.now)) result }
 {
-    let costs = columns::costs::column_from(column);
+    let costs = columns::costs::costs_from(column);
     lend(Kind::Deliver, current, place, costs, 0, 0)
 }
 
@@ -140,7 +154,7 @@ fn look_up(current: Session, place: usize, bytes: &[u8]) -> Session
     current
 }
 
-// By the letter of a call whose arguments start with a number.
+// By the letter of a call whose arguments start with a number: letters are what the other side sends.
 fn answer_numbered(current: Session, letter: u8, number: usize, rest: &[u8]) -> Session
     ensures { Leaves current (numbered_change letter number rest.now) result }
 {

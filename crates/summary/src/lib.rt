@@ -2,7 +2,7 @@
 // It knows of no doubtful place, no word and no code.
 #![tactic(auto)]
 
-ghost use Rattle.std.specs.Prelude.{cond, ◌≡◌, ◌+◌, ◌*◌, ◌<◌, ◌≤◌, min, max, ltb, length};
+ghost use Rattle.std.specs.Prelude.{cond, ◌≡◌, ◌+◌, ◌*◌, ◌<◌, ◌≤◌, ltb, length};
 ghost use Rattle.lists.specs.Count.{bit};
 ghost use Rattle.lists.specs.Least.{least_of};
 ghost use Rattle.lists.specs.Listed.{listed};
@@ -11,9 +11,9 @@ ghost use Rattle.soft.specs.Blank.{open_at, flags_of};
 ghost use Rattle.soft.specs.Mark.{plain_gap};
 ghost use Rattle.summary.specs.Summary.{entry_of, symbol_in, apart, InOrder, HeldTo, SummaryOf};
 
-use columns::bit::bit;
 use columns::blank::is_open;
-use columns::costs::{CEILING, COSTS, PLACES, SYMBOLS, number_at};
+use columns::costs::{CEILING, COSTS, PLACES, SYMBOLS};
+use lists::entry_or;
 
 // By place the best of the symbols passed, its cost, and the next cost.
 #[derive(Clone, Copy)]
@@ -23,31 +23,14 @@ struct Held {
     next: [u16; PLACES],
 }
 
-// By place the best symbol, its cost, the plain gap, and a flag of 1 where the place is not blank.
+// By place the best symbol, its cost, the plain gap, and a flag of 1 where the place is not blank: an array for each, so that the compiler takes
+// several places at a time. Flags are bytes, as the theory has them (`flags_of`), and are summed as they are.
 #[derive(Clone, Copy)]
 pub struct Summary {
     pub best: [u8; PLACES],
     pub least: [u16; PLACES],
     pub gaps: [u16; PLACES],
     pub counts: [u8; PLACES],
-}
-
-fn lower(held: u16, other: u16) -> u16
-    ensures { result ≡ min held other }
-{
-    if other < held {
-        return other;
-    }
-    held
-}
-
-fn higher(held: u16, other: u16) -> u16
-    ensures { result ≡ max held other }
-{
-    if other < held {
-        return held;
-    }
-    other
 }
 
 // Equal costs are in the order of the symbols.
@@ -60,32 +43,22 @@ fn better(best: u16, least: u16, symbol: u16, cost: u16) -> u16
     best
 }
 
-// The next of some costs, with one more: of it and the least, the larger one stands behind the other.
-fn next_with(next: u16, least: u16, cost: u16) -> u16
-    ensures { result ≡ min next (max least cost) }
-{
-    lower(next, higher(least, cost))
-}
-
 // One symbol more, at all places: the compiler takes several of them at a time.
-fn turned(
-    best: [u16; PLACES],
-    least: [u16; PLACES],
-    next: [u16; PLACES],
-    costs: &[u16],
-    symbol: usize,
-) -> Held
-    requires { (symbol < symbols) × (places * symbols ≤ length costs.now) × HeldTo (column_of symbols costs.now) symbol best least next }
+fn turned(held: Held, costs: &[u16], symbol: usize) -> Held
+    requires { (symbol < symbols) × (places * symbols ≤ length costs.now) × HeldTo (column_of symbols costs.now) symbol held.best held.least held.next }
     ensures { HeldTo (column_of symbols costs.now) (symbol + 1) result.best result.least result.next }
 {
+    let best = held.best;
+    let least = held.least;
+    let next = held.next;
     let mut bests = [0u16; PLACES];
     let mut leasts = [0u16; PLACES];
     let mut nexts = [0u16; PLACES];
     for place in 0..PLACES {
         let cost = costs[place * SYMBOLS + symbol];
         bests[place] = better(best[place], least[place], symbol as u16, cost);
-        leasts[place] = lower(least[place], cost);
-        nexts[place] = next_with(next[place], least[place], cost);
+        leasts[place] = least[place].min(cost);
+        nexts[place] = next[place].min(least[place].max(cost));
     }
     Held {
         best: bests,
@@ -98,18 +71,15 @@ fn held_of(costs: &[u16]) -> Held
     requires { places * symbols ≤ length costs.now }
     ensures { HeldTo (column_of symbols costs.now) symbols result.best result.least result.next }
 {
-    let mut best = [0u16; PLACES];
-    let mut least = [CEILING; PLACES];
-    let mut next = [CEILING; PLACES];
-    let mut symbol = 0;
-    while symbol < SYMBOLS {
-        let held = turned(best, least, next, costs, symbol);
-        best = held.best;
-        least = held.least;
-        next = held.next;
-        symbol += 1;
+    let mut held = Held {
+        best: [0; PLACES],
+        least: [CEILING; PLACES],
+        next: [CEILING; PLACES],
+    };
+    for symbol in 0..SYMBOLS {
+        held = turned(held, costs, symbol);
     }
-    Held { best, least, next }
+    held
 }
 
 fn symbols_of(best: [u16; PLACES]) -> [u8; PLACES]
@@ -139,7 +109,7 @@ fn smallest(gaps: [u16; PLACES]) -> u16
 {
     let mut out = CEILING;
     for place in 0..PLACES {
-        out = lower(out, gaps[place]);
+        out = out.min(gaps[place]);
     }
     out
 }
@@ -152,7 +122,7 @@ fn flag_of(costs: &[u16], place: usize, gap: u16) -> u8
     if gap != 0 {
         return 1;
     }
-    bit(is_open(costs, place)) as u8
+    u8::from(is_open(costs, place))
 }
 
 // In most tables every place has a gap.
@@ -194,7 +164,7 @@ fn padded(costs: &[u16]) -> [u16; COSTS]
 {
     let mut out = [0u16; COSTS];
     for i in 0..COSTS {
-        out[i] = number_at(costs, i);
+        out[i] = entry_or(costs, i, 0);
     }
     out
 }

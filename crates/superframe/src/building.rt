@@ -3,6 +3,7 @@ ghost use Rattle.std.specs.Prelude.{true, ◌≡◌, ◌*◌, ◌<◌, length, g
 ghost use Rattle.lists.specs.Listed.{listed};
 ghost use Rattle.code.specs.Encoding.{known_rate};
 ghost use Rattle.family.specs.Calls.{outcome};
+ghost use Rattle.refusals.specs.Numbers.{number_of};
 ghost use Rattle.superframe.specs.Superframe.{words, frame_length, sent_word, frame_of, build_of};
 
 use crate::{
@@ -12,7 +13,7 @@ use crate::{
 use columns::costs::PLACES;
 use encoding::{codeword_of, known_rate, symbols_only};
 use lists::copy;
-use refusals::{ACCEPTED, NO_SYMBOL, UNKNOWN_RATE, WRONG_SIZE};
+use refusals::Refusal;
 
 // The codewords of the messages, which stand one after the other.
 fn codewords(rate: usize, messages: &[u8]) -> [Word; WORDS]
@@ -20,19 +21,17 @@ fn codewords(rate: usize, messages: &[u8]) -> [Word; WORDS]
     ensures { result ≡ listed words (sent_word rate messages.now) }
 {
     let mut out = [[0u8; PLACES]; WORDS];
-    let mut v = 0;
-    while v < WORDS {
+    for v in 0..WORDS {
         let at = rate * v;
         let end = at + rate;
         out[v] = codeword_of(&messages[at..end]);
-        v += 1;
     }
     out
 }
 
 // Byte i of the frame: one of the head, or place p of word v at 8p + v behind it.
 fn byte_of(rate: u8, sent: &[Word; WORDS], i: usize) -> u8
-    requires { (length sent.now ≡ words) × (i < frame_length) }
+    requires { i < frame_length }
     ensures { result ≡ get_or (frame_of rate sent.now) i 0 }
 {
     if i == VERSION_AT {
@@ -53,36 +52,33 @@ fn byte_of(rate: u8, sent: &[Word; WORDS], i: usize) -> u8
 }
 
 fn bytes_of(rate: u8, sent: &[Word; WORDS]) -> [u8; FRAME_BYTES]
-    requires { length sent.now ≡ words }
     ensures { result ≡ frame_of rate sent.now }
 {
     let mut out = [0u8; FRAME_BYTES];
-    let mut i = 0;
-    while i < FRAME_BYTES {
+    for i in 0..FRAME_BYTES {
         out[i] = byte_of(rate, sent, i);
-        i += 1;
     }
     out
 }
 
 // The superframe of eight messages, those of word 0 first, into the caller's 516 bytes.
-pub fn build(rate: usize, messages: &[u8], frame: &mut [u8]) -> u8
-    ensures { outcome result frame.new ≡ build_of rate messages.now frame.old }
+pub fn build(rate: usize, messages: &[u8], frame: &mut [u8]) -> Result<(), Refusal>
+    ensures { outcome (number_of result) frame.new ≡ build_of rate messages.now frame.old }
 {
     if !known_rate(rate) {
-        return UNKNOWN_RATE;
+        return Err(Refusal::UnknownRate);
     }
     if messages.len() != rate * WORDS {
-        return WRONG_SIZE;
+        return Err(Refusal::WrongSize);
     }
     if frame.len() != FRAME_BYTES {
-        return WRONG_SIZE;
+        return Err(Refusal::WrongSize);
     }
     if !symbols_only(messages) {
-        return NO_SYMBOL;
+        return Err(Refusal::NoSymbol);
     }
     let sent = codewords(rate, messages);
     let bytes = bytes_of(rate as u8, &sent);
     copy(&bytes, frame);
-    ACCEPTED
+    Ok(())
 }

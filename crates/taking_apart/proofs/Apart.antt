@@ -36,11 +36,10 @@ use Rattle.book.specs.tables.Table.{closed}
 use Rattle.book64.specs.Here.{report_length, decode_of}
 use Rattle.decoding.specs.Decoding.{Decodable}
 use Rattle.soft.specs.Hard.{hard_cost, hard_column}
-use Rattle.superframe.specs.Superframe.{words, head_length, word_in, hard_columns, answer_at, none_near_in, status_of, messages_of, Taken, taken, taken_of}
+use Rattle.superframe.specs.Superframe.{words, head_length, word_in, hard_columns, answer_at, none_near_in, status_of, messages_of, taken, taken_of}
 use Rattle.superframe.specs.Checks.{Headed, apart_fits}
 use Rattle.superframe.specs.Hard.{hard-column, hard-beyond, hard-some, within-near}
-use Rattle.taking_apart.specs.declared.Taken as Declared
-use Rattle.taking_apart.specs.Taking.{TakesNear, TakesWord, TakesWords, taken_by}
+use Rattle.taking_apart.specs.Taking.{TakesNear, TakesWord, TakesWords}
 use Rattle.superframe.specs.Laws.{part-long, messages-long, status-less}
 
 -- ---- one word
@@ -234,10 +233,6 @@ module _ {k : ℕ} {frame before : List ℕ} {v status weight : ℕ} {out : List
       }
 
 -- ---- the call
--- a refusal returns its number and status 0
-pub refused-is : {r : Declared.Taken} {n : ℕ} (messages : List ℕ) {t : Taken} → (r.refusal ≡ n) × (r.status ≡ 0) → taken n 0 messages ≡ t → taken_by r messages ≡ t
-refused-is messages e f = ap₂ (λ a b. taken a b messages) e.0 e.1 ∙ f
-
 pub apart-done : (frame messages : List ℕ) → Headed frame → known_rate (get_or frame 3 0) ≡ true → length messages ≡ get_or frame 3 0 * words
     → all_below symbols (drop head_length frame) ≡ true → {status : ℕ} {after : List ℕ} → TakesWords (get_or frame 3 0) frame messages status after
     → taken accepted status after ≡ taken_of frame messages

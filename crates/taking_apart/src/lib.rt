@@ -7,6 +7,7 @@ ghost use Rattle.soft.specs.Column.{places, symbols, column_of};
 ghost use Rattle.code.specs.Encoding.{known_rate};
 ghost use Rattle.soft.specs.Hard.{hard_cost};
 ghost use Rattle.superframe.specs.Superframe.{words, frame_length, word_in, hard_columns, head_of, taken_of};
+ghost use Rattle.refusals.specs.Numbers.{number_of};
 ghost use Rattle.taking_apart.specs.Taking.{TakesNear, TakesWord, TakesWords, taken_by};
 
 use columns::costs::{COSTS, PLACES, SYMBOLS};
@@ -14,19 +15,12 @@ use decoding::decode;
 use doubt::MOST_DOUBT;
 use encoding::{known_rate, symbols_only};
 use reading_back::read_back;
-use refusals::{ACCEPTED, NO_SYMBOL, NONE_NEAR, UNKNOWN_RATE, WRONG_SIZE, WRONG_SUPERFRAME};
+use refusals::Refusal;
 use summary::summary_of;
 use superframe::{
     FRAME_BYTES, HEAD_BYTES, LENGTH_HIGH, LENGTH_HIGH_AT, LENGTH_LOW, LENGTH_LOW_AT, RATE_AT,
     VERSION, VERSION_AT, WORDS, Word,
 };
-
-// What taking apart answers: 0 or the refusal's number, and which words have no codeword near, word v as 2^v.
-#[derive(Clone, Copy)]
-pub struct Taken {
-    pub refusal: u8,
-    pub status: u8,
-}
 
 // The symbols of one word.
 fn word_in(frame: &[u8], v: usize) -> Word
@@ -34,10 +28,8 @@ fn word_in(frame: &[u8], v: usize) -> Word
     ensures { result ≡ word_in frame.now v }
 {
     let mut out = [0u8; PLACES];
-    let mut place = 0;
-    while place < PLACES {
+    for place in 0..PLACES {
         out[place] = frame[HEAD_BYTES + (WORDS * place + v)];
-        place += 1;
     }
     out
 }
@@ -46,10 +38,7 @@ fn word_in(frame: &[u8], v: usize) -> Word
 fn hard_cost(received: u8, symbol: usize) -> u16
     ensures { result ≡ hard_cost received symbol }
 {
-    if received as usize == symbol {
-        return 0;
-    }
-    1
+    u16::from(received as usize != symbol)
 }
 
 // The columns of a word, one after the other.
@@ -57,18 +46,16 @@ fn hard_costs(word: Word) -> [u16; COSTS]
     ensures { (length result ≡ places * symbols) × (column_of symbols result ≡ hard_columns word) }
 {
     let mut out = [0u16; COSTS];
-    let mut i = 0;
-    while i < COSTS {
+    for i in 0..COSTS {
         out[i] = hard_cost(word[i / SYMBOLS], i % SYMBOLS);
-        i += 1;
     }
     out
 }
 
 // The message of the codeword within T of a word into its part, without doubt; or 'none near', and the part as it was.
-fn take_near(rate: usize, word: Word, part: &mut [u8]) -> u8
+fn take_near(rate: usize, word: Word, part: &mut [u8]) -> Result<(), Refusal>
     requires { (known_rate rate ≡ true) × (length part.old ≡ rate) }
-    ensures { TakesNear rate word part.old result part.new }
+    ensures { TakesNear rate word part.old (number_of result) part.new }
 {
     let costs = hard_costs(word);
     let summary = summary_of(&costs);
@@ -77,96 +64,77 @@ fn take_near(rate: usize, word: Word, part: &mut [u8]) -> u8
 }
 
 // The message of one word into its part. A word that arrived as a codeword is its own answer, and is read back.
-fn take_word(rate: usize, frame: &[u8], v: usize, part: &mut [u8]) -> u8
+fn take_word(rate: usize, frame: &[u8], v: usize, part: &mut [u8]) -> Result<(), Refusal>
     requires { (known_rate rate ≡ true) × (length frame.now ≡ frame_length) × (v < words) × (length part.old ≡ rate) }
-    ensures { TakesWord rate frame.now v part.old result part.new }
+    ensures { TakesWord rate frame.now v part.old (number_of result) part.new }
 {
     let word = word_in(frame, v);
-    let number = read_back(rate, &word, part);
-    if number == ACCEPTED {
-        return ACCEPTED;
+    match read_back(rate, &word, part) {
+        Ok(()) => Ok(()),
+        Err(_) => take_near(rate, word, part),
     }
-    take_near(rate, word, part)
 }
 
 // What a word adds to the status, if it is named.
-fn named(number: u8, weight: u16) -> u16
-    ensures { result ≡ cond (eqb number none_near) weight 0 }
+fn named(answer: Result<(), Refusal>, weight: u16) -> u16
+    ensures { result ≡ cond (eqb (number_of answer) none_near) weight 0 }
 {
-    if number != NONE_NEAR {
-        return 0;
+    match answer {
+        Err(Refusal::NoneNear) => weight,
+        _ => 0,
     }
-    weight
 }
 
-// Word by word, each into its own part.
+// Word by word, each into its own part; and which words have no codeword near, word v as 2^v.
 fn take_words(rate: usize, frame: &[u8], messages: &mut [u8]) -> u8
     requires { (known_rate rate ≡ true) × (length frame.now ≡ frame_length) × (length messages.old ≡ rate * words) }
     ensures { TakesWords rate frame.now messages.old result messages.new }
 {
     let mut status = 0u16;
     let mut weight = 1u16;
-    let mut v = 0;
-    while v < WORDS {
+    for v in 0..WORDS {
         let at = rate * v;
         let end = at + rate;
-        let number = take_word(rate, frame, v, &mut messages[at..end]);
-        status += named(number, weight);
+        let answer = take_word(rate, frame, v, &mut messages[at..end]);
+        status += named(answer, weight);
         weight *= 2;
-        v += 1;
     }
     status as u8
 }
 
 // Size, version and length.
-fn head_number(frame: &[u8]) -> u8
-    ensures { result ≡ head_of frame.now }
+fn check_head(frame: &[u8]) -> Result<(), Refusal>
+    ensures { number_of result ≡ head_of frame.now }
 {
     if frame.len() != FRAME_BYTES {
-        return WRONG_SUPERFRAME;
+        return Err(Refusal::WrongSuperframe);
     }
     if frame[VERSION_AT] != VERSION {
-        return WRONG_SUPERFRAME;
+        return Err(Refusal::WrongSuperframe);
     }
     if frame[LENGTH_HIGH_AT] != LENGTH_HIGH {
-        return WRONG_SUPERFRAME;
+        return Err(Refusal::WrongSuperframe);
     }
     if frame[LENGTH_LOW_AT] != LENGTH_LOW {
-        return WRONG_SUPERFRAME;
+        return Err(Refusal::WrongSuperframe);
     }
-    ACCEPTED
+    Ok(())
 }
 
-fn refused(number: u8) -> Taken
-    ensures { (result.refusal ≡ number) × (result.status ≡ 0) }
-{
-    Taken {
-        refusal: number,
-        status: 0,
-    }
-}
-
-// The eight messages of a superframe into the caller's buffer. A word with none near leaves its part as it was, and is named in the status.
-pub fn take_apart(frame: &[u8], messages: &mut [u8]) -> Taken
+// The eight messages of a superframe into the caller's buffer, and the status. A word with none near leaves its part as it was, and is named there.
+pub fn take_apart(frame: &[u8], messages: &mut [u8]) -> Result<u8, Refusal>
     ensures { taken_by result messages.new ≡ taken_of frame.now messages.old }
 {
-    let number = head_number(frame);
-    if number != ACCEPTED {
-        return refused(number);
-    }
+    check_head(frame)?;
     let rate = frame[RATE_AT] as usize;
     if !known_rate(rate) {
-        return refused(UNKNOWN_RATE);
+        return Err(Refusal::UnknownRate);
     }
     if messages.len() != rate * WORDS {
-        return refused(WRONG_SIZE);
+        return Err(Refusal::WrongSize);
     }
     if !symbols_only(&frame[HEAD_BYTES..]) {
-        return refused(NO_SYMBOL);
+        return Err(Refusal::NoSymbol);
     }
-    let status = take_words(rate, frame, messages);
-    Taken {
-        refusal: ACCEPTED,
-        status,
-    }
+    Ok(take_words(rate, frame, messages))
 }

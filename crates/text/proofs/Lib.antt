@@ -1,2 +1,1 @@
-pub mod Decimal
-pub mod Put
+mod Printed

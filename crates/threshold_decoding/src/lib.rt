@@ -5,14 +5,17 @@
 ghost use Rattle.std.specs.Prelude.{◌≡◌};
 ghost use Rattle.book.specs.tables.Table.{closed};
 ghost use Rattle.book64.specs.Here.{table_below_of};
+ghost use Rattle.refusals.specs.Numbers.{number_of};
 
 use checking::checks;
+use columns::costs::{COSTS, costs_from};
 use decoding::decode;
 use doubt::MOST_DOUBT;
-use refusals::{ACCEPTED, WRONG_DOUBT};
+use refusals::Refusal;
 use summary::summary_of;
 use table_decoding::TABLE_BYTES;
 
+// Not by `decode_costs`: here a threshold picks the doubtful places, and what would be shared is two lines.
 pub fn decode_table_below(
     rate: usize,
     table: &[u8],
@@ -20,20 +23,17 @@ pub fn decode_table_below(
     most: usize,
     message: &mut [u8],
     report: &mut [u8],
-) -> u8
-    ensures { closed result message.new report.new ≡ table_below_of rate table.now threshold most message.old report.old }
+) -> Result<(), Refusal>
+    ensures { closed (number_of result) message.new report.new ≡ table_below_of rate table.now threshold most message.old report.old }
 {
-    let checked = checks(rate, table.len(), TABLE_BYTES, message.len(), report.len());
-    if checked != ACCEPTED {
-        return checked;
-    }
+    checks(rate, table.len(), TABLE_BYTES, message.len(), report.len())?;
     if most < 1 {
-        return WRONG_DOUBT;
+        return Err(Refusal::WrongDoubt);
     }
     if MOST_DOUBT < most {
-        return WRONG_DOUBT;
+        return Err(Refusal::WrongDoubt);
     }
-    let costs = columns::costs::table_from(table);
+    let costs: [u16; COSTS] = costs_from(table);
     let summary = summary_of(&costs);
     let picked = doubt::doubtful_below_by(summary, threshold, most);
     let doubtful = picked.places;

@@ -7,9 +7,9 @@ ghost use Rattle.lists.specs.Count.{count};
 ghost use Rattle.soft.specs.Total.{total_of, pinned_of, changed_flags, agree, differing_in};
 ghost use Rattle.weighing.specs.Changed.{changed_by};
 
-use columns::bit::bit;
 use columns::blank::blanks;
-use columns::costs::{CEILING, PLACES, byte_at, cost_of};
+use columns::costs::{CEILING, PLACES, cost_of};
+use lists::entry_or;
 
 // A cost at the ceiling is summed as it stands.
 pub fn total(costs: &[u16], word: &[u8]) -> u32
@@ -17,7 +17,7 @@ pub fn total(costs: &[u16], word: &[u8]) -> u32
 {
     let mut sum: u32 = 0;
     for place in 0..PLACES {
-        sum += cost_of(costs, place, byte_at(word, place)) as u32;
+        sum += cost_of(costs, place, entry_or(word, place, 0)) as u32;
     }
     sum
 }
@@ -27,7 +27,7 @@ pub fn pinned(costs: &[u16], word: &[u8]) -> u8
 {
     let mut n = 0u16;
     for place in 0..PLACES {
-        n += bit(cost_of(costs, place, byte_at(word, place)) == CEILING);
+        n += u16::from(cost_of(costs, place, entry_or(word, place, 0)) == CEILING);
     }
     n as u8
 }
@@ -48,7 +48,7 @@ pub fn changed_places(word: &[u8], best: [u8; PLACES], counts: [u8; PLACES]) -> 
 {
     let mut out = [0u8; PLACES];
     for place in 0..PLACES {
-        out[place] = bit(is_changed(byte_at(word, place), best[place], counts[place])) as u8;
+        out[place] = u8::from(is_changed(entry_or(word, place, 0), best[place], counts[place]));
     }
     out
 }
@@ -79,7 +79,7 @@ pub fn differing_in(u: &[u8], v: &[u8], counts: [u8; PLACES]) -> u16
 {
     let mut n = 0u16;
     for place in 0..PLACES {
-        n += bit(counts[place] == 1) * bit(!agreeing(u, v, place));
+        n += u16::from(counts[place] == 1) * u16::from(!agreeing(u, v, place));
     }
     n
 }

@@ -2,26 +2,32 @@
 // near the test words below. It knows of no session and no buffers, and not which places are doubtful.
 #![tactic(auto)]
 
-ghost use Rattle.std.specs.Prelude.{◌⊎◌, ◌≡◌, ◌<◌, ◌≤◌};
+ghost use Rattle.std.specs.Prelude.{◌⊎◌, ◌≡◌, ◌<◌, ◌≤◌, length};
 ghost use Rattle.basis.specs.Choice.{lead_at};
 ghost use Rattle.basis.specs.Step.{classes};
 ghost use Rattle.soft.specs.Column.{places, symbols, column_of};
 ghost use Rattle.answers.specs.Answered.{Sound};
-ghost use Rattle.candidate.specs.Ranged.{Ranged};
 ghost use Rattle.candidate.specs.OpenFlags.{OpenFlags};
-ghost use Rattle.known.specs.Known.{left_of, Fits};
 ghost use Rattle.tree.specs.Searching.{Lowest, DecidedOf, SearchOf, BranchOf};
 
 use answer::Answer;
 use answers::{Finding, better, missed};
 use basis::{CLASSES, Leads, Rows};
-use candidate::rate::{largest_key, reach};
-use candidate::{Word, candidate_of};
+use candidate::open::Open;
+use candidate::{Candidate, Word, candidate_of};
 use columns::column::{best, second};
 use columns::costs::{PLACES, column_of};
 use interpolation::node::extend;
 use known::{Undecided, as_answer_here, governs, tests_within};
 use planes::rows::Row;
+
+// A frame to be searched: its costs, and which places of it count, which are those that are not blank.
+#[derive(Clone, Copy)]
+pub struct Frame<'a> {
+    pub costs: &'a [u16],
+    pub open: Open,
+    ghost flagged: { OpenFlags open.rate.k (column_of symbols costs.now) open.counts open.blanks },
+}
 
 // Of two classes the one with the smaller lead.
 fn lower(leads: Leads, r: usize, q: usize) -> usize
@@ -41,10 +47,8 @@ fn least_from(leads: Leads, first: usize) -> usize
     ensures { Lowest leads first classes result }
 {
     let mut r = first;
-    let mut q = first;
-    while q < CLASSES {
+    for q in (first..CLASSES).step_by(2) {
         r = lower(leads, r, q);
-        q += 2;
     }
     r
 }
@@ -55,32 +59,27 @@ fn decided(
     row: Row,
     lead: usize,
     word: Word,
-    costs: &[u16],
-    k: usize,
-    undecided: Undecided,
+    frame: &Frame<'_>,
+    undecided: Undecided<'_>,
     known: Finding,
-    counts: [u8; PLACES],
-    blanks: usize,
 ) -> Finding
-    requires { Ranged k × Fits undecided × Sound k (column_of symbols costs.now) known
-        × OpenFlags k (column_of symbols costs.now) counts blanks }
-    ensures { DecidedOf k (column_of symbols costs.now) word (left_of undecided) row lead undecided.left result
-        × Sound k (column_of symbols costs.now) result }
+    requires { Sound frame.now.open.rate.k (column_of symbols frame.now.costs.now) known }
+    ensures decided { DecidedOf frame.now.open.rate.k (column_of symbols frame.now.costs.now) word undecided.entry.places.now row lead
+        (length undecided.entry.places.now) result }
+    ensures sound { Sound frame.now.open.rate.k (column_of symbols frame.now.costs.now) result }
 {
     if lead % 2 == 0 {
         return missed(known);
     }
-    let held = candidate_of(row, k, word);
-    let message = held.message;
-    let codeword = held.codeword;
-    let tests = tests_within(codeword, word, costs, k, undecided, counts, blanks);
+    let Candidate { message, codeword } = candidate_of(row, frame.open.rate, word);
+    let tests = tests_within(codeword, word, frame.costs, &frame.open, undecided);
     let only = Finding {
         answer: Answer::NoneNear,
         message,
         codeword,
         tests: 0,
     };
-    as_answer_here(only, tests, costs)
+    as_answer_here(only, tests, frame.costs)
 }
 
 // One branch of a node: the place is decided with the symbol. Where the known codeword governs it, its test words are only counted.
@@ -89,68 +88,61 @@ fn branch(
     mut rows: Rows,
     mut leads: Leads,
     word: Word,
-    costs: &[u16],
-    k: usize,
-    undecided: Undecided,
-    known: Finding,
     place: usize,
     symbol: u8,
-    counts: [u8; PLACES],
-    blanks: usize,
+    frame: &Frame<'_>,
+    undecided: Undecided<'_>,
+    known: Finding,
 ) -> Finding
-    requires { Ranged k × Fits undecided × (place < places) × Sound k (column_of symbols costs.now) known
-        × OpenFlags k (column_of symbols costs.now) counts blanks }
-    ensures { BranchOf k (column_of symbols costs.now) word place symbol (left_of undecided) rows leads undecided.left result
-        × Sound k (column_of symbols costs.now) result }
+    requires { (place < places) × Sound frame.now.open.rate.k (column_of symbols frame.now.costs.now) known }
+    ensures found { BranchOf frame.now.open.rate.k (column_of symbols frame.now.costs.now) word place symbol undecided.entry.places.now rows leads
+        (length undecided.entry.places.now) result }
+    ensures sound { Sound frame.now.open.rate.k (column_of symbols frame.now.costs.now) result }
 {
     let mut next_word = word;
     next_word[place] = symbol;
-    if governs(known, next_word, k, undecided, counts, blanks) {
-        let codeword = known.codeword;
-        let tests = tests_within(codeword, next_word, costs, k, undecided, counts, blanks);
-        return as_answer_here(known, tests, costs);
+    if governs(known, next_word, &frame.open, undecided) {
+        let tests = tests_within(
+            known.codeword,
+            next_word,
+            frame.costs,
+            &frame.open,
+            undecided,
+        );
+        return as_answer_here(known, tests, frame.costs);
     }
-    let limit = largest_key(k, blanks);
+    let limit = frame.open.largest_key();
     let change = word[place] ^ symbol;
     extend(&mut rows, &mut leads, limit, place, change);
-    search(
-        rows, leads, next_word, costs, k, undecided, known, counts, blanks,
-    )
+    search(&rows, &leads, next_word, frame, undecided, known)
 }
 
 // The two branches of a node: its next doubtful place has the best symbol, and then the second. The second branch knows what the first has
 // found. Each gets the basis of its node by value.
 #[cycle(branch_branches_search)]
 fn branches(
-    rows: Rows,
-    leads: Leads,
+    rows: &Rows,
+    leads: &Leads,
     word: Word,
-    costs: &[u16],
-    k: usize,
-    undecided: Undecided,
+    frame: &Frame<'_>,
+    undecided: Undecided<'_>,
     known: Finding,
-    counts: [u8; PLACES],
-    blanks: usize,
 ) -> Finding
-    requires { Ranged k × Fits undecided × Sound k (column_of symbols costs.now) known
-        × OpenFlags k (column_of symbols costs.now) counts blanks × (0 < undecided.left) }
-    ensures { SearchOf k (column_of symbols costs.now) word (left_of undecided) rows leads undecided.left result
-        × Sound k (column_of symbols costs.now) result }
+    requires { Sound frame.now.open.rate.k (column_of symbols frame.now.costs.now) known × (0 < length undecided.places.now) }
+    ensures found { SearchOf frame.now.open.rate.k (column_of symbols frame.now.costs.now) word undecided.entry.places.now rows.now leads.now
+        (length undecided.entry.places.now) result }
+    ensures sound { Sound frame.now.open.rate.k (column_of symbols frame.now.costs.now) result }
 {
-    let left = undecided.left;
-    let place = undecided.doubtful[undecided.doubt - left] as usize % PLACES;
-    let mut next = undecided;
-    next.left = left - 1;
-    let column = column_of(costs, place);
+    let place = undecided.places[0] as usize % PLACES;
+    let next = Undecided {
+        places: &undecided.places[1..],
+    };
+    let column = column_of(frame.costs, place);
     let symbol = best(column);
     let other = second(column);
-    let first = branch(
-        rows, leads, word, costs, k, next, known, place, symbol, counts, blanks,
-    );
-    let rest = branch(
-        rows, leads, word, costs, k, next, first, place, other, counts, blanks,
-    );
-    better(first, rest, k)
+    let first = branch(*rows, *leads, word, place, symbol, frame, next, known);
+    let rest = branch(*rows, *leads, word, place, other, frame, next, first);
+    better(first, rest, frame.open.rate.k)
 }
 
 // The test words below a node. It ends its part of the tree where no codeword can be near, since every odd class is spent, and where one
@@ -158,42 +150,28 @@ fn branches(
 // none is left, they always are.
 #[cycle(branch_branches_search)]
 pub fn search(
-    rows: Rows,
-    leads: Leads,
+    rows: &Rows,
+    leads: &Leads,
     word: Word,
-    costs: &[u16],
-    k: usize,
-    undecided: Undecided,
+    frame: &Frame<'_>,
+    undecided: Undecided<'_>,
     known: Finding,
-    counts: [u8; PLACES],
-    blanks: usize,
 ) -> Finding
-    requires { Ranged k × Fits undecided × Sound k (column_of symbols costs.now) known
-        × OpenFlags k (column_of symbols costs.now) counts blanks }
-    ensures { SearchOf k (column_of symbols costs.now) word (left_of undecided) rows leads undecided.left result
-        × Sound k (column_of symbols costs.now) result }
+    requires { Sound frame.now.open.rate.k (column_of symbols frame.now.costs.now) known }
+    ensures found { SearchOf frame.now.open.rate.k (column_of symbols frame.now.costs.now) word undecided.entry.places.now rows.now leads.now
+        (length undecided.entry.places.now) result }
+    ensures sound { Sound frame.now.open.rate.k (column_of symbols frame.now.costs.now) result }
 {
-    let limit = largest_key(k, blanks);
-    let odd = least_from(leads, 1);
+    let limit = frame.open.largest_key();
+    let odd = least_from(*leads, 1);
     if limit < leads[odd] {
         return missed(known);
     }
-    let class = lower(leads, odd, least_from(leads, 0));
+    let class = lower(*leads, odd, least_from(*leads, 0));
     let lead = leads[class];
-    if lead / 2 + undecided.left + reach(k, blanks) < PLACES - blanks {
-        return decided(
-            rows[class],
-            lead,
-            word,
-            costs,
-            k,
-            undecided,
-            known,
-            counts,
-            blanks,
-        );
+    let left = undecided.places.len();
+    if lead / 2 + left + frame.open.reach() < PLACES - frame.open.blanks {
+        return decided(rows[class], lead, word, frame, undecided, known);
     }
-    branches(
-        rows, leads, word, costs, k, undecided, known, counts, blanks,
-    )
+    branches(rows, leads, word, frame, undecided, known)
 }

@@ -7,6 +7,7 @@ use native.Mathlib.Omega.{arith}
 use lib.ListN.{length, get_or, set, take, drop, length-append, length-drop, length-set, drop_of_length-le}
 use lib.Seq.{take-suc, take_all, take_at, drop_at, length-take-le}
 use borrow.Rule.Slice.PartMut.{put_mid}
+use Rattle.std.specs.Int.{to_be_bytes, w16}
 use Rattle.lists.specs.Listed.{listed, listed_nil, listed_suc, listed-length}
 use Rattle.lists.specs.Block.{block}
 use Rattle.lists.specs.Stored.{stored_one, stored-part}
@@ -19,6 +20,11 @@ use Rattle.session.specs.View.{entry_at}
 use Rattle.session.specs.Laws.{row-wide}
 use Rattle.calls.specs.Held as Fields
 use Rattle.capture.specs.Calls.{record_bytes, row_of}
+
+pub two-bytes : (n : ℕ) → n < 65536 → to_be_bytes w16 n ≡ n / 256 ∷ n % 256 ∷ []
+two-bytes n h =
+    let e : n / 256 % 256 ≡ n / 256 = omega arith in
+    ap (λ x. x ∷ n % 256 ∷ []) e
 
 -- ---- cost bytes
 
@@ -33,18 +39,19 @@ no-costs = refl
 pub costs-start : (column out : List ℕ) → out ≡ cost_bytes (take 0 column) ++ drop (2 * 0) out
 costs-start column out = rw no-costs
 
-pub costs-turn : (column old out : List ℕ) (j : ℕ) → j < length column → 2 * length column ≡ length old
+pub costs-turn : (column old out : List ℕ) (j : ℕ) {b : List ℕ} → b ≡ to_be_bytes w16 (get_or column j 0) → get_or column j 0 < 65536 → j < length column → 2 * length column ≡ length old
     → out ≡ cost_bytes (take j column) ++ drop (2 * j) old
-    → set (set out (2 * j) (get_or column j 0 / 256)) (2 * j + 1) (get_or column j 0 % 256)
+    → set (set out (2 * j) (get_or b 0 0)) (2 * j + 1) (get_or b 1 0)
     ≡ cost_bytes (take (j + 1) column) ++ drop (2 * (j + 1)) old
-costs-turn column old out j h n e =
+costs-turn column old out j is fits h n e =
     let c : ℕ = get_or column j 0 in
     let done : List ℕ = cost_bytes (take j column) in
     let l : length (take j column) ≡ j = length-take-le j column (omega arith) in
     let m : length done ≡ 2 * j = cost-bytes-length (take j column) ∙ ap (λ k. 2 * k) l in
     let m' : length (done ++ (c / 256 ∷ [])) ≡ 2 * j + 1 = length-append done (c / 256 ∷ []) ∙ ap (λ k. k + 1) m in
     let next : suc (2 * j + 1) ≡ 2 * (j + 1) = omega arith in
-    stored_one 0 (set out (2 * j) (c / 256)) old (done ++ (c / 256 ∷ [])) (c % 256) (2 * j + 1) m' (omega arith)
+    ap (λ b. set (set out (2 * j) (get_or b 0 0)) (2 * j + 1) (get_or b 1 0)) (is ∙ two-bytes c fits)
+    ∙ stored_one 0 (set out (2 * j) (c / 256)) old (done ++ (c / 256 ∷ [])) (c % 256) (2 * j + 1) m' (omega arith)
     (stored_one 0 out old done (c / 256) (2 * j) m (omega arith) e
     ∙ ap (λ k. (done ++ (c / 256 ∷ [])) ++ drop k old) (sym (add-one (2 * j))))
     ∙ ap₂ (λ (x : List ℕ) k. x ++ drop k old)

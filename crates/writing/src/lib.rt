@@ -7,6 +7,7 @@ ghost use Rattle.soft.specs.Doubt.{most_doubt};
 ghost use Rattle.soft.specs.CostBytes.{cost_bytes};
 ghost use Rattle.book64.specs.captures.Capture.{row_bytes, record_length};
 ghost use Rattle.book64.specs.Here.{places, width};
+ghost use Rattle.refusals.specs.Numbers.{number_of};
 ghost use Rattle.capture.specs.Calls.{head_length, head_bytes, record_bytes, row_of, Writing};
 
 use capture::{
@@ -16,6 +17,7 @@ use capture::{
 use columns::costs::{PLACES, SYMBOLS};
 use doubt::MOST_DOUBT;
 use lists::copy;
+use refusals::Refusal;
 use session::Session;
 
 // The costs of a column, two bytes each, high byte first.
@@ -23,12 +25,10 @@ fn write_costs(column: &[u16], out: &mut [u8])
     requires { (length column.now ≡ width) × (length out.old ≡ 2 * width) }
     ensures { out.new ≡ cost_bytes column.now }
 {
-    let mut j = 0;
-    while j < SYMBOLS {
-        let cost = column[j];
-        out[2 * j] = (cost / 256) as u8;
-        out[2 * j + 1] = (cost % 256) as u8;
-        j += 1;
+    for j in 0..SYMBOLS {
+        let [high, low] = column[j].to_be_bytes();
+        out[2 * j] = high;
+        out[2 * j + 1] = low;
     }
 }
 
@@ -46,8 +46,7 @@ fn write_records(costs: &[u16], out: &mut [u8])
     requires { (length costs.now ≡ places * width) × (length out.old ≡ record_length * places) }
     ensures { out.new ≡ row_bytes (row_of costs.now places) }
 {
-    let mut place = 0;
-    while place < PLACES {
+    for place in 0..PLACES {
         let from = SYMBOLS * place;
         let to = RECORD_BYTES * place;
         write_record(
@@ -55,7 +54,6 @@ fn write_records(costs: &[u16], out: &mut [u8])
             &costs[from..from + SYMBOLS],
             &mut out[to..to + RECORD_BYTES],
         );
-        place += 1;
     }
 }
 
@@ -64,34 +62,34 @@ fn write_head(rate: u8, list: [u8; MOST_DOUBT], count: usize, out: &mut [u8])
     requires { (count ≤ most_doubt) × (length out.old ≡ head_length count) }
     ensures { out.new ≡ head_bytes rate (take count list) }
 {
-    let length = BODY_BYTES + count;
+    let [high, low] = ((BODY_BYTES + count) as u16).to_be_bytes();
     out[VERSION_AT] = version_of(count);
-    out[LENGTH_HIGH_AT] = (length / 256) as u8;
-    out[LENGTH_LOW_AT] = (length % 256) as u8;
+    out[LENGTH_HIGH_AT] = high;
+    out[LENGTH_LOW_AT] = low;
     out[RATE_AT] = rate;
     out[DOUBT_AT] = count as u8;
     copy(&list[..count], &mut out[HEAD_BYTES..]);
 }
 
 // The first test keeps a session record that was built by hand from running past the list.
-pub fn write_capture(session: Session, out: &mut [u8]) -> u8
-    ensures { Writing session out.old result out.new }
+pub fn write_capture(session: Session, out: &mut [u8]) -> Result<(), Refusal>
+    ensures { Writing session out.old (number_of result) out.new }
 {
     let doubt = session.doubt;
     if MOST_DOUBT < doubt {
-        return refusals::WRONG_SIZE;
+        return Err(Refusal::WrongSize);
     }
     if out.len() != LEAST_BYTES + doubt {
-        return refusals::WRONG_SIZE;
+        return Err(Refusal::WrongSize);
     }
     let taken = session.taken;
     if !session::all_taken(taken) {
-        return refusals::PLACE_MISSING;
+        return Err(Refusal::PlaceMissing);
     }
     let doubtful = session.doubtful;
     let costs = session.costs;
     let start = HEAD_BYTES + doubt;
     write_head(session.rate, doubtful, doubt, &mut out[..start]);
     write_records(&costs, &mut out[start..]);
-    refusals::ACCEPTED
+    Ok(())
 }

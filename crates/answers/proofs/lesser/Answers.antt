@@ -1,16 +1,12 @@
 -- The cases of two margins.
-use Rattle.search.specs.Joining.{lesser-absent, lesser-alone, lesser-other, lesser-one}
-use borrow.Author.Rules.{rules}
+use Rattle.search.specs.Joining.{lesser-absent, lesser-unrivalled, lesser_both}
 use Rattle.answers.proofs.lesser.Goals as goal
 
-pub returns-in_default : goal.returns-in_default
-returns-in_default c = lesser-absent _ _ c.in_default.is
+pub returns-in-Some-Some : goal.returns-in-Some-Some
+returns-in-Some-Some c = lesser_both _ _ c.in-Some-Some.is-0 c.in-Some-Some.is-1 c.min.ensures
 
-pub returns-in_default-second : goal.returns-in_default-second
-returns-in_default-second c = lesser-alone _ _ (search rules) (search rules)
+pub returns-in-None-default : goal.returns-in-None-default
+returns-in-None-default c = lesser-absent _ _ c.in-None-default.is-0
 
-pub returns-then-other-one : goal.returns-then-other-one
-returns-then-other-one c = lesser-other _ _ (search rules) (search rules) c.if-other-one.true
-
-pub returns : goal.returns
-returns c = lesser-one _ _ (search rules) (search rules) c.if-other-one.false
+pub returns-in_default-None : goal.returns-in_default-None
+returns-in_default-None c = lesser-unrivalled _ _ c.in_default-None.is-1

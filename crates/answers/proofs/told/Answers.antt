@@ -8,6 +8,6 @@ pub returns-in-NoneNear : goal.returns-in-NoneNear
 unfolding told_for
 returns-in-NoneNear c = c.none_near.ensures ∙ ap finding_of (told-by _ _ _ c.in-NoneNear.is)
 
-pub returns : goal.returns
+pub returns-in-Near : goal.returns-in-Near
 unfolding told_for
-returns c = ap finding_of (told-by _ _ _ c.in_default.is)
+returns-in-Near c = ap finding_of (told-by _ _ _ c.in-Near.is)

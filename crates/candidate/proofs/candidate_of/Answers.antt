@@ -11,6 +11,6 @@ divide-function-requires c = search rules
 
 pub returns : goal.returns
 returns c =
-    candidate-made c.requires _ _ _ _ _ _ _ c.without_z.ensures
+    candidate-made c.args.rate.ranged _ _ _ _ _ _ _ c.without_z.ensures
     c.with_z.ensures c.top_order.ensures c.divide-function.ensures
     c.message_of-message.ensures c.encoded-codeword.ensures

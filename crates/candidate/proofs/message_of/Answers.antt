@@ -9,15 +9,15 @@ use borrow.Author.Rules.{rules}
 use Rattle.candidate.proofs.message_of.Goals as goal
 
 pub loop-t-init : goal.loop-t-init
-loop-t-init c = (search rules, filled-start _ _)
+loop-t-init c = filled-start _ _
 
 pub bounds-function-order : goal.bounds-function-order
 bounds-function-order c = (order-fits _ c.order.ensures).1
 
 pub loop-t-preserved : goal.loop-t-preserved
-loop-t-preserved c = (search rules, filled-turn 0 c.loop-t.invariant.1 _ (search rules) (symbol-at m16 longest _ _ (search rules) c.order.ensures))
+loop-t-preserved c = filled-turn 0 c.loop-t.invariant _ (search rules) (symbol-at m16 longest _ _ (search rules) c.order.ensures)
 
 pub returns : goal.returns
 returns c =
-    let e : c.loop-t.t ≡ c.args.k = omega arith in
-    message-end _ _ _ _ _ e c.loop-t.invariant.1
+    let e : c.loop-t.t ≡ c.args.rate.k = omega arith in
+    message-end _ _ _ _ _ e c.loop-t.invariant

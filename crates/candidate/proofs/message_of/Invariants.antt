@@ -1,4 +1,3 @@
-use Prim.Native.Nat.{◌≤◌, ◌-◌}
 use lib.ListN.{replicate}
 use Rattle.code.specs.Encoding.{most_rate}
 use Rattle.lists.specs.Filled.{Filled}
@@ -6,7 +5,4 @@ use Rattle.candidate.specs.Candidate.{symbol_in}
 use Rattle.candidate.proofs.message_of.Given as goal
 
 abbrev pub invariant-loop-t : goal.invariant-loop-t
-invariant-loop-t l = (l.t ≤ l.k) × Filled (replicate most_rate 0) (symbol_in l.function) l.t l.out
-
-abbrev pub decreases-loop-t : goal.decreases-loop-t
-decreases-loop-t l = l.k - l.t
+invariant-loop-t l = Filled (replicate most_rate 0) (symbol_in l.function) l.t l.out

@@ -1,4 +1,4 @@
-use Prim.Native.Nat.{◌-◌, ◌≤◌}
+use Prim.Native.Nat.{◌≤◌}
 use Rattle.soft.specs.Column.{column_of}
 use Rattle.book.specs.rows.AlikeDelivery.{Agreed}
 use Rattle.book64.specs.Here.{places, width, deliver_row}
@@ -11,6 +11,3 @@ abbrev pub invariant-loop-place : goal.invariant-loop-place
 invariant-loop-place l =
     (l.place ≤ places) × Good l.current
     × Agreed (deliver_row (book_of l.initial.current) (table_entries (column_of width l.costs))) (deliver_row (book_of l.current) (columns_from (column_of width l.costs) l.place))
-
-abbrev pub decreases-loop-place : goal.decreases-loop-place
-decreases-loop-place l = places - l.place

@@ -4,4 +4,4 @@ use Rattle.captures.proofs.make_capture.Goals as goal
 
 pub returns : goal.returns
 unfolding make_capture_of
-returns c = c.write_opened.ensures.answers _ c.open_table-filled.ensures
+returns c = c.write_opened.ensures.answers _ c.open_table.ensures

@@ -1,10 +1,17 @@
--- `write_opened` meets its contract: of a refused opening the number is returned, of an accepted one what writing answers.
+-- `write_opened` meets its contract: of a refused opening the refusal is handed on, of an accepted one what writing answers.
+use Rattle.std.specs.Prelude.{Ok, Err}
+use mathlib.Core.Path.{refl}
+use Rattle.refusals.specs.Numbers.{never-accepted}
+use Rattle.session.specs.Calls.{started}
 use Rattle.captures.proofs.Answered.{written-refused, written_on}
 use Rattle.captures.proofs.write_opened.Goals as goal
 
-pub returns-then-opened-ne-ACCEPTED : goal.returns-then-opened-ne-ACCEPTED
-returns-then-opened-ne-ACCEPTED c = record { answers = λ o d. written-refused o _ d _ c.if-opened-ne-ACCEPTED.true }
+pub returns-in-Err : goal.returns-in-Err
+returns-in-Err c =
+    rw c.in-Err.is
+    (record { answers = λ o d. written-refused o (started (Err c.in-Err.refusal)) d _ (never-accepted _) })
 
-pub returns : goal.returns
-returns c =
-    record { answers = λ o d. written_on o _ d _ _ _ c.if-opened-ne-ACCEPTED.false c.write_capture.ensures }
+pub returns-in-Ok : goal.returns-in-Ok
+returns-in-Ok c =
+    rw c.in-Ok.is
+    (record { answers = λ o d. written_on o (started (Ok c.in-Ok.session)) d _ _ _ refl c.write_capture.ensures })

@@ -3,43 +3,39 @@ use mathlib.Core.Path.{◌≡◌, refl, sym, ap, ◌∙◌}
 use Prim.Native.Nat.{◌<◌, ◌≤◌}
 use native.Mathlib.Omega.{arith}
 use lib.ListN.{length, take}
+use Rattle.std.proofs.Common.{take_all}
 use Rattle.lists.specs.Distinct.{below, distinct}
-use Rattle.soft.specs.Doubt.{most_doubt}
 use Rattle.chase.specs.Places.{are_places}
 use Rattle.near.specs.Flags as Family
 use Rattle.near.specs.Flags.{flag-all, places-turn, places-above, places-again}
 use borrow.Author.Rules.{rules}
 use Rattle.chase.proofs.are_places.Goals as goal
 
-pub loop-i-init : goal.loop-i-init
+pub loop-p-init : goal.loop-p-init
 unfolding Family.are_places below distinct
-loop-i-init c = (search rules, search rules, search rules, flag-all c.args.doubtful, refl)
+loop-p-init c = (search rules, flag-all c.args.doubtful.now, refl)
 
 pub returns-then-place-ge-PLACES : goal.returns-then-place-ge-PLACES
 returns-then-place-ge-PLACES c =
-    let i = c.loop-i.invariant in
-    let h : c.args.doubt ≤ most_doubt = search rules in
-    let b : c.loop-i.i < c.args.doubt = search rules in
-    sym (places-above _ _ _ i.1 h b c.if-place-ge-PLACES.true)
+    let ps = c.args.doubtful.now in
+    let i = c.loop-p.invariant in
+    let h : c.loop-p.p-index < length ps = search rules in
+    let whole : are_places (take (length ps) ps) ≡ are_places ps = ap are_places (take_all (length ps) ps (omega arith)) in
+    elim c.then-place-ge-PLACES.branch [
+      | goal.then-place-ge-PLACES-via-then-place-ge-PLACES w ↦
+          sym (sym whole ∙ places-above ps c.loop-p.p-index (length ps) refl (omega arith) h w.if-place-ge-PLACES.true)
+      | goal.then-place-ge-PLACES-via-else-place-ge-PLACES+then-unnamed-place-eq0 w ↦
+          sym (sym whole ∙ places-again ps c.loop-p.p-index (length ps) refl (omega arith) h _ w.if-place-ge-PLACES.false w.if-unnamed-place-eq0.true i.1)
+    ]
 
-pub returns-then-unnamed-place-eq0 : goal.returns-then-unnamed-place-eq0
-returns-then-unnamed-place-eq0 c =
-    let i = c.loop-i.invariant in
-    let h : c.args.doubt ≤ most_doubt = search rules in
-    let b : c.loop-i.i < c.args.doubt = search rules in
-    sym (places-again _ _ _ i.1 h b _ c.if-place-ge-PLACES.false c.if-unnamed-place-eq0.true i.3)
-
-pub loop-i-preserved : goal.loop-i-preserved
-loop-i-preserved c =
-    let i = c.loop-i.invariant in
-    let h : c.args.doubt ≤ most_doubt = search rules in
-    let b : c.loop-i.i < c.args.doubt = search rules in
-    let n : c.loop-i.i < length c.args.doubtful = omega (arith, i.1) in
-    let t = places-turn _ _ _ n c.if-place-ge-PLACES.false c.if-unnamed-place-eq0.false i.3 i.4 in
-    (search rules, i.1, search rules, t.0, t.1)
+pub loop-p-preserved : goal.loop-p-preserved
+loop-p-preserved c =
+    let i = c.loop-p.invariant in
+    let h : c.loop-p.p-index < length c.args.doubtful.now = search rules in
+    let t = places-turn _ _ _ h c.if-place-ge-PLACES.false c.if-unnamed-place-eq0.false i.1 i.2 in
+    (search rules, t.0, t.1)
 
 pub returns : goal.returns
 returns c =
-    let i = c.loop-i.invariant in
-    let e : c.loop-i.i ≡ c.args.doubt = omega arith in
-    sym (ap (λ n. are_places (take n c.args.doubtful)) (sym e) ∙ i.4)
+    let h : length c.args.doubtful.now ≤ c.loop-p.p-index = search rules in
+    sym (ap are_places (sym (take_all c.loop-p.p-index c.args.doubtful.now h)) ∙ c.loop-p.invariant.2)

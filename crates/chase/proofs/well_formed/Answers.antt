@@ -7,19 +7,14 @@ use Rattle.chase.specs.Call.{scope64}
 use Rattle.chase.proofs.well_formed.Goals as goal
 
 pub returns-then-not-known_rate : goal.returns-then-not-known_rate
-returns-then-not-known_rate c = sym (rate-refused scope64 _ _ _ _ (sym c.known_rate.ensures ∙ c.if-not-known_rate.true))
-
-pub returns-then-costs-ne-COSTS : goal.returns-then-costs-ne-COSTS
-returns-then-costs-ne-COSTS c =
-    let known : known_rate c.args.rate ≡ true =
-    sym c.known_rate.ensures ∙ c.if-not-known_rate.false in
-    sym (size-refused scope64 _ _ _ _ (known) c.if-costs-ne-COSTS.true)
-
-pub returns-then-doubt-gt-MOST_DOUBT : goal.returns-then-doubt-gt-MOST_DOUBT
-returns-then-doubt-gt-MOST_DOUBT c =
-    let known : known_rate c.args.rate ≡ true =
-    sym c.known_rate.ensures ∙ c.if-not-known_rate.false in
-    sym (doubt-refused scope64 _ _ _ _ (known) c.if-costs-ne-COSTS.false c.if-doubt-gt-MOST_DOUBT.true)
+returns-then-not-known_rate c =
+    elim c.then-not-known_rate.branch [
+      | goal.then-not-known_rate-via-then-not-known_rate w ↦ sym (rate-refused scope64 _ _ _ _ (sym c.known_rate.ensures ∙ w.if-not-known_rate.true))
+      | goal.then-not-known_rate-via-else-not-known_rate+then-costs-ne-COSTS w ↦
+          sym (size-refused scope64 _ _ _ _ (sym c.known_rate.ensures ∙ w.if-not-known_rate.false) w.if-costs-ne-COSTS.true)
+      | goal.then-not-known_rate-via-else-not-known_rate+else-costs-ne-COSTS+then-doubt-gt-MOST_DOUBT w ↦
+          sym (doubt-refused scope64 _ _ _ _ (sym c.known_rate.ensures ∙ w.if-not-known_rate.false) w.if-costs-ne-COSTS.false w.if-doubt-gt-MOST_DOUBT.true)
+    ]
 
 pub returns : goal.returns
 returns c =

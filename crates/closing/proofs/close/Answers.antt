@@ -1,13 +1,15 @@
 -- `close` meets its contract: each return is a case of closing, and the tests on the way say which.
-use mathlib.Core.Path.{◌≡◌, sym, ap, ◌∙◌}
+use Rattle.std.specs.Prelude.{Ok, Err}
+use mathlib.Core.Path.{◌≡◌, refl, sym, ap, ◌∙◌}
 use mathlib.Core.Logic.{inl, inr}
 use native.Mathlib.Omega.{arith}
 use lib.ListN.{length, take}
 use lib.Seq.{length-take-le}
 use Rattle.soft.specs.Doubt.{most_doubt}
 use Rattle.book64.specs.Modem64.{modem64}
+use Rattle.refusals.specs.Numbers.{never-accepted}
 use Rattle.session.specs.declared.Session.{Session}
-use Rattle.session.specs.declared.Opened.{Opened}
+use Rattle.session.specs.Calls.{Ending, started, opened_of}
 use Rattle.session.specs.AnsweringLaws.{closing-by-hand, closing-wrong-size, closing-early, closing-decoded}
 use Rattle.session.specs.Laws.{opens}
 use Rattle.answering.specs.Asked.{askable-fit}
@@ -40,10 +42,12 @@ slice_bounds-open-end c =
     let l : length s.doubtful ≡ most_doubt = search rules in
     sym (length-take-le s.doubt s.doubtful (omega arith))
 
-pub returns-then-opened-ne-ACCEPTED : goal.returns-then-opened-ne-ACCEPTED
-returns-then-opened-ne-ACCEPTED c =
+pub returns-in_err-open : goal.returns-in_err-open
+returns-in_err-open c =
+    let s : Session = c.args.session in
+    let e : started (Err c.in_err-open.field-0.0) ≡ opened_of s.rate (take s.doubt s.doubtful) = c.in_err-open.ensures in
     closing-by-hand _ _ _ _
-    (λ good. c.if-opened-ne-ACCEPTED.true (fit_opened modem64 _ _ (ap (λ (o : Opened). o.refusal) c.open-opened.ensures ∙ (opens _ _).number) good.rate_known good.list_fit))
+    (λ good. never-accepted _ (fit_opened modem64 _ _ (ap (λ (o : Ending). o.refusal) e ∙ (opens _ _).number) good.rate_known good.list_fit))
 
 pub slice_bounds-summary_of-end : goal.slice_bounds-summary_of-end
 slice_bounds-summary_of-end c =
@@ -62,7 +66,8 @@ decode-requires c =
     let table_room : length c.args.session.costs ≡ 1024 =
     search rules in
     let s : Session = c.args.session in
-    let f = opened-fit modem64 s.rate (take s.doubt s.doubtful) (ap (λ (o : Opened). o.refusal) c.open-opened.ensures ∙ (opens _ _).number) c.if-opened-ne-ACCEPTED.false in (
+    let e : started (Ok c.in_ok-open.field-0) ≡ opened_of s.rate (take s.doubt s.doubtful) = c.in_ok-open.ensures in
+    let f = opened-fit modem64 s.rate (take s.doubt s.doubtful) (ap (λ (o : Ending). o.refusal) e ∙ (opens _ _).number) refl in (
       record {
         askable = askable-fit modem64 s.rate s.costs s.doubtful s.doubt f.0 f.1 (table_room) c.if-doubt-gt-MOST_DOUBT.false;
         message_long = c.if-message-rate.false;

@@ -5,6 +5,7 @@ use lib.ListN.{length}
 use Rattle.soft.specs.Column.{places}
 use Rattle.code.specs.Encoding.{most_rate}
 use Rattle.code.specs.Rates.{known-bounds}
+use Rattle.candidate.specs.Ranged.{known-range}
 use Rattle.book64.specs.Here.{report_length}
 use Rattle.answers.specs.Result.{total-near}
 use Rattle.chase.specs.Laws.{nearest-call}
@@ -17,9 +18,6 @@ use Rattle.decoding.proofs.decode.Goals as goal
 pub nearest_by-found-requires : goal.nearest_by-found-requires
 nearest_by-found-requires c = c.requires.1
 
-pub unanswered-requires : goal.unanswered-requires
-unanswered-requires c = c.requires.0.askable.known
-
 pub returns-in_default : goal.returns-in_default
 returns-in_default c =
     answered-none c.requires.0.askable
@@ -31,10 +29,11 @@ slice_bounds-mark-end c =
     search rules in
     sym (word_room)
 
-pub least_distance-requires : goal.least_distance-requires
-least_distance-requires c =
-    let b = known-bounds _ c.requires.0.askable.known in
-    record { least = omega (arith, b); most = omega (arith, b) }
+pub invariant_of-of_rate : goal.invariant_of-of_rate
+invariant_of-of_rate c = record { ranged = known-range _ c.requires.0.askable.known }
+
+pub invariant_of-of_rate-2 : goal.invariant_of-of_rate-2
+invariant_of-of_rate-2 c = record { ranged = known-range _ c.requires.0.askable.known }
 
 pub mark-mark-requires : goal.mark-mark-requires
 mark-mark-requires c =

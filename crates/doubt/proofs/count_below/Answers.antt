@@ -1,7 +1,7 @@
 -- `doubt::count_below` meets its contract. The loop's invariant: `n` counts the places passed whose gap is below the limit.
 use mathlib.Core.Path.{◌≡◌, sym}
 use native.Mathlib.Omega.{arith}
-use Rattle.lists.specs.Count.{count-nil, count_turn}
+use Rattle.lists.specs.Count.{count-nil, count_turn, from_bit}
 use Rattle.weighing.specs.Keys.{below_by}
 use Rattle.doubt.proofs.count_below.Goals as goal
 
@@ -11,8 +11,8 @@ loop-place-init c = (omega arith, omega arith, sym (count-nil _))
 pub loop-place-preserved : goal.loop-place-preserved
 loop-place-preserved c = (
   omega arith,
-  omega arith,
-  count_turn _ _ _ _ c.loop-place.invariant.2 c.bit.ensures.0,
+  omega (arith, (from_bit _ c.from-n.ensures).1),
+  count_turn _ _ _ _ c.loop-place.invariant.2 (from_bit _ c.from-n.ensures).0,
 )
 
 pub returns : goal.returns

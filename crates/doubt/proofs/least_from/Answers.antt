@@ -11,7 +11,7 @@ loop-place-init c = (omega arith, sym (least-nil far _))
 pub loop-place-preserved : goal.loop-place-preserved
 loop-place-preserved c = (
   omega arith,
-  least-turn far _ _ _ _ _ c.loop-place.invariant.1 c.from_bound.ensures c.lesser-least.ensures,
+  least-turn far _ _ _ _ _ c.loop-place.invariant.1 c.from_bound.ensures c.min-least.ensures,
 )
 
 pub returns : goal.returns

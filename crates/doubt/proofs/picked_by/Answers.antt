@@ -1,9 +1,7 @@
 -- `doubt::picked_by` meets its contract. The loop's invariant: `out` holds the places passed whose keys are below the bound, and `found` counts them.
-use mathlib.Core.Path.{◌≡◌, refl, sym, ap, ◌∙◌}
+use mathlib.Core.Path.{◌≡◌, refl, sym, ◌∙◌}
 use native.Mathlib.Omega.{arith}
-use lib.ListN.{length}
-use Rattle.lists.specs.Count.{count, count-nil, count_turn, kept-length}
-use Rattle.lists.specs.Padded.{padded-length}
+use Rattle.lists.specs.Count.{count-nil, count_turn, kept-length, from_bit}
 use Rattle.soft.specs.Doubt.{most_doubt}
 use Rattle.doubt.specs.Keys.{far}
 use Rattle.weighing.specs.Bound.{chosen-below}
@@ -14,15 +12,12 @@ use Rattle.doubt.proofs.picked_by.Goals as goal
 pub loop-place-init : goal.loop-place-init
 loop-place-init c = (omega arith, omega arith, sym (count-nil _), places-start most_doubt _)
 
-pub with_place-requires : goal.with_place-requires
-with_place-requires c = ap length c.loop-place.invariant.3 ∙ padded-length most_doubt _
-
 pub loop-place-preserved : goal.loop-place-preserved
 loop-place-preserved c =
     let i = c.loop-place.invariant in (
       omega arith,
-      omega arith,
-      count_turn _ _ _ _ i.2 c.bit.ensures.0,
+      omega (arith, (from_bit _ c.from-found.ensures).1),
+      count_turn _ _ _ _ i.2 (from_bit _ c.from-found.ensures).0,
       places-turn most_doubt _ _ _ _ _ _ i.3 i.2 refl c.with_place.ensures,
     )
 

@@ -10,7 +10,7 @@ returns-then-at-lt-MOST_DOUBT c = simp c.if-chosen.true
 pub returns-else-at-lt-MOST_DOUBT : goal.returns-else-at-lt-MOST_DOUBT
 returns-else-at-lt-MOST_DOUBT c =
     let a = c.args in
-    simp c.if-chosen.true (sym (set_out a.list.now a.at a.place (omega (arith, c.requires))))
+    simp c.if-chosen.true (sym (set_out a.list.now a.at a.place (omega (arith, c.told-list))))
 
 pub returns-else-chosen : goal.returns-else-chosen
 returns-else-chosen c = simp c.if-chosen.false

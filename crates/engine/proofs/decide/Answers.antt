@@ -5,17 +5,17 @@ use Rattle.candidate.specs.Ranged.{limit-small}
 use Rattle.engine.proofs.Deciding.{none-solved, far-solved, near-solved}
 use Rattle.engine.proofs.decide.Goals as goal
 
-pub solve-solved-requires : goal.solve-solved-requires
-solve-solved-requires c = omega (arith, c.largest_key-limit.ensures, limit-small c.requires.0 c.args.blanks)
+pub solve-requires : goal.solve-requires
+solve-requires c = omega (arith, c.largest_key-limit.ensures, limit-small c.args.counted.now.rate.ranged c.args.counted.now.blanks)
 
-pub returns-then-limit-solved : goal.returns-then-limit-solved
-returns-then-limit-solved c = none-solved c.requires.0 _ _ c.requires.1 c.requires.2 c.top_order.ensures c.largest_key-limit.ensures c.solve-solved.ensures (omega (arith, c.if-limit-solved.true)) c.nobody.ensures
-
-pub candidate_of-held-requires : goal.candidate_of-held-requires
-candidate_of-held-requires c = c.requires.0
+pub returns-in_err-solved : goal.returns-in_err-solved
+returns-in_err-solved c =
+    rw c.from_residual.ensures
+    (none-solved c.args.counted.now.rate.ranged c.args.word c.args.counted.now.counts c.args.counted.now.allowed c.requires c.top_order.ensures c.largest_key-limit.ensures
+    c.in_err-solved.ensures)
 
 pub returns-then-reach-distance : goal.returns-then-reach-distance
-returns-then-reach-distance c = far-solved c.requires.0 _ _ c.requires.1 c.requires.2 c.top_order.ensures c.largest_key-limit.ensures c.solve-solved.ensures (omega (arith, c.if-limit-solved.false)) c.candidate_of-held.ensures c.reach.ensures c.distance.ensures (omega (arith, c.if-reach-distance.true)) c.nobody-then-reach-distance.ensures
+returns-then-reach-distance c = far-solved c.args.counted.now.rate.ranged _ _ c.args.counted.now.allowed c.requires c.top_order.ensures c.largest_key-limit.ensures _ c.in_ok-solved.ensures c.candidate_of.ensures c.reach.ensures c.distance.ensures (omega (arith, c.if-reach-distance.true))
 
 pub returns : goal.returns
-returns c = near-solved c.requires.0 _ _ c.requires.1 c.requires.2 c.top_order.ensures c.largest_key-limit.ensures c.solve-solved.ensures (omega (arith, c.if-limit-solved.false)) c.candidate_of-held.ensures c.reach.ensures c.distance.ensures (omega (arith, c.if-reach-distance.false)) refl c.without_z.ensures c.with_z.ensures (c.scaled-bytes.ensures _) refl
+returns c = near-solved c.args.counted.now.rate.ranged _ _ c.args.counted.now.allowed c.requires c.top_order.ensures c.largest_key-limit.ensures _ c.in_ok-solved.ensures c.candidate_of.ensures c.reach.ensures c.distance.ensures (omega (arith, c.if-reach-distance.false)) refl c.without_z.ensures c.with_z.ensures (c.scaled-bytes.ensures _)

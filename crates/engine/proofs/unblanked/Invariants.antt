@@ -1,4 +1,3 @@
-use Prim.Native.Nat.{◌-◌}
 use lib.ListN.{replicate}
 use Rattle.lists.specs.Filled.{Filled}
 use Rattle.engine.specs.Solution.{open_flag}
@@ -6,6 +5,3 @@ use Rattle.engine.proofs.unblanked.Given as goal
 
 abbrev pub invariant-loop-place : goal.invariant-loop-place
 invariant-loop-place l = Filled (replicate 64 0) (open_flag l.blanks) l.place l.out
-
-abbrev pub decreases-loop-place : goal.decreases-loop-place
-decreases-loop-place l = 64 - l.place

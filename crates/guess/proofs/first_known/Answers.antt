@@ -5,10 +5,7 @@ use Rattle.search.specs.Guessed.{known-nothing}
 use Rattle.guess.proofs.first_known.Goals as goal
 
 pub returns-then-told-ne0-2 : goal.returns-then-told-ne0-2
-returns-then-told-ne0-2 c = known-nothing c.requires.most (ap fields_of c.none_near.ensures)
-
-pub returns-then-told-ne0-3 : goal.returns-then-told-ne0-3
-returns-then-told-ne0-3 c = known-nothing c.requires.most (ap fields_of c.none_near-then-told-ne0-3.ensures)
+returns-then-told-ne0-2 c = known-nothing c.args.rate.ranged.most (ap fields_of c.none_near.ensures)
 
 pub returns-then-all_of-ne0 : goal.returns-then-all_of-ne0
-returns-then-all_of-ne0 c = known-nothing c.requires.most (ap fields_of c.none_near-then-all_of-ne0.ensures)
+returns-then-all_of-ne0 c = known-nothing c.args.rate.ranged.most (ap fields_of c.none_near-then-all_of-ne0.ensures)

@@ -3,4 +3,4 @@ use Rattle.search.specs.Guessed.{known-shown}
 use Rattle.guess.proofs.known_of.Goals as goal
 
 pub returns : goal.returns
-returns c = known-shown c.shown-held.ensures
+returns c = known-shown c.shown.ensures

@@ -4,5 +4,5 @@ use Rattle.answers.specs.Result.{fields_of}
 use Rattle.search.specs.Guessed.{known-nothing}
 use Rattle.guess.proofs.mended.Goals as goal
 
-pub returns-then-place-ge-PLACES : goal.returns-then-place-ge-PLACES
-returns-then-place-ge-PLACES c = known-nothing c.requires.0.most (ap fields_of c.none_near.ensures)
+pub returns-in_default : goal.returns-in_default
+returns-in_default c = known-nothing c.args.rate.ranged.most (ap fields_of c.none_near.ensures)

@@ -1,11 +1,7 @@
 use mathlib.Core.Path.{◌≡◌}
-use Prim.Native.Nat.{◌≤◌, ◌-◌}
 use Rattle.lists.specs.XorSum.{xor_sum}
 use Rattle.guess.specs.Guess.{with_bit}
 use Rattle.guess.proofs.sum_with.Given as goal
 
 abbrev pub invariant-loop-place : goal.invariant-loop-place
-invariant-loop-place l = (l.place ≤ 64) × (l.out ≡ xor_sum l.place (with_bit l.word l.bit))
-
-abbrev pub decreases-loop-place : goal.decreases-loop-place
-decreases-loop-place l = 64 - l.place
+invariant-loop-place l = l.out ≡ xor_sum l.place (with_bit l.word l.bit)

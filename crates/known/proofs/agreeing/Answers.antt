@@ -1,27 +1,19 @@
 -- The loop's invariant: what is counted so far and the places still to come make the whole count.
-use Prim.Native.Nat.{◌<◌, ◌≤◌}
+use mathlib.Core.Path.{ap, ◌∙◌}
 use native.Mathlib.Omega.{arith}
 use Rattle.soft.specs.Blank.{flag_at}
 use Rattle.soft.specs.Column.{places}
-use Rattle.soft.specs.Doubt.{most_doubt}
-use Rattle.near.specs.Written.{agreeing-turn, agreeing-end}
+use Rattle.lists.specs.Count.{bit, bit_le}
+use Rattle.lists.specs.Count.{from_bit}
+use Rattle.known.proofs.Passing.{agreeing-next, agreeing-none}
 use borrow.Author.Rules.{rules}
 use Rattle.known.proofs.agreeing.Goals as goal
 
-pub loop-i-init : goal.loop-i-init
-loop-i-init c = (search rules, search rules, omega arith)
+pub loop-p-preserved : goal.loop-p-preserved
+loop-p-preserved c =
+    let i = c.loop-p.invariant in
+    let b = (from_bit _ c.from-n.ensures).0 in
+    (omega (arith, i.0, b, bit_le c.agrees.result), omega (arith, i.1, agreeing-next c.args.places.now c.loop-p.p-index places (flag_at c.args.counts) c.args.codeword c.args.word (search rules) (b ∙ ap bit c.agrees.ensures)))
 
-pub loop-i-preserved : goal.loop-i-preserved
-loop-i-preserved c =
-    let i = c.loop-i.invariant in
-    let a = c.args in
-    let h : a.undecided.doubt ≤ most_doubt = search rules in
-    let b : c.loop-i.i < a.undecided.doubt = search rules in
-    (i.0, search rules, omega (arith, i.2, agreeing-turn places (flag_at a.counts) a.codeword a.word a.undecided.doubtful _ _ i.0 h b c.agrees-n.ensures.0))
-
-pub returns : goal.returns
-returns c =
-    let i = c.loop-i.invariant in
-    let a = c.args in
-    let h : a.undecided.doubt ≤ c.loop-i.i = search rules in
-    omega (arith, i.2, agreeing-end places (flag_at a.counts) a.codeword a.word a.undecided.doubtful _ _ h)
+pub returns-clause-number : goal.returns-clause-number
+returns-clause-number c = omega (arith, c.loop-p.invariant.1, agreeing-none c.args.places.now c.loop-p.p-index places (flag_at c.args.counts) c.args.codeword c.args.word (search rules))

@@ -1,14 +1,10 @@
 use mathlib.Core.Path.{◌≡◌}
-use Prim.Native.Nat.{◌+◌, ◌-◌, ◌≤◌}
-use lib.ListN.{length, take, drop}
-use Rattle.soft.specs.Doubt.{most_doubt}
+use Prim.Native.Nat.{◌+◌, ◌≤◌}
+use lib.ListN.{drop}
 use Rattle.known.specs.Known.{agreeing_in}
 use Rattle.known.proofs.agreeing.Given as goal
 
-abbrev pub invariant-loop-i : goal.invariant-loop-i
-invariant-loop-i l =
-    (length l.doubtful ≡ most_doubt) × (l.n ≤ l.i)
-    × (agreeing_in l.counts l.codeword l.word (drop l.initial.i (take l.doubt l.doubtful)) ≡ l.n + agreeing_in l.counts l.codeword l.word (drop l.i (take l.doubt l.doubtful)))
-
-abbrev pub decreases-loop-i : goal.decreases-loop-i
-decreases-loop-i l = l.doubt - l.i
+abbrev pub invariant-loop-p : goal.invariant-loop-p
+invariant-loop-p l =
+    (l.n ≤ l.p-index)
+    × (agreeing_in l.counts l.codeword l.word l.fn.places ≡ l.n + agreeing_in l.counts l.codeword l.word (drop l.p-index l.fn.places))

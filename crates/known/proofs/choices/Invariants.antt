@@ -1,10 +1,6 @@
 use mathlib.Core.Path.{◌≡◌}
-use Prim.Native.Nat.{◌-◌, ◌≤◌}
 use Rattle.lists.specs.Choices.{choose_of, choices_of}
 use Rattle.known.proofs.choices.Given as goal
 
 abbrev pub invariant-loop-i : goal.invariant-loop-i
-invariant-loop-i l = (l.i ≤ l.most) × (l.exactly ≡ choose_of l.m l.i) × (l.sum ≡ choices_of l.m l.i)
-
-abbrev pub decreases-loop-i : goal.decreases-loop-i
-decreases-loop-i l = l.most - l.i
+invariant-loop-i l = (l.exactly ≡ choose_of l.m l.i) × (l.sum ≡ choices_of l.m l.i)

@@ -18,4 +18,6 @@ loop-i-preserved c =
     (omega arith, search-next _ _ _ c.loop-i-test.true c.if-records-i.false c.loop-i.invariant.1)
 
 pub returns : goal.returns
-returns c = search-end _ _ _ c.loop-i-test.false c.loop-i.invariant.0 c.loop-i.invariant.1
+returns c =
+    let n = search-end _ _ _ c.loop-i-test.false c.loop-i.invariant.0 c.loop-i.invariant.1 in
+    omega (arith, n)

@@ -11,18 +11,10 @@ returns-then-flag-ne1 c =
     let a = c.args in
     (over_none a.flag (cost_in (column_of 16 a.costs.now) a.word.now a.place) a.least (ne_eqb a.flag 1 c.if-flag-ne1.true), omega arith)
 
-pub returns-then-cost-least : goal.returns-then-cost-least
-returns-then-cost-least c =
-    let a = c.args in (
-      over-made (column_of 16 a.costs.now) a.word.now a.place a.least c.if-flag-ne1.false c.byte_at.ensures
-          c.cost_of-cost.ensures (omega arith),
-      omega arith,
-    )
-
 pub returns : goal.returns
 returns c =
     let a = c.args in (
-      over-made (column_of 16 a.costs.now) a.word.now a.place a.least c.if-flag-ne1.false c.byte_at.ensures
-          c.cost_of-cost.ensures (omega arith),
+      over-made (column_of 16 a.costs.now) a.word.now a.place a.least c.if-flag-ne1.false c.entry_or.ensures
+          c.cost_of.ensures c.saturating_sub.ensures,
       omega arith,
     )

@@ -10,6 +10,3 @@ abbrev pub invariant-loop-i : goal.invariant-loop-i
 invariant-loop-i l =
     (l.i ≤ 64) × Good l.current
     × Agreed (deliver_row (book_of l.initial.current) (records_of places l.records)) (deliver_row (book_of l.current) (records_of (64 - l.i) (drop (33 * l.i) l.records)))
-
-abbrev pub decreases-loop-i : goal.decreases-loop-i
-decreases-loop-i l = 64 - l.i

@@ -1,6 +1,7 @@
 -- `extracted` meets its contract: the loop stores each message symbol, which is the coefficient of its order.
 use mathlib.Core.Path.{refl, ap, ◌∙◌}
 use lib.ListN.{length}
+use Rattle.lists.specs.Padded.{padded-same}
 use Rattle.lists.specs.Filled.{filled-start, filled-turn, filled-end}
 use Rattle.lists.specs.Words.{all_below}
 use Rattle.coefficients.specs.Reading.{coefficients_of}
@@ -12,7 +13,7 @@ use Rattle.reading_back.proofs.extracted.Goals as goal
 
 pub loop-t-init : goal.loop-t-init
 loop-t-init c =
-    let same = c.word_of.ensures in (
+    let same = c.padded.ensures ∙ padded-same 64 _ c.requires.0 in (
       c.coefficients-shown.ensures
           ∙ ap coefficients_of (shown-word _ _ (ap length same ∙ c.requires.0) (ap (all_below 16) same ∙ c.requires.1) c.planes.ensures ∙ same),
       filled-start _ _,

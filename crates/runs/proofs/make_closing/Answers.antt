@@ -3,4 +3,4 @@ use Rattle.runs.specs.Step.{closing-step}
 use Rattle.runs.proofs.make_closing.Goals as goal
 
 pub returns : goal.returns
-returns c = closing-step c.close-refusal.ensures
+returns c = closing-step c.close.ensures

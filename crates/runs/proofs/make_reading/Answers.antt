@@ -3,4 +3,4 @@ use Rattle.runs.specs.Step.{reading_step}
 use Rattle.runs.proofs.make_reading.Goals as goal
 
 pub returns : goal.returns
-returns c = reading_step c.read_interpolant-refusal.ensures
+returns c = reading_step c.read_interpolant.ensures

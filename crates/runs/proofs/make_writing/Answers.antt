@@ -3,4 +3,4 @@ use Rattle.runs.specs.Step.{writing_step}
 use Rattle.runs.proofs.make_writing.Goals as goal
 
 pub returns : goal.returns
-returns c = writing_step c.write_capture-refusal.ensures
+returns c = writing_step c.write_capture.ensures

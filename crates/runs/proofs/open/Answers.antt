@@ -1,6 +1,6 @@
 -- `open` meets its contract: what opening answers is an opening that answers as the book does.
-use Rattle.session.specs.Laws.{opens}
+use Rattle.session.specs.Laws.{opening-as, opens}
 use Rattle.runs.proofs.open.Goals as goal
 
 pub returns : goal.returns
-returns c = rw c.open.ensures (opens _ _)
+returns c = opening-as c.open.ensures (opens _ _)

@@ -10,7 +10,7 @@ returns c =
     λ i. record {
       rate = c.args.rate;
       doubt = length c.args.list.now;
-      doubtful = c.padded_list-doubtful.ensures i;
+      doubtful = c.padded-doubtful.ensures i;
       taken = replicate 64 false;
       costs = replicate 1024 0;
     }

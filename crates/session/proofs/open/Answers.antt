@@ -5,26 +5,27 @@ use Rattle.code.specs.Rates.{known-bounds}
 use Rattle.session.specs.declared.Session.{Session}
 use Rattle.book64.specs.Modem64.{modem64}
 use Rattle.calls.specs.Scan.{long-unfit, short-fit}
+use Rattle.session.specs.Calls.{refused_with}
 use Rattle.session.specs.Laws.{opened-rate, opened-list, opened-new}
 use Rattle.session.proofs.open.Goals as goal
 
 pub returns-then-not-known_rate : goal.returns-then-not-known_rate
+unfolding refused_with
 returns-then-not-known_rate c =
-    c.refused.ensures
-    ∙ sym (opened-rate _ _ (sym c.known_rate.ensures ∙ c.if-not-known_rate.true))
+    sym (opened-rate _ _ (sym c.known_rate.ensures ∙ c.if-not-known_rate.true))
 
 pub returns-then-doubtful-gt-MOST_DOUBT : goal.returns-then-doubtful-gt-MOST_DOUBT
+unfolding refused_with
 returns-then-doubtful-gt-MOST_DOUBT c =
-    c.refused-then-doubtful-gt-MOST_DOUBT.ensures
-    ∙ sym
+    sym
     (opened-list _ _
     (sym c.known_rate.ensures ∙ c.if-not-known_rate.false)
     (long-unfit modem64 _ c.if-doubtful-gt-MOST_DOUBT.true))
 
 pub returns-then-not-fit_places : goal.returns-then-not-fit_places
+unfolding refused_with
 returns-then-not-fit_places c =
-    c.refused-then-not-fit_places.ensures
-    ∙ sym
+    sym
     (opened-list _ _
     (sym c.known_rate.ensures ∙ c.if-not-known_rate.false)
     (short-fit modem64 _ c.if-doubtful-gt-MOST_DOUBT.false ∙ sym c.fit_places.ensures ∙ c.if-not-fit_places.true))
@@ -39,7 +40,7 @@ overflow_cast-rate c =
 
 pub returns : goal.returns
 returns c =
-    ap (λ (s : Session). record { refusal = 0; session = s }) c.new_session-fresh.ensures
+    ap (λ (s : Session). record { refusal = 0; session = s }) c.new_session.ensures
     ∙ sym
     (opened-new _ _
     (sym c.known_rate.ensures ∙ c.if-not-known_rate.false)

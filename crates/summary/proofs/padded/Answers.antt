@@ -8,7 +8,7 @@ pub loop-i-init : goal.loop-i-init
 loop-i-init c = (omega arith, listed_start _ _)
 
 pub loop-i-preserved : goal.loop-i-preserved
-loop-i-preserved c = (omega arith, listed-store 0 _ _ _ _ _ (omega arith) c.number_at.ensures c.loop-i.invariant.1)
+loop-i-preserved c = (omega arith, listed-store 0 _ _ _ _ _ (omega arith) c.entry_or.ensures c.loop-i.invariant.1)
 
 pub returns : goal.returns
 returns c =

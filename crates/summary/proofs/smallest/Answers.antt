@@ -9,7 +9,7 @@ pub loop-place-init : goal.loop-place-init
 loop-place-init c = (omega arith, sym (least-nil ceiling _))
 
 pub loop-place-preserved : goal.loop-place-preserved
-loop-place-preserved c = (omega arith, least-turn ceiling _ _ _ _ _ c.loop-place.invariant.1 refl c.lower-out.ensures)
+loop-place-preserved c = (omega arith, least-turn ceiling _ _ _ _ _ c.loop-place.invariant.1 refl c.min-out.ensures)
 
 pub returns : goal.returns
 returns c =

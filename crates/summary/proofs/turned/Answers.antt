@@ -1,6 +1,7 @@
 -- `summary::turned` meets its contract. The loop's invariant: in each array the places passed are stored, the rest is as it was.
-use mathlib.Core.Path.{◌≡◌, sym}
-use Prim.Native.Nat.{◌<◌}
+use mathlib.Core.Path.{◌≡◌, sym, ap, ◌∙◌}
+use Prim.Native.Nat.{◌<◌, min}
+use lib.ListN.{get_or}
 use native.Mathlib.Omega.{arith}
 use Rattle.lists.specs.Listed.{listed_start, listed-store, listed-end}
 use Rattle.soft.specs.Column.{column_of}
@@ -21,9 +22,9 @@ loop-place-preserved c =
       omega arith,
       listed-store 0 _ _ _ _ _ (omega arith) (best-stored columns (λ p l. column-length 16 costs p) (costs-most costs (λ i. omega (arith, c.type_inv.costs i))) c.requires.2 c.requires.0 inside there c.better.ensures)
           loop.invariant.1,
-      listed-store 0 _ _ _ _ _ (omega arith) (least-stored columns c.requires.2 inside there c.lower.ensures)
+      listed-store 0 _ _ _ _ _ (omega arith) (least-stored columns c.requires.2 inside there c.min.ensures)
           loop.invariant.2,
-      listed-store 0 _ _ _ _ _ (omega arith) (next-stored columns c.requires.2 inside there c.next_with.ensures) loop.invariant.3,
+      listed-store 0 _ _ _ _ _ (omega arith) (next-stored columns c.requires.2 inside there (c.min-in-loop-place.ensures ∙ ap (λ x. min (get_or c.args.held.next loop.place 0) x) c.max.ensures)) loop.invariant.3,
     )
 
 pub returns : goal.returns

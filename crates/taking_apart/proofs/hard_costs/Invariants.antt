@@ -1,4 +1,4 @@
-use Prim.Native.Nat.{◌-◌, ◌*◌}
+use Prim.Native.Nat.{◌*◌}
 use lib.ListN.{replicate}
 use Rattle.lists.specs.Filled.{Filled}
 use Rattle.soft.specs.Column.{places, symbols}
@@ -7,6 +7,3 @@ use Rattle.taking_apart.proofs.hard_costs.Given as goal
 
 abbrev pub invariant-loop-i : goal.invariant-loop-i
 invariant-loop-i l = Filled (replicate (places * symbols) 0) (cost_in l.word) l.i l.out
-
-abbrev pub decreases-loop-i : goal.decreases-loop-i
-decreases-loop-i l = places * symbols - l.i

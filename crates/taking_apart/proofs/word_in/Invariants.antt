@@ -1,4 +1,4 @@
-use Prim.Native.Nat.{◌+◌, ◌*◌, ◌-◌}
+use Prim.Native.Nat.{◌+◌, ◌*◌}
 use lib.ListN.{replicate}
 use Rattle.lists.specs.Filled.{Filled}
 use Rattle.soft.specs.Column.{places}
@@ -7,6 +7,3 @@ use Rattle.taking_apart.proofs.word_in.Given as goal
 
 abbrev pub invariant-loop-place : goal.invariant-loop-place
 invariant-loop-place l = Filled (replicate places 0) (λ p. symbol_in l.frame (words * p + l.v)) l.place l.out
-
-abbrev pub decreases-loop-place : goal.decreases-loop-place
-decreases-loop-place l = places - l.place

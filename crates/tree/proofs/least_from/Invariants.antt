@@ -1,11 +1,8 @@
 use mathlib.Core.Path.{◌≡◌}
-use Prim.Native.Nat.{◌+◌, ◌-◌, ◌%◌, ◌≤◌}
+use Prim.Native.Nat.{◌+◌, ◌%◌, ◌≤◌}
 use Rattle.basis.specs.Step.{classes}
 use Rattle.tree.specs.Searching.{Lowest}
 use Rattle.tree.proofs.least_from.Given as goal
 
 abbrev pub invariant-loop-q : goal.invariant-loop-q
 invariant-loop-q l = (l.q ≤ classes + 1) × (l.q % 2 ≡ l.first) × Lowest l.leads l.first l.q l.r
-
-abbrev pub decreases-loop-q : goal.decreases-loop-q
-decreases-loop-q l = classes + 1 - l.q

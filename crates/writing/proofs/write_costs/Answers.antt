@@ -8,9 +8,6 @@ use Rattle.writing.proofs.write_costs.Goals as goal
 pub loop-j-init : goal.loop-j-init
 loop-j-init c = (omega arith, refl, costs-start c.args.column.now c.args.out.now)
 
-pub overflow_cast-out : goal.overflow_cast-out
-overflow_cast-out c = omega (arith, c.type_inv.column c.loop-j.j)
-
 pub bounds-out-j-in-loop-j : goal.bounds-out-j-in-loop-j
 bounds-out-j-in-loop-j c = simp length-set (omega arith)
 
@@ -18,7 +15,7 @@ pub loop-j-preserved : goal.loop-j-preserved
 loop-j-preserved c = (
   omega arith,
   simp length-set c.loop-j.invariant.1,
-  costs-turn _ _ _ _ (omega arith) (omega arith) c.loop-j.invariant.2,
+  costs-turn _ _ _ _ c.to_be_bytes.ensures (omega (arith, c.type_inv.column c.loop-j.j)) (omega arith) (omega arith) c.loop-j.invariant.2,
 )
 
 pub shape_of-out : goal.shape_of-out

@@ -4,7 +4,7 @@ use native.Mathlib.Omega.{arith}
 use mathlib.Core.Path.{◌≡◌, sym, ap, ap₂, ◌∙◌}
 use mathlib.Core.List.{List, ◌∷◌}
 use Prim.Native.Nat.{ℕ, ◌-◌, ◌/◌, ◌%◌}
-use lib.ListN.{length, set, take, length-set}
+use lib.ListN.{length, get_or, set, take, length-set}
 use lib.Seq.{length-take-le}
 use borrow.Rule.Slice.PartMut.{same_len_mid}
 use Rattle.lists.specs.Over.{over-same}
@@ -12,7 +12,7 @@ use Rattle.soft.specs.Doubt.{most_doubt}
 use Rattle.book64.specs.captures.Capture.{body_length, version_of}
 use Rattle.capture.specs.Calls.{head_bytes}
 use Rattle.capture.specs.Rest.{rest-length}
-use Rattle.writing.proofs.Parts.{five-stores, head-end}
+use Rattle.writing.proofs.Parts.{five-stores, head-end, two-bytes}
 use Rattle.writing.proofs.write_head.Goals as goal
 
 pub bounds-out-1 : goal.bounds-out-1
@@ -47,10 +47,10 @@ pub shape_of-out : goal.shape_of-out
 shape_of-out c =
     let a = c.args in
     let v : ℕ = c.version_of.result in
-    let n : ℕ = body_length a.count in
-    let stored : List ℕ = set (set (set (set (set a.out.now 0 v) 1 (n / 256)) 2 (n % 256)) 3 a.rate) 4 a.count in
+    let two : List ℕ = c.to_be_bytes.result in
+    let stored : List ℕ = set (set (set (set (set a.out.now 0 v) 1 (get_or two 0 0)) 2 (get_or two 1 0)) 3 a.rate) 4 a.count in
     same_len_mid 5 (length stored - 5) stored c.copy.new.into c.copy.auto.into
-    ∙ five-stores a.out.now v (n / 256) (n % 256) a.rate a.count
+    ∙ five-stores a.out.now v (get_or two 0 0) (get_or two 1 0) a.rate a.count
 
 pub returns : goal.returns
 unfolding head_bytes
@@ -58,14 +58,15 @@ returns c =
     let a = c.args in
     let v : ℕ = c.version_of.result in
     let n : ℕ = body_length a.count in
-    let stored : List ℕ = set (set (set (set (set a.out.now 0 v) 1 (n / 256)) 2 (n % 256)) 3 a.rate) 4 a.count in
+    let two : List ℕ = c.to_be_bytes.result in
+    let stored : List ℕ = set (set (set (set (set a.out.now 0 v) 1 (get_or two 0 0)) 2 (get_or two 1 0)) 3 a.rate) 4 a.count in
     let l : length a.list ≡ most_doubt = search rules in
     let list : List ℕ = take a.count a.list in
     let m : length list ≡ a.count = length-take-le a.count a.list (omega (arith, c.requires.0)) in
-    let room = rest-length 5 a.count stored (five-stores a.out.now v (n / 256) (n % 256) a.rate a.count ∙ c.requires.1) in
+    let room = rest-length 5 a.count stored (five-stores a.out.now v (get_or two 0 0) (get_or two 1 0) a.rate a.count ∙ c.requires.1) in
     let bytes : List ℕ = c.copy.new.into in
     let e : bytes ≡ list = c.copy.ensures ∙ over-same _ _ (room ∙ sym m) in
     let k : length bytes ≡ a.count = ap length e ∙ m in
-    head-end a.out.now bytes v (n / 256) (n % 256) a.rate a.count (omega (arith, c.requires.1))
-    ∙ ap (λ v. v ∷ n / 256 ∷ n % 256 ∷ a.rate ∷ a.count ∷ bytes) c.version_of.ensures
+    head-end a.out.now bytes v (get_or two 0 0) (get_or two 1 0) a.rate a.count (omega (arith, c.requires.1))
+    ∙ ap₂ (λ v (t : List ℕ). v ∷ get_or t 0 0 ∷ get_or t 1 0 ∷ a.rate ∷ a.count ∷ bytes) c.version_of.ensures (c.to_be_bytes.ensures ∙ two-bytes n (omega (arith, c.requires.0)))
     ∙ ap₂ (λ d (b : List ℕ). version_of d ∷ body_length d / 256 ∷ body_length d % 256 ∷ a.rate ∷ d ∷ b) (sym m) e

@@ -1,14 +1,13 @@
--- By the engine's number.
-use mathlib.Core.Path.{sym, ◌∙◌}
-use mathlib.Core.Logic.{inl, inr}
-use Rattle.branches.specs.Beside.{beside-passed, beside-refused}
+-- By whether the engine's checks passed.
+use mathlib.Core.Path.{sym, ap, ◌∙◌}
+use Rattle.std.specs.Prelude.{Some}
+use Rattle.branches.specs.Beside.{beside_of}
 use Rattle.branches.proofs.branch.branch_beside.Goals as goal
 
-pub returns-then-number-eq-ACCEPTED : goal.returns-then-number-eq-ACCEPTED
-returns-then-number-eq-ACCEPTED c = c.branch_of.ensures ∙ sym (beside-passed _ _ _ _ (inl c.if-number-eq-ACCEPTED.true))
-
-pub returns-then-number-eq-NONE_NEAR : goal.returns-then-number-eq-NONE_NEAR
-returns-then-number-eq-NONE_NEAR c = c.branch_of-then-number-eq-NONE_NEAR.ensures ∙ sym (beside-passed _ _ _ _ (inr c.if-number-eq-NONE_NEAR.true))
+pub returns-then-not-passed : goal.returns-then-not-passed
+unfolding beside_of
+returns-then-not-passed c = rw (sym c.passed.ensures ∙ c.if-not-passed.true)
 
 pub returns : goal.returns
-returns c = c.no_codeword.ensures ∙ sym (beside-refused _ _ _ _ c.if-number-eq-ACCEPTED.false c.if-number-eq-NONE_NEAR.false)
+unfolding beside_of
+returns c = rw (sym c.passed.ensures ∙ c.if-not-passed.false) (ap Some c.branch_of.ensures)

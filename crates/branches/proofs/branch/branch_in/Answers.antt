@@ -1,5 +1,5 @@
 -- By the answer found.
-use mathlib.Core.Path.{◌≡◌, sym, ap, ◌∙◌}
+use mathlib.Core.Path.{◌≡◌, sym, ap}
 use Rattle.answer.specs.declared.Answer.{Answer}
 use Rattle.answers.specs.declared.Finding.{Finding}
 use Rattle.branches.specs.Beside.{branch_in, branch_by}
@@ -11,8 +11,8 @@ branch-by f e = ap (λ a. branch_by a f.codeword) (sym e)
 
 pub returns-in-NoneNear : goal.returns-in-NoneNear
 unfolding branch_by
-returns-in-NoneNear c = c.no_codeword.ensures ∙ branch-by _ c.in-NoneNear.is
+returns-in-NoneNear c = branch-by _ c.in-NoneNear.is
 
-pub returns : goal.returns
+pub returns-in-Near : goal.returns-in-Near
 unfolding branch_by
-returns c = branch-by _ c.in_default.is
+returns-in-Near c = branch-by _ c.in-Near.is

@@ -10,7 +10,7 @@ loop-i-init c = (omega arith, listed_start _ _)
 
 pub loop-i-preserved : goal.loop-i-preserved
 loop-i-preserved c =
-    (omega arith, listed-store 0 _ _ _ _ _ (omega arith) c.byte_at.ensures c.loop-i.invariant.1)
+    (omega arith, listed-store 0 _ _ _ _ _ (omega arith) c.entry_or.ensures c.loop-i.invariant.1)
 
 pub returns : goal.returns
 unfolding values_at

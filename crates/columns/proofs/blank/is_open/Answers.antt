@@ -9,16 +9,16 @@ pub returns-then-costs-place : goal.returns-then-costs-place
 returns-then-costs-place c = open-missing 16 _ _ (omega arith)
 
 pub loop-s-init : goal.loop-s-init
-loop-s-init c = (omega arith, open-start 16 c.args.costs.now _ _ c.number_at-first.ensures)
+loop-s-init c = (omega arith, open-start 16 c.args.costs.now _ _ c.entry_or-first.ensures)
 
-pub returns-then-number_at-first : goal.returns-then-number_at-first
-returns-then-number_at-first c =
-    open-differs 16 _ _ _ c.number_at-first.ensures _ (omega (arith, c.loop-s-test.true))
-    (λ e. c.if-number_at-first.true (c.number_at.ensures ∙ e))
+pub returns-then-entry_or-first : goal.returns-then-entry_or-first
+returns-then-entry_or-first c =
+    open-differs 16 _ _ _ c.entry_or-first.ensures _ (omega (arith, c.loop-s-test.true))
+    (λ e. c.if-entry_or-first.true (c.entry_or.ensures ∙ e))
 
 pub loop-s-preserved : goal.loop-s-preserved
 loop-s-preserved c =
-    (omega arith, below_more _ _ c.loop-s.invariant.1 (sym c.number_at.ensures ∙ c.if-number_at-first.false))
+    (omega arith, below_more _ _ c.loop-s.invariant.1 (sym c.entry_or.ensures ∙ c.if-entry_or-first.false))
 
 pub returns : goal.returns
 returns c = open_none 16 _ _ _ (λ s k. c.loop-s.invariant.1 s (omega (arith, c.loop-s-test.false)))

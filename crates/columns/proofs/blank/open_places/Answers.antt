@@ -1,7 +1,7 @@
 -- `columns::blank::open_places` meets its contract. The loop's invariant: the flags of the places passed are stored, the rest is as it was.
 use mathlib.Core.Path.{◌≡◌, ap, ◌∙◌}
 use native.Mathlib.Omega.{arith}
-use Rattle.lists.specs.Count.{bit}
+use Rattle.lists.specs.Count.{bit, from_bit}
 use Rattle.lists.specs.Listed.{listed_start, listed-store, listed-end}
 use Rattle.soft.specs.Blank.{flags_of}
 use Rattle.columns.proofs.blank.open_places.Goals as goal
@@ -12,7 +12,7 @@ loop-place-init c = (omega arith, listed_start _ _)
 pub loop-place-preserved : goal.loop-place-preserved
 loop-place-preserved c = (
   omega arith,
-  listed-store 0 _ _ _ _ _ (omega arith) (c.bit.ensures.0 ∙ ap bit c.is_open.ensures) c.loop-place.invariant.1,
+  listed-store 0 _ _ _ _ _ (omega arith) ((from_bit _ c.from.ensures).0 ∙ ap bit c.is_open.ensures) c.loop-place.invariant.1,
 )
 
 pub returns : goal.returns

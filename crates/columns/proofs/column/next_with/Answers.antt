@@ -3,4 +3,4 @@ use native.Mathlib.Omega.{arith}
 use Rattle.columns.proofs.column.next_with.Goals as goal
 
 pub returns : goal.returns
-returns c = omega (arith, c.lesser.ensures, c.larger.ensures)
+returns c = omega (arith, c.min.ensures, c.max.ensures)

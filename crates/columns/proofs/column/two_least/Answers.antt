@@ -20,7 +20,7 @@ loop-symbol-preserved c =
     let i = c.loop-symbol.invariant in
     let number = c.number-number.ensures in (
       omega arith,
-      least-turn above _ _ _ _ _ i.1 number.0 c.lesser-least.ensures,
+      least-turn above _ _ _ _ _ i.1 number.0 c.min-least.ensures,
       next-turn above _ _ _ _ _ _ i.2 i.1 number.0 c.next_with-next.ensures,
       below_more _ _ i.3 (omega arith),
     )

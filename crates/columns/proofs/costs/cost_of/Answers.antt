@@ -12,4 +12,4 @@ pub returns-then-costs-place : goal.returns-then-costs-place
 returns-then-costs-place c = cost-missing 16 c.args.costs.now c.args.place (omega arith) c.args.symbol (omega arith)
 
 pub returns : goal.returns
-returns c = c.number_at.ensures ∙ sym (cost-column 16 c.args.costs.now c.args.place c.args.symbol (omega arith))
+returns c = c.entry_or.ensures ∙ sym (cost-column 16 c.args.costs.now c.args.place c.args.symbol (omega arith))

@@ -16,11 +16,6 @@ loop-place-init c =
     let e = c.start_leads.ensures in
     (search rules, ap length e ∙ listed-length 8 (first 4 _), c.start_rows.ensures.as_long, λ word S. S)
 
-pub extend_if-requires : goal.extend_if-requires
-extend_if-requires c =
-    let i = c.loop-place.invariant in
-    (i.2, i.1, search rules, search rules)
-
 pub loop-place-preserved : goal.loop-place-preserved
 loop-place-preserved c =
     let i = c.loop-place.invariant in

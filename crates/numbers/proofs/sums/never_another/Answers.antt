@@ -4,13 +4,13 @@ use Rattle.numbers.specs.Most.{room, alone-from}
 use Rattle.numbers.proofs.sums.never_another.Goals as goal
 
 pub overflow_sub-result : goal.overflow_sub-result
-overflow_sub-result c = omega (arith, room c.requires.0 c.requires.1)
+overflow_sub-result c = omega (arith, room c.args.rate.ranged c.requires)
 
 pub overflow_sub-result-2 : goal.overflow_sub-result-2
-overflow_sub-result-2 c = omega (arith, room c.requires.0 c.requires.1)
+overflow_sub-result-2 c = omega (arith, room c.args.rate.ranged c.requires)
 
 pub overflow_sub-result-3 : goal.overflow_sub-result-3
-overflow_sub-result-3 c = omega (arith, room c.requires.0 c.requires.1)
+overflow_sub-result-3 c = omega (arith, room c.args.rate.ranged c.requires)
 
 pub returns : goal.returns
-returns c = alone-from c.requires.0 c.requires.1 c.least_distance.ensures c.reach.ensures
+returns c = alone-from c.args.rate.ranged c.requires c.least_distance.ensures c.reach.ensures

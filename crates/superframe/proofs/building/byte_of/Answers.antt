@@ -16,4 +16,4 @@ pub returns-then-i-eq-RATE_AT : goal.returns-then-i-eq-RATE_AT
 returns-then-i-eq-RATE_AT c = byte-rate _ _ c.if-i-eq-RATE_AT.true
 
 pub returns : goal.returns
-returns c = byte-symbol _ _ _ (search rules) c.requires.1
+returns c = byte-symbol _ _ _ (search rules) c.requires

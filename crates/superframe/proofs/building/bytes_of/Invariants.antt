@@ -1,4 +1,3 @@
-use Prim.Native.Nat.{◌-◌}
 use lib.ListN.{replicate}
 use Rattle.lists.specs.Filled.{Filled}
 use Rattle.superframe.specs.Superframe.{frame_length}
@@ -7,6 +6,3 @@ use Rattle.superframe.proofs.building.bytes_of.Given as goal
 
 abbrev pub invariant-loop-i : goal.invariant-loop-i
 invariant-loop-i l = Filled (replicate frame_length 0) (byte_in l.rate l.sent) l.i l.out
-
-abbrev pub decreases-loop-i : goal.decreases-loop-i
-decreases-loop-i l = frame_length - l.i

@@ -1,4 +1,3 @@
-use Prim.Native.Nat.{◌-◌}
 use lib.ListN.{replicate}
 use Rattle.lists.specs.Filled.{Filled}
 use Rattle.superframe.specs.Superframe.{words, sent_word}
@@ -6,6 +5,3 @@ use Rattle.superframe.proofs.building.codewords.Given as goal
 
 abbrev pub invariant-loop-v : goal.invariant-loop-v
 invariant-loop-v l = Filled (replicate words (replicate 64 0)) (sent_word l.rate l.messages) l.v l.out
-
-abbrev pub decreases-loop-v : goal.decreases-loop-v
-decreases-loop-v l = words - l.v

@@ -7,4 +7,4 @@ pub returns-in_default : goal.returns-in_default
 returns-in_default c = absent-bytes c.in_default.is
 
 pub returns : goal.returns
-returns c = present-bytes c.in-Of.is (omega arith)
+returns c = present-bytes c.in-Some.is c.to_be_bytes.ensures (omega arith)

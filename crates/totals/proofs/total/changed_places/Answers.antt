@@ -1,6 +1,7 @@
 -- The flags of the places passed are stored, the rest is as it was.
 use mathlib.Core.Path.{◌≡◌, ◌∙◌}
 use native.Mathlib.Omega.{arith}
+use Rattle.lists.specs.Count.{from_bit}
 use Rattle.lists.specs.Listed.{listed_start, listed-store, listed-end}
 use Rattle.weighing.specs.Changed.{changed-flag, changed-listed}
 use Rattle.totals.proofs.total.changed_places.Goals as goal
@@ -12,7 +13,7 @@ pub loop-place-preserved : goal.loop-place-preserved
 loop-place-preserved c = (
   omega arith,
   listed-store 0 _ _ _ _ _ (omega arith)
-      (changed-flag _ _ _ _ c.byte_at.ensures c.is_changed.ensures c.bit.ensures.0)
+      (changed-flag _ _ _ _ c.entry_or.ensures c.is_changed.ensures (from_bit _ c.from.ensures).0)
       c.loop-place.invariant.1,
 )
 

@@ -14,7 +14,7 @@ loop-place-preserved c = (
   omega arith,
   omega arith,
   sum_of-turn _ _ _ _ c.loop-place.invariant.2
-      (cost-in _ _ c.args.word.now _ _ _ c.byte_at.ensures c.cost_of.ensures),
+      (cost-in _ _ c.args.word.now _ _ _ c.entry_or.ensures c.cost_of.ensures),
 )
 
 pub returns : goal.returns

@@ -1,9 +1,0 @@
--- `damaged` ends and stays within the word.
-use Prim.Native.Nat.{◌≤◌, ◌-◌}
-use Rattle.engines.proofs.own.damaged.Given as goal
-
-abbrev pub invariant-loop-i : goal.invariant-loop-i
-invariant-loop-i l = l.i ≤ 64
-
-abbrev pub decreases-loop-i : goal.decreases-loop-i
-decreases-loop-i l = 64 - l.i
