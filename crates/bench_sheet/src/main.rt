@@ -4,10 +4,10 @@
 
 ghost use Rattle.std.specs.Prelude.{◌≤◌};
 
-use anyhow::Result;
+use output::Output;
 use refusals::{Refusal, number_of};
 use session::Session;
-use std::io;
+use std::fmt::{self, Write};
 use totals::report::REPORT_BYTES;
 
 // A run: its number, the rate, the doubtful places, and how many places of its frame S(m) lean.
@@ -47,12 +47,12 @@ fn table(m: usize) -> [u8; 2048] {
 }
 
 // A session after it got the run's frame, the last place first.
-fn filled(run: Run<'_>) -> Result<Session, Refusal> {
-    let mut held = session::open(run.rate, run.doubtful)?;
+fn filled(run: Run<'_>) -> Session {
+    let mut held = session::open(run.rate, run.doubtful).session;
     for place in (0..64).rev() {
-        session::deliver(&mut held, place, column(place, run.leaning))?;
+        let _ = session::deliver(&mut held, place, column(place, run.leaning));
     }
-    Ok(held)
+    held
 }
 
 // Each bit that is set in some byte of a message.
@@ -61,43 +61,42 @@ fn seen(message: &[u8]) -> u8 {
 }
 
 fn print_answer(
-    rt: &impl Print,
+    out: &mut Output,
     answer: Result<(), Refusal>,
     report: [u8; REPORT_BYTES],
     message: &[u8],
-) -> io::Result<()> {
-    print!(rt; " {}", number_of(answer))?;
+) -> fmt::Result {
+    write!(out, " {}", number_of(answer))?;
     for byte in report {
-        print!(rt; " {byte}")?;
+        write!(out, " {byte}")?;
     }
-    println!(rt; " {}", seen(message))
+    writeln!(out, " {}", seen(message))
 }
 
-fn by_table(rt: &impl Print, run: Run<'_>, costs: &[u8]) -> io::Result<()> {
+fn by_table(out: &mut Output, run: Run<'_>, costs: &[u8]) -> fmt::Result {
     let number = run.number;
-    print!(rt; "R{number} table")?;
+    write!(out, "R{number} table")?;
     let mut room = [1; 49];
     let message = &mut room[..run.rate];
     let mut report = [1; REPORT_BYTES];
     let doubt = run.doubtful.len();
     let answer = table_decoding::decode_table(run.rate, costs, doubt, message, &mut report);
-    print_answer(rt, answer, report, message)
+    print_answer(out, answer, report, message)
 }
 
-fn by_session(rt: &impl Print, run: Run<'_>) -> Result<()> {
+fn by_session(out: &mut Output, run: Run<'_>) -> fmt::Result {
     let number = run.number;
-    print!(rt; "R{number} session")?;
+    write!(out, "R{number} session")?;
     let mut room = [1; 49];
     let message = &mut room[..run.rate];
     let mut report = [1; REPORT_BYTES];
-    let answer = closing::close(filled(run)?, message, &mut report);
-    print_answer(rt, answer, report, message)?;
-    Ok(())
+    let answer = closing::close(filled(run), message, &mut report);
+    print_answer(out, answer, report, message)
 }
 
-fn both(rt: &impl Print, run: Run<'_>) -> Result<()> {
-    by_table(rt, run, &table(run.leaning))?;
-    by_session(rt, run)
+fn both(out: &mut Output, run: Run<'_>) -> fmt::Result {
+    by_table(out, run, &table(run.leaning))?;
+    by_session(out, run)
 }
 
 fn run_of(number: u8, rate: usize, doubtful: &[u8], leaning: usize) -> Run<'_>
@@ -111,13 +110,16 @@ fn run_of(number: u8, rate: usize, doubtful: &[u8], leaning: usize) -> Run<'_>
     }
 }
 
-fn main(rt: HostRuntime) -> Result<()> {
-    both(&rt, run_of(1, 39, &[], 6))?;
-    both(&rt, run_of(2, 39, &[], 7))?;
-    by_session(&rt, run_of(3, 39, &[0], 7))?;
-    both(&rt, run_of(4, 39, &[0, 10], 7))?;
-    both(&rt, run_of(5, 49, &[], 1))?;
-    both(&rt, run_of(5, 49, &[], 2))?;
-    by_table(&rt, run_of(6, 39, &[], 0), &[0; 2048])?;
-    Ok(())
+fn print_all(out: &mut Output) -> fmt::Result {
+    both(out, run_of(1, 39, &[], 6))?;
+    both(out, run_of(2, 39, &[], 7))?;
+    by_session(out, run_of(3, 39, &[0], 7))?;
+    both(out, run_of(4, 39, &[0, 10], 7))?;
+    both(out, run_of(5, 49, &[], 1))?;
+    both(out, run_of(5, 49, &[], 2))?;
+    by_table(out, run_of(6, 39, &[], 0), &[0; 2048])
+}
+
+fn main() {
+    let _ = print_all(&mut Output);
 }

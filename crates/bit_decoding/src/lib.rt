@@ -8,7 +8,8 @@ ghost use Rattle.book64.specs.Here.{bits_of};
 ghost use Rattle.refusals.specs.Numbers.{number_of};
 
 use checking::checks;
-use columns::bits::costs_from_bits;
+use columns::bits::fill_table;
+use columns::costs::COSTS;
 use doubt::MOST_DOUBT;
 use refusals::Refusal;
 use table_decoding::decode_costs;
@@ -29,6 +30,7 @@ pub fn decode_bits(
     if MOST_DOUBT < doubt {
         return Err(Refusal::WrongDoubt);
     }
-    let costs = costs_from_bits(frame);
+    let mut costs = [0; COSTS];
+    fill_table(frame, &mut costs);
     decode_costs(rate, &costs, doubt, message, report)
 }

@@ -4,9 +4,8 @@ ghost use Rattle.std.specs.Prelude.{◌||◌, ◌≡◌, ◌+◌, ◌*◌, ◌%�
 ghost use Rattle.soft.specs.Column.{symbols};
 ghost use Rattle.book64.specs.Here.{places};
 ghost use Rattle.agreement.specs.Faded.{faded_cost, faded_costs};
-ghost use Rattle.refusals.specs.Numbers.{number_of};
 ghost use Rattle.refusals.specs.Refusal.{accepted, none_near};
-ghost use Rattle.branches.specs.Beside.{branch_in, branch_of, beside_of};
+ghost use Rattle.branches.specs.Beside.{branch_in, branch_of, beside_of, shown_of};
 
 use answer::Answer;
 use answers::Finding;
@@ -14,8 +13,9 @@ use candidate::Word;
 use columns::costs::{COSTS, PLACES, SYMBOLS};
 use doubt::MOST_DOUBT;
 use lists::entry_or;
-use refusals::Refusal;
+use refusals::{Refusal, number_of};
 use session::is_among;
+use stream::bytes::LENT;
 
 // Where the cost of the word's symbol stands in a table.
 fn own_place(word: &[u8], place: usize) -> usize
@@ -60,6 +60,8 @@ pub fn branch_in(found: Finding) -> Result<Word, Refusal>
     }
 }
 
+// A function of its own in the program, since its calls are counted (bench/engines).
+#[inline(never)]
 pub fn branch_of(rate: usize, word: &[u8], blanks: &[u8]) -> Result<Word, Refusal>
     ensures { result ≡ branch_of rate word.now blanks.now }
 {
@@ -67,24 +69,38 @@ pub fn branch_of(rate: usize, word: &[u8], blanks: &[u8]) -> Result<Word, Refusa
     branch_in(chase::nearest(rate, &costs, [0u8; MOST_DOUBT], 0))
 }
 
-// Whether the engine's checks passed.
-fn passed(answer: Result<(), Refusal>) -> bool
-    ensures { result ≡ (eqb (number_of answer) accepted || eqb (number_of answer) none_near) }
+// Whether the engine's checks passed, by the number of its answer.
+fn passed(number: u8) -> bool
+    ensures { result ≡ (eqb number accepted || eqb number none_near) }
 {
-    matches!(answer, Ok(()) | Err(Refusal::NoneNear))
+    number == number_of(Ok(())) || number == number_of(Err(Refusal::NoneNear))
 }
 
-// Beside the engine's answer: its checks are not the tree's, so that the tree is asked only where they passed.
+// Beside the number of the engine's answer: its checks are not the tree's, so that the tree is asked only where they passed.
 pub fn branch_beside(
-    answer: Result<(), Refusal>,
+    number: u8,
     rate: usize,
     word: &[u8],
     blanks: &[u8],
 ) -> Option<Result<Word, Refusal>>
-    ensures { result ≡ beside_of (number_of answer) rate word.now blanks.now }
+    ensures { result ≡ beside_of number rate word.now blanks.now }
 {
-    if !passed(answer) {
+    if !passed(number) {
         return None;
     }
     Some(branch_of(rate, word, blanks))
+}
+
+// The number where the tree is not asked.
+const NOT_ASKED: u8 = 255;
+
+// The number and the codeword of what the tree answers; the bytes of a lent buffer where there is none.
+pub fn shown(beside: Option<Result<Word, Refusal>>) -> (u8, Word)
+    ensures { result ≡ shown_of beside }
+{
+    match beside {
+        Some(Ok(codeword)) => (0, codeword),
+        Some(Err(refusal)) => (u8::from(refusal), [LENT; PLACES]),
+        None => (NOT_ASKED, [LENT; PLACES]),
+    }
 }

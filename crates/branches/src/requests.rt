@@ -1,13 +1,10 @@
 // A call of the elimination engine on standard input, answered on standard output, with what the tree finds for the word beside it.
 // reference/src/engine.rs has the layout.
-ghost use Rattle.std.specs.Prelude.{◌≡◌, ◌≤◌};
-ghost use Rattle.branches.specs.Beside.{shown_of};
+ghost use Rattle.std.specs.Prelude.{◌≤◌};
 
-use crate::branch::branch_beside;
-use candidate::Word;
-use columns::costs::PLACES;
-use refusals::{Refusal, number_of};
-use stream::bytes::{LENT, MOST_BYTES, lent, number, read, write, write_byte};
+use crate::branch::{branch_beside, shown};
+use refusals::number_of;
+use stream::bytes::{MOST_BYTES, lent, number, read, write, write_byte};
 
 // The rate in eight bytes, then the lengths of word, list, codeword buffer and buffer for Q, in two bytes each.
 const HEAD: usize = 16;
@@ -17,28 +14,14 @@ fn rate_in(head: [u8; HEAD]) -> usize {
     u64::from_be_bytes([a, b, c, d, e, f, g, h]) as usize
 }
 
-// The number where the tree is not asked.
-const NOT_ASKED: u8 = 255;
-
-// The number and the codeword of what the tree answers; the bytes of a lent buffer where there is none.
-fn shown(beside: Option<Result<Word, Refusal>>) -> (u8, Word)
-    ensures { result ≡ shown_of beside }
-{
-    match beside {
-        Some(Ok(codeword)) => (0, codeword),
-        Some(Err(refusal)) => (u8::from(refusal), [LENT; PLACES]),
-        None => (NOT_ASKED, [LENT; PLACES]),
-    }
-}
-
 // The engine's number and buffers, then the tree's number and codeword.
 fn answer(rate: usize, word: &[u8], blanks: &[u8], codeword: &mut [u8], q: &mut [u8]) {
-    let answer = engine::eliminate(rate, word, blanks, codeword, q);
-    write_byte(number_of(answer));
+    let number = number_of(engine::eliminate(rate, word, blanks, codeword, q));
+    write_byte(number);
     write(codeword);
     write(q);
-    let (number, found) = shown(branch_beside(answer, rate, word, blanks));
-    write_byte(number);
+    let (beside, found) = shown(branch_beside(number, rate, word, blanks));
+    write_byte(beside);
     write(&found);
 }
 

@@ -8,7 +8,7 @@
 --   through-back           at every rate all eight messages come back and no word is named, where the burst has at most 8T symbols, each from 0 to 15
 --   Relied messages start burst out r after   document 02: 'A user at rate 39 may rely on this: if at most 48 consecutive symbols are altered, still each 0
 --                          to 15, all eight messages come back', with the 312 symbols of eight messages; no word is named
-use Rattle.std.specs.Prelude.{true, cond, ◌≡◌, List, ◌++◌, ◌⊎◌, ℕ, ◌+◌, ◌-◌, ◌*◌, ◌<◌, ◌≤◌, eqb, leb, take, replicate, Result, Ok}
+use Rattle.std.specs.Prelude.{true, cond, ◌≡◌, List, ◌++◌, ◌⊎◌, ℕ, ◌+◌, ◌-◌, ◌*◌, ◌<◌, ◌≤◌, eqb, leb, take, replicate}
 use Rattle.std.proofs.Common.{sym, ◌∙◌, subst, inl, inr, arith, get_or-drop, length-take-le, le-leb}
 use Rattle.std.proofs.Math.Path.{ap}
 use Rattle.std.proofs.Math.Decide.{dec_lt, dec_le}
@@ -18,13 +18,14 @@ use Rattle.std.proofs.Math.Seq.{get_or-take, get_or-append-add}
 use Rattle.lists.specs.Every.{true-T}
 use Rattle.lists.specs.Words.{all_below, all_below-at}
 use Rattle.refusals.specs.Refusal.{accepted, wrong_size}
-use Rattle.refusals.specs.declared.Refusal.{Refusal}
+use Rattle.refusals.specs.Numbers.{number_of}
 use Rattle.soft.specs.Column.{symbols}
 use Rattle.family.specs.Calls.{Answered, placed}
 use Rattle.near.specs.Here.{reach_of}
 use Rattle.superframe.specs.Superframe.{words, head_length, symbol_count, frame_length, built_of, build_of, symbol_in, Taken, taken, taken_of}
 use Rattle.superframe.specs.Built.{Sent, build-sent, built-long, built-below}
 use Rattle.superframe.specs.Burst.{Altered, burst}
+use Rattle.taking_apart.specs.declared.Taken as Declared
 
 unfoldable pub struck_by : ℕ → List ℕ → List ℕ → List ℕ
 struck_by start burst frame = placed frame (head_length + start) burst
@@ -120,6 +121,6 @@ through-back k messages start struck out S few small fits room =
     ∙ ap (λ b. cond b (taken_of (struck_by start struck (built_of k messages)) out) (taken wrong_size 0 out)) (le-leb (start + length struck) symbol_count fits)
     ∙ burst k messages (struck_by start struck (built_of k messages)) start (length struck) S (struck-altered k messages start struck small fits) few out room
 
-pub record Relied (messages : List ℕ) (start : ℕ) (burst out : List ℕ) (r : Result ℕ Refusal) (after : List ℕ) : Type 0 where
+pub record Relied (messages : List ℕ) (start : ℕ) (burst out : List ℕ) (r : Declared.Taken) (after : List ℕ) : Type 0 where
   pub all_back : length messages ≡ 312 → all_below 16 messages ≡ true → length burst ≤ 48 → all_below 16 burst ≡ true → start + length burst ≤ 512
-      → length out ≡ 312 → (r ≡ Ok 0) × (after ≡ messages)
+      → length out ≡ 312 → (number_of r.answer ≡ 0) × (r.status ≡ 0) × (after ≡ messages)

@@ -11,7 +11,7 @@ use lists::copy;
 use refusals::Refusal;
 use superframe::building::build;
 use superframe::{FRAME_BYTES, HEAD_BYTES};
-use taking_apart::take_apart;
+use taking_apart::{Taken, take_apart, told};
 
 const SYMBOLS_SENT: usize = FRAME_BYTES - HEAD_BYTES;
 
@@ -46,25 +46,22 @@ pub fn through_burst(
     start: usize,
     burst: &[u8],
     out: &mut [u8],
-) -> Result<u8, Refusal>
+) -> Taken
     ensures { taken_by result out.new ≡ through_of rate messages.now start burst.now out.old }
 {
     let mut frame = [0u8; FRAME_BYTES];
-    build(rate, messages, &mut frame)?;
+    if let Err(refusal) = build(rate, messages, &mut frame) {
+        return told(Err(refusal));
+    }
     if !lies_within(start, burst.len()) {
-        return Err(Refusal::WrongSize);
+        return told(Err(Refusal::WrongSize));
     }
     strike(&mut frame, start, burst);
     take_apart(&frame, out)
 }
 
 // Document 02's sentence on bursts at rate 39 is the contract.
-pub fn at_rate_39(
-    messages: &[u8],
-    start: usize,
-    burst: &[u8],
-    out: &mut [u8],
-) -> Result<u8, Refusal>
+pub fn at_rate_39(messages: &[u8], start: usize, burst: &[u8], out: &mut [u8]) -> Taken
     ensures { Relied messages.now start burst.now out.old result out.new }
 {
     through_burst(39, messages, start, burst, out)

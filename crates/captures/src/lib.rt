@@ -13,9 +13,9 @@ ghost use Rattle.captures.specs.Calls.{filled, decode_capture_of, sort_capture_o
 
 use closing::close;
 use columns::costs::{COSTS, PLACES, column_of, costs_from};
-use opening::open_capture;
+use opening::try_open_capture;
 use refusals::Refusal;
-use session::{Session, deliver, open};
+use session::{Session, deliver, try_open};
 use writing::write_capture;
 
 // The two bytes of a cost for each symbol of each place.
@@ -25,7 +25,7 @@ const TABLE_BYTES: usize = 2048;
 pub fn decode_capture(capture: &[u8], message: &mut [u8], report: &mut [u8]) -> Result<(), Refusal>
     ensures { closed (number_of result) message.new report.new ≡ decode_capture_of capture.now message.old report.old }
 {
-    let opened = open_capture(capture)?;
+    let opened = try_open_capture(capture)?;
     close(opened, message, report)
 }
 
@@ -43,7 +43,7 @@ fn write_opened(given: Result<Session, Refusal>, out: &mut [u8]) -> Result<(), R
 pub fn sort_capture(capture: &[u8], out: &mut [u8]) -> Result<(), Refusal>
     ensures { filled (number_of result) out.new ≡ sort_capture_of capture.now out.old }
 {
-    write_opened(open_capture(capture), out)
+    write_opened(try_open_capture(capture), out)
 }
 
 // The columns of all places delivered, place 0 first.
@@ -62,7 +62,7 @@ fn deliver_columns(opened: Session, costs: &[u16]) -> Result<Session, Refusal>
 fn open_table(rate: usize, doubtful: &[u8], table: &[u8]) -> Result<Session, Refusal>
     ensures { Opening (open_table rate doubtful.now table.now) (started result) }
 {
-    let opened = open(rate, doubtful)?;
+    let opened = try_open(rate, doubtful)?;
     if table.len() != TABLE_BYTES {
         return Err(Refusal::WrongSize);
     }

@@ -32,7 +32,7 @@ pub fn close(session: Session, message: &mut [u8], report: &mut [u8]) -> Result<
     if MOST_DOUBT < doubt {
         return Err(Refusal::WrongDoubt);
     }
-    session::open(rate, &doubtful[..doubt])?;
+    session::try_open(rate, &doubtful[..doubt])?;
     let costs = session.costs;
     let summary = summary_of(&costs);
     decode(rate, &costs, doubtful, doubt, message, report, summary)

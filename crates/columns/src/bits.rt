@@ -71,6 +71,13 @@ fn fill_columns(frame: &[u8], out: &mut [u16])
     }
 }
 
+// The same into a table that the caller holds, so that no second one lies on its stack.
+pub fn fill_table(frame: &[u8], out: &mut [u16; COSTS])
+    ensures { out.new ≡ bit_costs bits places frame.now }
+{
+    fill_columns(frame, out);
+}
+
 // The costs of the table that a frame of bit values makes.
 pub fn costs_from_bits(frame: &[u8]) -> [u16; COSTS]
     ensures { result ≡ bit_costs bits places frame.now }

@@ -25,7 +25,7 @@ fn pair_at(bytes: &[u8], at: usize) -> u16
 
 // Costs one after the other, as many as there is room for. `bits` fills by another rule: as a parameter the rule would be a closure, and what is
 // said of each cost a clause on all its calls.
-fn fill(bytes: &[u8], out: &mut [u16])
+pub fn fill(bytes: &[u8], out: &mut [u16])
     ensures { out.new ≡ costs_from (length out.old) bytes.now }
 {
     for i in 0..out.len() {

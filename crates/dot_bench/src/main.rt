@@ -6,6 +6,8 @@ ghost use Rattle.std.specs.Prelude.{◌≡◌, ℕ};
 ghost use Rattle.galois.specs.Gf16.{times};
 ghost use Rattle.dot_bench.specs.Dot.{dot};
 
+use output::Output;
+use std::fmt::Write;
 use std::{env, io};
 
 // The dot product by a function that multiplies.
@@ -44,7 +46,7 @@ fn main(rt: HostRuntime) -> io::Result<()> {
         } else {
             thousand(galois::product)
         };
-        println!(rt; "{last}")?;
+        let _ = writeln!(Output, "{last}");
     }
     Ok(())
 }

@@ -40,10 +40,10 @@ module _ (k : ℕ) (l : List ℕ) where
         below = λ h. or_lt k all (get_or l i 0) (t.below (λ j b. h j (omega arith))) (h i (omega arith));
       }
 
-  all-symbols : (i all : ℕ) → length l ≤ i → all < 2 ^ k → Passed k l i all → true ≡ all_below (2 ^ k) l
+  pub all-symbols : (i all : ℕ) → length l ≤ i → all < 2 ^ k → Passed k l i all → true ≡ all_below (2 ^ k) l
   all-symbols i all h b t = sym (T_true (all_below (2 ^ k) l) (all_below-from (2 ^ k) l (λ j g. omega (arith, t.above j (omega arith)))))
 
-  no_symbol : (i all : ℕ) → i ≤ length l → 2 ^ k ≤ all → Passed k l i all → false ≡ all_below (2 ^ k) l
+  pub no_symbol : (i all : ℕ) → i ≤ length l → 2 ^ k ≤ all → Passed k l i all → false ≡ all_below (2 ^ k) l
   no_symbol i all h b t = go (all_below (2 ^ k) l) refl
     where
       go : (b : Bool) → all_below (2 ^ k) l ≡ b → false ≡ b

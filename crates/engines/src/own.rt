@@ -8,8 +8,9 @@ use branches::branch::{branch_in, faded_costs};
 use candidate::Word;
 use columns::costs::PLACES;
 use encoding::{LEAST_RATE, MOST_RATE};
+use output::Output;
 use refusals::Refusal;
-use std::io;
+use std::fmt::{self, Write};
 use stream::bytes::LENT;
 
 // The bytes of Q.
@@ -150,19 +151,23 @@ fn compare_blanks(rate: usize, turn: usize) -> char
     compare_turn(rate, turn, &list[..count], wrong_places(most - count, turn))
 }
 
-fn print_rate(rt: &impl Print, rate: usize) -> io::Result<()>
+fn print_rate(out: &mut Output, rate: usize) -> fmt::Result
     requires { rate ≤ 52 }
 {
-    print!(rt; "{rate} ")?;
+    write!(out, "{rate} ")?;
     for turn in 0..16 {
-        print!(rt; "{}", compare_blanks(rate, turn))?;
+        write!(out, "{}", compare_blanks(rate, turn))?;
     }
-    println!(rt)
+    writeln!(out)
 }
 
-pub fn print_own(rt: &impl Print) -> io::Result<()> {
+fn print_all(out: &mut Output) -> fmt::Result {
     for rate in LEAST_RATE..=MOST_RATE {
-        print_rate(rt, rate)?;
+        print_rate(out, rate)?;
     }
     Ok(())
+}
+
+pub fn print_own() {
+    let _ = print_all(&mut Output);
 }

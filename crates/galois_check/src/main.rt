@@ -4,28 +4,33 @@
 
 ghost use Rattle.std.specs.Iterator.{IsFinite};
 
-use std::io;
+use output::Output;
+use std::fmt::{self, Write};
 
 // A digit for each symbol, on one line.
-fn print_row<I: Iterator<Item = u8> + Drop>(rt: &impl Print, symbols: I) -> io::Result<()>
+fn print_row<I: Iterator<Item = u8> + Drop>(out: &mut Output, symbols: I) -> fmt::Result
     requires can { I.can_next symbols }
     requires ends { IsFinite (I.remaining symbols) }
 {
     for symbol in symbols {
-        print!(rt; "{symbol:x}")?;
+        write!(out, "{symbol:x}")?;
     }
-    println!(rt)
+    writeln!(out)
 }
 
-fn print_element(rt: &impl Print, a: u8) -> io::Result<()> {
-    print_row(rt, (0..16).map(|b| galois::product(a, b)))?;
-    print_row(rt, (0..16).map(|b| galois::product_by_table(a, b)))?;
-    println!(rt; "{:x}", galois::inverse(a))
+fn print_element(out: &mut Output, a: u8) -> fmt::Result {
+    print_row(out, (0..16).map(|b| galois::product(a, b)))?;
+    print_row(out, (0..16).map(|b| galois::product_by_table(a, b)))?;
+    writeln!(out, "{:x}", galois::inverse(a))
 }
 
-fn main(rt: HostRuntime) -> io::Result<()> {
+fn print_all(out: &mut Output) -> fmt::Result {
     for a in 0..16 {
-        print_element(&rt, a)?;
+        print_element(out, a)?;
     }
-    print_row(&rt, (0..15).map(galois::power))
+    print_row(out, (0..15).map(galois::power))
+}
+
+fn main() {
+    let _ = print_all(&mut Output);
 }

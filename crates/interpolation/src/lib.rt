@@ -7,5 +7,7 @@ pub mod node;
 pub mod settle;
 pub mod start;
 
+pub const PLACES: usize = 64;
+
 // The largest key of a polynomial whose parts are read off their values at the places: no order above 63.
 pub const LIMIT: usize = 127;

@@ -12,7 +12,7 @@ ghost use Rattle.book64.specs.Here.{places};
 
 use capture::{COLUMN_BYTES, DOUBT_AT, HEAD_BYTES, RECORD_BYTES};
 use columns::costs::PLACES;
-use opening::open_capture;
+use opening::try_open_capture;
 
 // The number of the record of a place; where there is none it is 64, as the definition has it.
 fn record_of(place: usize, records: &[u8]) -> usize
@@ -44,7 +44,7 @@ pub fn look_up<'a>(capture: &'a [u8], place: usize) -> &'a [u8]
     if PLACES <= place {
         return &capture[..0];
     }
-    if open_capture(capture).is_err() {
+    if try_open_capture(capture).is_err() {
         return &capture[..0];
     }
     column_in(capture, place)

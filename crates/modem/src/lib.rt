@@ -87,16 +87,9 @@ pub extern "C" fn hermitian_take_superframe_apart(
 ) -> u8
     ensures { taken result status.new messages.new ≡ taken_of frame.now messages.old }
 {
-    match taking_apart::take_apart(frame, messages) {
-        Ok(named) => {
-            *status = named;
-            0
-        }
-        Err(refusal) => {
-            *status = 0;
-            refusal.into()
-        }
-    }
+    let taken = taking_apart::take_apart(frame, messages);
+    *status = taken.status;
+    number_of(taken.answer)
 }
 
 #[unsafe(no_mangle)]

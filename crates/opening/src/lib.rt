@@ -7,7 +7,7 @@ ghost use Rattle.book64.specs.captures.Capture.{records_of, record_length};
 ghost use Rattle.book64.specs.captures.CaptureOpening.{open_capture_of};
 ghost use Rattle.book64.specs.Here.{places, deliver_row};
 ghost use Rattle.session.specs.View.{book_of, Good};
-ghost use Rattle.session.specs.Calls.{started, Opening};
+ghost use Rattle.session.specs.Calls.{ended, started, Opening};
 
 use capture::{
     BODY_AT, BODY_BYTES, DOUBT_AT, HEAD_BYTES, LEAST_BYTES, LENGTH_HIGH_AT, LENGTH_LOW_AT,
@@ -15,7 +15,7 @@ use capture::{
 };
 use columns::costs::PLACES;
 use refusals::Refusal;
-use session::Session;
+use session::{Opened, Session};
 
 // The 64 records delivered in their order, up to the first that is refused.
 fn deliver_records(opened: Session, records: &[u8]) -> Result<Session, Refusal>
@@ -32,7 +32,8 @@ fn deliver_records(opened: Session, records: &[u8]) -> Result<Session, Refusal>
     Ok(current)
 }
 
-pub fn open_capture(bytes: &[u8]) -> Result<Session, Refusal>
+// For who goes on with an accepted capture alone; `open_capture` hands a session back in any case.
+pub fn try_open_capture(bytes: &[u8]) -> Result<Session, Refusal>
     ensures { Opening (open_capture_of bytes.now) (started result) }
 {
     if bytes.len() < LEAST_BYTES {
@@ -55,9 +56,15 @@ pub fn open_capture(bytes: &[u8]) -> Result<Session, Refusal>
     }
     let start = HEAD_BYTES + doubt;
     let suited = version_of(doubt);
-    let opened = session::open(bytes[RATE_AT] as usize, &bytes[HEAD_BYTES..start])?;
+    let opened = session::try_open(bytes[RATE_AT] as usize, &bytes[HEAD_BYTES..start])?;
     if version != suited {
         return Err(Refusal::WrongDoubt);
     }
     deliver_records(opened, &bytes[start..])
+}
+
+pub fn open_capture(bytes: &[u8]) -> Opened
+    ensures { Opening (open_capture_of bytes.now) (ended result.answer result.session) }
+{
+    session::left_by(try_open_capture(bytes))
 }

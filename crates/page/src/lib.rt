@@ -4,17 +4,19 @@
 use candidate::rate::Rate;
 use numbers::chance::chance;
 use numbers::sums::{bits_within, never_another, sure_doubt, whole_reach};
-use std::io;
+use output::Bytewise;
+use std::fmt::{self, Write};
 
 // The ending of a plural, unless there is one alone.
 fn plural(number: usize) -> &'static str {
     if number == 1 { "" } else { "s" }
 }
 
-fn print_head(rt: &impl Print, rate: Rate) -> io::Result<()> {
+fn print_head(out: &mut Bytewise, rate: Rate) -> fmt::Result {
     let k = rate.k;
     let bits = 4 * k;
-    println!(rt;
+    writeln!(
+        out,
         "# Rate {k}\n\n\
         The Hermitian code y^4 + y = x^5 over GF(16): 64 symbols of four bits go on air, {k} of them are\n\
         message: {bits} bits of 256. What follows holds of every message and every frame, in whatever order its\n\
@@ -28,24 +30,27 @@ fn print_head(rt: &impl Print, rate: Rate) -> io::Result<()> {
 }
 
 // Without doubt; at the two largest rates T is 0.
-fn print_hard(rt: &impl Print, rate: Rate) -> io::Result<()> {
+fn print_hard(out: &mut Bytewise, rate: Rate) -> fmt::Result {
     let reach = whole_reach(rate);
     if reach == 0 {
-        return println!(rt;
+        return writeln!(
+            out,
             "- Without doubt a frame comes back whose best symbols are all the sent ones, and no other."
         );
     }
     let s = plural(reach);
-    println!(rt;
+    writeln!(
+        out,
         "- Any {reach} wrong symbol{s}, with no place doubtful and none blank: the sent message comes back."
     )
 }
 
-fn print_doubtful(rt: &impl Print, rate: Rate) -> io::Result<()> {
+fn print_doubtful(out: &mut Bytewise, rate: Rate) -> fmt::Result {
     let reach = whole_reach(rate);
     let doubt = sure_doubt(rate, 0);
     let never = never_another(rate, 0);
-    println!(rt;
+    writeln!(
+        out,
         "  [`book` Repairs `always-repaired`; `book` TableRepairs `table-repaired`; `runs` Repaired `run-repaired`]\n\
         - The same with up to {doubt} doubtful places beside, none blank: the sent symbol is best or second at each of\n\
         \x20 them, and best at all settled ones but {reach} at most. No other codeword is near, so that the report has no\n\
@@ -61,23 +66,26 @@ fn print_doubtful(rt: &impl Print, rate: Rate) -> io::Result<()> {
     )
 }
 
-fn print_faded(rt: &impl Print, rate: Rate) -> io::Result<()> {
+fn print_faded(out: &mut Bytewise, rate: Rate) -> fmt::Result {
     let limit = rate.blank_limit();
     if limit == 0 {
-        return println!(rt;
+        return writeln!(
+            out,
             "- No place may be blank: with one the frame is refused. [`book` Table `table-too-blank`]"
         );
     }
     let s = plural(limit);
-    println!(rt;
+    writeln!(
+        out,
         "- Any {limit} blank place{s}, whatever was sent there, with the sent symbol best at all others.\n\
         \x20 [`book` Repairs `faded-repaired`, `faded-right`; `book` TableRepairs `table-faded`; `runs` Repaired\n\
         \x20 `run-faded`]"
     )
 }
 
-fn print_together(rt: &impl Print) -> io::Result<()> {
-    println!(rt;
+fn print_together(out: &mut Bytewise) -> fmt::Result {
+    writeln!(
+        out,
         "- Blank, wrong and doubtful places together: so many wrong settled places are repaired, with so many\n\
         \x20 doubtful ones beside them; the last number is explained below.\n\
         \x20 [`near` Reach `reach-is`, `reach-only`; `numbers` Most `sure-most`, `sure-few`, `alone-most`]\n\n\
@@ -87,22 +95,23 @@ fn print_together(rt: &impl Print) -> io::Result<()> {
 }
 
 // A line for each number of blank places.
-fn print_by_blanks(rt: &impl Print, rate: Rate) -> io::Result<()> {
+fn print_by_blanks(out: &mut Bytewise, rate: Rate) -> fmt::Result {
     for blanks in 0..=rate.blank_limit() {
         let reach = rate.reach(blanks);
         let doubt = sure_doubt(rate, blanks);
         let never = never_another(rate, blanks);
-        println!(rt; "| {blanks} | {reach} | {doubt} | {never} |")?;
+        writeln!(out, "| {blanks} | {reach} | {doubt} | {never} |")?;
     }
     Ok(())
 }
 
-fn print_refused(rt: &impl Print, rate: Rate) -> io::Result<()> {
+fn print_refused(out: &mut Bytewise, rate: Rate) -> fmt::Result {
     let beyond = whole_reach(rate) + 1;
     let never = never_another(rate, 0);
     let limit = rate.blank_limit();
     let s = plural(limit);
-    println!(rt;
+    writeln!(
+        out,
         "\n## Always refused, and never another message\n\n\
         - {beyond} to {never} wrong symbols, with no place doubtful and none blank: always refused as 'none near' (9), and\n\
         \x20 the buffers stay as they were.\n\
@@ -119,14 +128,16 @@ fn print_refused(rt: &impl Print, rate: Rate) -> io::Result<()> {
 }
 
 // It is known exactly at two rates.
-fn print_distance(rt: &impl Print, rate: Rate) -> io::Result<()> {
+fn print_distance(out: &mut Bytewise, rate: Rate) -> fmt::Result {
     let distance = rate.least_distance();
-    println!(rt;
+    writeln!(
+        out,
         "## Least distance\n\n\
         - Two codewords differ in at least {distance} places. [`near` LeastDistance `codewords-far`]"
     )?;
     match rate.k {
-        39 | 49 => println!(rt;
+        39 | 49 => writeln!(
+            out,
             "- Some two codewords differ in exactly {distance} places. [`near` Distances `distance-{}`]",
             rate.k
         ),
@@ -134,21 +145,23 @@ fn print_distance(rt: &impl Print, rate: Rate) -> io::Result<()> {
     }
 }
 
-fn print_no_bursts(rt: &impl Print) -> io::Result<()> {
-    println!(rt;
+fn print_no_bursts(out: &mut Bytewise) -> fmt::Result {
+    writeln!(
+        out,
         "- At this rate no wrong symbol is repaired without doubt, so that no burst is either.\n\
         \x20 [`superframe` Burst `burst-sharp`]"
     )
 }
 
-fn print_bursts(rt: &impl Print, rate: Rate) -> io::Result<()> {
+fn print_bursts(out: &mut Bytewise, rate: Rate) -> fmt::Result {
     let reach = whole_reach(rate);
     let s = plural(reach);
     let bits = bits_within(reach);
     let symbols = 8 * reach;
     let more = symbols + 1;
     let burst = bits_within(symbols);
-    println!(rt;
+    writeln!(
+        out,
         "- In a superframe, eight codewords interleaved symbol by symbol: any {symbols} altered symbols in a row, and all\n\
         \x20 eight messages come back. [`superframe` Burst `burst`]\n\
         \x20 Any {more} do not always. [`superframe` Burst `burst-sharp`]\n\
@@ -158,17 +171,18 @@ fn print_bursts(rt: &impl Print, rate: Rate) -> io::Result<()> {
     )
 }
 
-fn print_burst(rt: &impl Print, rate: Rate) -> io::Result<()> {
-    println!(rt; "\n## Bursts, and bits\n")?;
+fn print_burst(out: &mut Bytewise, rate: Rate) -> fmt::Result {
+    writeln!(out, "\n## Bursts, and bits\n")?;
     if whole_reach(rate) == 0 {
-        return print_no_bursts(rt);
+        return print_no_bursts(out);
     }
-    print_bursts(rt, rate)
+    print_bursts(out, rate)
 }
 
-fn print_mark(rt: &impl Print, rate: Rate) -> io::Result<()> {
+fn print_mark(out: &mut Bytewise, rate: Rate) -> fmt::Result {
     let k = rate.k;
-    println!(rt;
+    writeln!(
+        out,
         "\n## What a mark means\n\n\
         - Where the last byte of the report is 1, none of all 16^{k} codewords, near or not, costs less than the\n\
         \x20 answer: it is a most likely one by the costs. Another may cost the same. A 0 says nothing.\n\
@@ -180,33 +194,37 @@ fn print_mark(rt: &impl Print, rate: Rate) -> io::Result<()> {
 }
 
 // The share of words that are taken for a codeword.
-fn print_share(rt: &impl Print, rate: Rate) -> io::Result<()> {
+fn print_share(out: &mut Bytewise, rate: Rate) -> fmt::Result {
     let power = chance(rate);
     let reach = whole_reach(rate);
     if reach == 0 {
-        return println!(rt;
+        return writeln!(
+            out,
             "- Reckoned, not proved: of all 16^64 words fewer than one in 10^{power} is a codeword."
         );
     }
     let s = plural(reach);
     let rest = 64 - rate.k;
-    println!(rt;
+    writeln!(
+        out,
         "- Reckoned, not proved: of all 16^64 words fewer than one in 10^{power} is within {reach} place{s} of a codeword, the\n\
         \x20 sum of C(64, i) 15^i for i up to {reach}, over 16^{rest}: no word is within {reach} of two codewords."
     )
 }
 
-fn print_by_chance(rt: &impl Print, rate: Rate) -> io::Result<()> {
-    println!(rt; "\n## By chance\n")?;
-    print_share(rt, rate)?;
-    println!(rt;
+fn print_by_chance(out: &mut Bytewise, rate: Rate) -> fmt::Result {
+    writeln!(out, "\n## By chance\n")?;
+    print_share(out, rate)?;
+    writeln!(
+        out,
         "\x20 So seldom noise alone is taken for a codeword, if it makes all words alike likely, with hard decisions\n\
         \x20 and no blank place; with d doubtful places at most 2^d times as often."
     )
 }
 
-fn print_assumed(rt: &impl Print) -> io::Result<()> {
-    println!(rt;
+fn print_assumed(out: &mut Bytewise) -> fmt::Result {
+    writeln!(
+        out,
         "\n## What is assumed\n\n\
         - The conditions above speak of a frame, not of a channel. How often a channel meets them was measured:\n\
         \x20 docs/PERFORMANCE.md.\n\
@@ -216,22 +234,26 @@ fn print_assumed(rt: &impl Print) -> io::Result<()> {
     )
 }
 
-fn print_repaired(rt: &impl Print, rate: Rate) -> io::Result<()> {
-    println!(rt; "## Always repaired\n")?;
-    print_hard(rt, rate)?;
-    print_doubtful(rt, rate)?;
-    print_faded(rt, rate)?;
-    print_together(rt)?;
-    print_by_blanks(rt, rate)
+fn print_repaired(out: &mut Bytewise, rate: Rate) -> fmt::Result {
+    writeln!(out, "## Always repaired\n")?;
+    print_hard(out, rate)?;
+    print_doubtful(out, rate)?;
+    print_faded(out, rate)?;
+    print_together(out)?;
+    print_by_blanks(out, rate)
 }
 
-pub fn print_page(rt: &impl Print, rate: Rate) -> io::Result<()> {
-    print_head(rt, rate)?;
-    print_repaired(rt, rate)?;
-    print_refused(rt, rate)?;
-    print_distance(rt, rate)?;
-    print_burst(rt, rate)?;
-    print_mark(rt, rate)?;
-    print_by_chance(rt, rate)?;
-    print_assumed(rt)
+fn print_all(out: &mut Bytewise, rate: Rate) -> fmt::Result {
+    print_head(out, rate)?;
+    print_repaired(out, rate)?;
+    print_refused(out, rate)?;
+    print_distance(out, rate)?;
+    print_burst(out, rate)?;
+    print_mark(out, rate)?;
+    print_by_chance(out, rate)?;
+    print_assumed(out)
+}
+
+pub fn print_page(rate: Rate) {
+    let _ = print_all(&mut Bytewise, rate);
 }

@@ -69,6 +69,6 @@ pub fn write_again(capture: &[u8], out: &mut [u8]) -> Result<(), Refusal>
     ensures { WrittenAgain capture.now out.old (number_of result) out.new }
 {
     ranges::bytes(capture);
-    let opened = opening::open_capture(capture).unwrap_or(session::fresh());
-    writing::write_capture(opened, out)
+    let opened = opening::open_capture(capture);
+    writing::write_capture(opened.session, out)
 }

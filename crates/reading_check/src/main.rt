@@ -2,20 +2,22 @@
 // a blank place, which is not interpolated: it is the new session's.
 #![tactic(auto)]
 
-ghost use Rattle.std.specs.Prelude.{◌≤◌};
-
-use anyhow::Result;
-use refusals::{Refusal, number_of};
+use output::Output;
+use refusals::number_of;
 use session::Session;
-use std::io;
+use std::fmt::{self, Write};
 
-fn print_reading(rt: &impl Print, from: Session) -> io::Result<()> {
-    let mut out = [255; 98];
-    print!(rt; "{} ", number_of(reading::read_interpolant(from, &mut out)))?;
-    for byte in out {
-        print!(rt; "{byte} ")?;
+fn print_reading(out: &mut Output, from: Session) -> fmt::Result {
+    let mut bytes = [255; 98];
+    write!(
+        out,
+        "{} ",
+        number_of(reading::read_interpolant(from, &mut bytes))
+    )?;
+    for byte in bytes {
+        write!(out, "{byte} ")?;
     }
-    println!(rt)
+    writeln!(out)
 }
 
 // Cost 0 for one symbol, 9 for the others.
@@ -26,27 +28,28 @@ fn column(best: usize) -> [u16; 16] {
 }
 
 // A session with the first so many places settled.
-fn settled(count: usize) -> Result<Session, Refusal>
-    requires { count ≤ 64 }
-{
-    let mut held = session::open(39, b"")?;
-    for place in 0..count {
-        session::deliver(&mut held, place, column(place * 7))?;
+fn settled(count: usize) -> Session {
+    let mut held = session::open(39, b"").session;
+    for place in 0..count.min(64) {
+        let _ = session::deliver(&mut held, place, column(place * 7));
     }
-    Ok(held)
+    held
 }
 
 // A new session with place 0 blank.
-fn faded() -> Result<Session, Refusal> {
-    let mut held = session::open(39, b"")?;
-    session::deliver(&mut held, 0, [9; 16])?;
-    Ok(held)
+fn faded() -> Session {
+    let mut held = session::open(39, b"").session;
+    let _ = session::deliver(&mut held, 0, [9; 16]);
+    held
 }
 
-fn main(rt: HostRuntime) -> Result<()> {
-    print_reading(&rt, settled(0)?)?;
-    print_reading(&rt, settled(1)?)?;
-    print_reading(&rt, settled(64)?)?;
-    print_reading(&rt, faded()?)?;
-    Ok(())
+fn print_all(out: &mut Output) -> fmt::Result {
+    print_reading(out, settled(0))?;
+    print_reading(out, settled(1))?;
+    print_reading(out, settled(64))?;
+    print_reading(out, faded())
+}
+
+fn main() {
+    let _ = print_all(&mut Output);
 }

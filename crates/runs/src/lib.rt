@@ -7,14 +7,14 @@ ghost use Rattle.std.specs.Prelude.{[]};
 ghost use Rattle.book64.specs.calls.Calls.{deliver, reading, writing, closing, withdraw};
 ghost use Rattle.book64.specs.Here.{open_of};
 ghost use Rattle.refusals.specs.Numbers.{number_of};
-ghost use Rattle.session.specs.Calls.{ended, started, Opening};
+ghost use Rattle.session.specs.Calls.{ended, Opening};
 ghost use Rattle.runs.specs.Follows.{ByCapture};
 ghost use Rattle.runs.specs.Step.{Step, answer_with};
 ghost use Rattle.runs.specs.Stepping.{Stepping};
 
 use columns::costs::SYMBOLS;
 use refusals::Refusal;
-use session::Session;
+use session::{Opened, Session};
 
 // The calls that a list is made of.
 #[derive(Clone, Copy)]
@@ -26,14 +26,14 @@ pub enum Kind {
     Withdraw,
 }
 
-pub fn open(rate: usize, doubtful: &[u8]) -> Result<Session, Refusal>
-    ensures { Opening (open_of rate doubtful.now) (started result) }
+pub fn open(rate: usize, doubtful: &[u8]) -> Opened
+    ensures { Opening (open_of rate doubtful.now) (ended result.answer result.session) }
 {
     session::open(rate, doubtful)
 }
 
-pub fn open_capture(bytes: &[u8]) -> Result<Session, Refusal>
-    ensures { ByCapture bytes.now (started result) }
+pub fn open_capture(bytes: &[u8]) -> Opened
+    ensures { ByCapture bytes.now (ended result.answer result.session) }
 {
     ranges::bytes(bytes);
     opening::open_capture(bytes)

@@ -59,6 +59,13 @@ fn new_session(rate: u8, list: &[u8]) -> Session
     }
 }
 
+// What an opening answers, and the session that it leaves, of a refused one too.
+#[derive(Clone, Copy)]
+pub struct Opened {
+    pub answer: Result<(), Refusal>,
+    pub session: Session,
+}
+
 // What a refused opening leaves: a new session of rate 39 with an empty doubtful list.
 pub fn fresh() -> Session
     ensures { result ≡ new_session 39 [] }
@@ -66,7 +73,8 @@ pub fn fresh() -> Session
     new_session(39, b"")
 }
 
-pub fn open(rate: usize, doubtful: &[u8]) -> Result<Session, Refusal>
+// For who goes on with an accepted opening alone; `open` hands a session back in any case.
+pub fn try_open(rate: usize, doubtful: &[u8]) -> Result<Session, Refusal>
     ensures { started result ≡ opened_of rate doubtful.now }
 {
     if !encoding::known_rate(rate) {
@@ -79,6 +87,28 @@ pub fn open(rate: usize, doubtful: &[u8]) -> Result<Session, Refusal>
         return Err(Refusal::WrongDoubt);
     }
     Ok(new_session(rate as u8, doubtful))
+}
+
+// The session that an opening leaves beside its answer.
+pub fn left_by(answer: Result<Session, Refusal>) -> Opened
+    ensures { ended result.answer result.session ≡ started answer }
+{
+    match answer {
+        Ok(session) => Opened {
+            answer: Ok(()),
+            session,
+        },
+        Err(refusal) => Opened {
+            answer: Err(refusal),
+            session: fresh(),
+        },
+    }
+}
+
+pub fn open(rate: usize, doubtful: &[u8]) -> Opened
+    ensures { ended result.answer result.session ≡ opened_of rate doubtful.now }
+{
+    left_by(try_open(rate, doubtful))
 }
 
 pub fn is_among(place: usize, list: &[u8]) -> bool

@@ -6,18 +6,16 @@
 --   shows-refused, shows-closed       what a session's closing answers, as lines
 --   known-short          a known rate is at most 64
 --   zeros-take           the first of some zeros are zeros
---   printed-as           text that is known by an equation
+--   appended-within      a text ends within its buffer
 use mathlib.Core.Bool.{true}
 use mathlib.Core.Path.{◌≡◌, refl, sym, ap, ap₂, ◌∙◌}
 use mathlib.Core.List.{List, ◌∷◌, ◌++◌}
-use Prim.Native.Nat.{ℕ, zero, suc, ◌≤◌}
+use Prim.Native.Nat.{ℕ, zero, suc, ◌+◌, ◌≤◌}
 use native.Mathlib.Nat.{le_of_suc-le-suc, not-suc-le-zero}
 use native.Mathlib.Omega.{arith}
-use lib.ListN.{length, take, replicate}
+use lib.ListN.{length, take, replicate, length-take}
 use lib.Seq.{length-take-le}
 use borrow.Author.Tests.{eq-eqb, ne_eqb}
-use Rattle.std.specs.Prelude.{Result, String, IfOk, string_bytes}
-use Rattle.std.proofs.lemmas.Result.{IfOk-weaker}
 use Rattle.refusals.specs.Refusal.{accepted}
 use Rattle.code.specs.Encoding.{known_rate}
 use Rattle.code.specs.Rates.{known-bounds}
@@ -32,6 +30,7 @@ use Rattle.calls.specs.Held as Fields
 use Rattle.session.specs.View.{book_of, Good}
 use Rattle.session.specs.Answering.{Closing}
 use Rattle.text.specs.Text.{heading_of, message_line, refused_line}
+use Rattle.text.specs.Appended.{Appended}
 use Rattle.show.specs.Shown.{answer_lines, closed_lines, opened_lines}
 
 pub opened-refused : (o : Outcome) → (o.number ≡ accepted → ⊥) → opened_lines o ≡ refused_line o.number
@@ -96,5 +95,5 @@ zeros-take zero n h = refl
 zeros-take (suc k) zero h = absurd (not-suc-le-zero h)
 zeros-take (suc k) (suc n) h = ap (λ (l : List ℕ). 0 ∷ l) (zeros-take k n (le_of_suc-le-suc h))
 
-pub printed-as : {A E : Type 0} (r : Result (String A) E) {s t : List ℕ} → s ≡ t → IfOk r (λ text. string_bytes text ≡ s) → IfOk r (λ text. string_bytes text ≡ t)
-printed-as r {s} {t} e p = IfOk-weaker r (λ text. string_bytes text ≡ s) (λ text. string_bytes text ≡ t) (λ text h. h ∙ e) p
+pub appended-within : {before text after : List ℕ} {r : ℕ} → Appended before 0 text r after → r ≤ length after
+appended-within {before} {text} {after} {r} p = omega (arith, p.end, ap length p.there, length-take r after)

@@ -3,61 +3,72 @@
 #![tactic(auto)]
 
 use columns::{bits, column, costs};
-use std::io;
+use output::Output;
+use std::fmt::{self, Write};
 use totals::total;
 
-fn print_column(rt: &impl Print, c: [u16; 16]) -> io::Result<()> {
-    println!(rt;
+fn print_column(out: &mut Output, c: [u16; 16]) -> fmt::Result {
+    write!(
+        out,
         "{} {} {} ",
         column::best(c),
         column::second(c),
         column::gap(c)
-    )
+    )?;
+    writeln!(out)
 }
 
 // The column of four bit values: best, second and gap, and what symbols 0, 5, 7, 8 and 15 cost.
-fn print_bits(rt: &impl Print, values: [u8; 4]) -> io::Result<()> {
+fn print_bits(out: &mut Output, values: [u8; 4]) -> fmt::Result {
     let c = bits::column_from_bits(values);
-    print_column(rt, c)?;
-    println!(rt; "{} {} {} {} {} ", c[0], c[5], c[7], c[8], c[15])
+    print_column(out, c)?;
+    write!(out, "{} {} {} {} {} ", c[0], c[5], c[7], c[8], c[15])?;
+    writeln!(out)
 }
 
 // The three doubtful places, and how many there are.
-fn print_doubtful(rt: &impl Print, table: &[u16]) -> io::Result<()> {
+fn print_doubtful(out: &mut Output, table: &[u16]) -> fmt::Result {
     let picked = doubt::doubtful(table, 3);
     let [first, second, third, ..] = picked.places;
     let count = picked.count;
-    println!(rt; "{first} {second} {third} {count} ")
+    write!(out, "{first} {second} {third} {count} ")?;
+    writeln!(out)
 }
 
 // What the zero word costs, at how many places its cost is pinned, and at how many it differs from the best symbols.
-fn print_zero_word(rt: &impl Print, table: &[u16]) -> io::Result<()> {
+fn print_zero_word(out: &mut Output, table: &[u16]) -> fmt::Result {
     let word = [0u8; 64];
     let summary = summary::summary_of(table);
     let changed = total::changed_places(&word, summary.best, summary.counts);
-    println!(rt;
+    write!(
+        out,
         "{} {} {} ",
         total::total(table, &word),
         total::pinned(table, &word),
         total::changed(changed)
-    )
+    )?;
+    writeln!(out)
 }
 
-fn main(rt: HostRuntime) -> io::Result<()> {
+fn print_all(out: &mut Output) -> fmt::Result {
     let mut nine = [7u16; 16];
     nine[5] = 0;
     nine[9] = 0;
-    print_column(&rt, nine)?;
-    print_column(&rt, [65535; 16])?;
+    print_column(out, nine)?;
+    print_column(out, [65535; 16])?;
     // Every place but 0 and 2 is blank, so only these two are doubtful.
     let mut bytes = [255u8; 2048];
     bytes[0] = 0;
     bytes[64] = 1;
     let table: [u16; 1024] = costs::costs_from(&bytes);
-    print_doubtful(&rt, &table)?;
-    print_zero_word(&rt, &table)?;
+    print_doubtful(out, &table)?;
+    print_zero_word(out, &table)?;
     // 127, -1, 0 and -128; then the dearest symbol there is; then a blank column.
-    print_bits(&rt, [127, 255, 0, 128])?;
-    print_bits(&rt, [128; 4])?;
-    print_bits(&rt, [0; 4])
+    print_bits(out, [127, 255, 0, 128])?;
+    print_bits(out, [128; 4])?;
+    print_bits(out, [0; 4])
+}
+
+fn main() {
+    let _ = print_all(&mut Output);
 }

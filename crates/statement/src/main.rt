@@ -5,11 +5,14 @@
 
 mod table;
 
-use candidate::rate::Rate;
-use std::io::{self, BufRead, Read};
+ghost use Rattle.std.specs.Prelude.{◌≤◌, length};
 
-// No more of a line than this is read.
-const LONGEST: u64 = 4096;
+use candidate::rate::Rate;
+use output::Output;
+use std::fmt::Write;
+
+// The descriptor of standard input.
+const STDIN_FILENO: i32 = 0;
 
 // The rate that one or two digits are.
 fn rate_in(line: &str) -> Option<Rate> {
@@ -22,22 +25,38 @@ fn rate_in(line: &str) -> Option<Rate> {
     line.parse().ok().and_then(Rate::new)
 }
 
-fn print_answer(rt: &impl Print, line: &str) -> io::Result<()> {
+// Where the first line ends.
+fn line_end(bytes: &[u8]) -> usize
+    ensures { result ≤ length bytes.now }
+{
+    for i in 0..bytes.len() {
+        if bytes[i] == b'\n' {
+            return i;
+        }
+    }
+    bytes.len()
+}
+
+fn print_answer(line: &str) {
     if line == "all" {
-        return table::print_tables(rt);
+        table::print_tables();
+        return;
     }
     match rate_in(line) {
-        Some(rate) => page::print_page(rt, rate),
-        None => println!(rt;
-            "No such rate: a line with a number from 6 to 52 is asked for, or the word all."
-        ),
+        Some(rate) => page::print_page(rate),
+        None => {
+            let _ = writeln!(
+                Output,
+                "No such rate: a line with a number from 6 to 52 is asked for, or the word all."
+            );
+        }
     }
 }
 
-fn main(rt: HostRuntime) -> io::Result<()> {
-    let mut bytes = Vec::new(rt.alloc());
-    rt.reader().take(LONGEST).read_until(b'\n', &mut bytes)?;
+fn main() {
+    let mut input = io::buffer();
+    let count = io::read_full(STDIN_FILENO, &mut input);
+    let bytes = &input[..count];
     // What is no text is no rate.
-    let text = str::from_utf8(&bytes).unwrap_or("");
-    print_answer(&rt, text.strip_suffix('\n').unwrap_or(text))
+    print_answer(str::from_utf8(&bytes[..line_end(bytes)]).unwrap_or(""));
 }

@@ -3,15 +3,17 @@ use candidate::rate::Rate;
 use encoding::{LEAST_RATE, MOST_RATE};
 use numbers::chance::chance;
 use numbers::sums::{bits_within, never_another, sure_doubt, whole_reach};
-use std::io;
+use output::Bytewise;
+use std::fmt::{self, Write};
 
 // Numbers of blank places that have a column.
 const BLANKS: [usize; 20] = [
     0, 1, 2, 3, 4, 5, 6, 7, 8, 9, 10, 11, 12, 13, 16, 20, 24, 32, 40, 46,
 ];
 
-fn print_head(rt: &impl Print) -> io::Result<()> {
-    println!(rt;
+fn print_head(out: &mut Bytewise) -> fmt::Result {
+    writeln!(
+        out,
         "| Rate | Wrong | Doubtful | Refused | Never another | Blank | Distance | Burst | Bits | Burst bits | By chance |\n\
         |---|---|---|---|---|---|---|---|---|---|---|"
     )
@@ -25,11 +27,12 @@ fn exactly(rate: Rate) -> &'static str {
     }
 }
 
-fn print_row(rt: &impl Print, rate: Rate) -> io::Result<()> {
+fn print_row(out: &mut Bytewise, rate: Rate) -> fmt::Result {
     let reach = whole_reach(rate);
     let never = never_another(rate, 0);
     let symbols = 8 * reach;
-    println!(rt;
+    writeln!(
+        out,
         "| {} | {reach} | {} | {} to {never} | {never} | {} | {}{} | {symbols} | {} | {} | 10^{} |",
         rate.k,
         sure_doubt(rate, 0),
@@ -43,36 +46,41 @@ fn print_row(rt: &impl Print, rate: Rate) -> io::Result<()> {
     )
 }
 
-fn print_blank_head(rt: &impl Print) -> io::Result<()> {
-    println!(rt;
+fn print_blank_head(out: &mut Bytewise) -> fmt::Result {
+    writeln!(
+        out,
         "\n| Rate | 0 | 1 | 2 | 3 | 4 | 5 | 6 | 7 | 8 | 9 | 10 | 11 | 12 | 13 | 16 | 20 | 24 | 32 | 40 | 46 |\n\
         |---|---|---|---|---|---|---|---|---|---|---|---|---|---|---|---|---|---|---|---|---|"
     )
 }
 
-fn print_blank_cell(rt: &impl Print, rate: Rate, blanks: usize) -> io::Result<()> {
+fn print_blank_cell(out: &mut Bytewise, rate: Rate, blanks: usize) -> fmt::Result {
     if rate.blank_limit() < blanks {
-        return print!(rt; " - |");
+        return write!(out, " - |");
     }
-    print!(rt; " {} |", rate.reach(blanks))
+    write!(out, " {} |", rate.reach(blanks))
 }
 
-fn print_blank_row(rt: &impl Print, rate: Rate) -> io::Result<()> {
-    print!(rt; "| {} |", rate.k)?;
+fn print_blank_row(out: &mut Bytewise, rate: Rate) -> fmt::Result {
+    write!(out, "| {} |", rate.k)?;
     for blanks in BLANKS {
-        print_blank_cell(rt, rate, blanks)?;
+        print_blank_cell(out, rate, blanks)?;
     }
-    println!(rt)
+    writeln!(out)
 }
 
-pub fn print_tables(rt: &impl Print) -> io::Result<()> {
-    print_head(rt)?;
+fn print_all(out: &mut Bytewise) -> fmt::Result {
+    print_head(out)?;
     for k in LEAST_RATE..=MOST_RATE {
-        print_row(rt, Rate { k })?;
+        print_row(out, Rate { k })?;
     }
-    print_blank_head(rt)?;
+    print_blank_head(out)?;
     for k in LEAST_RATE..=MOST_RATE {
-        print_blank_row(rt, Rate { k })?;
+        print_blank_row(out, Rate { k })?;
     }
     Ok(())
+}
+
+pub fn print_tables() {
+    let _ = print_all(&mut Bytewise);
 }

@@ -4,34 +4,25 @@ ghost use Rattle.std.specs.Prelude.{◌≡◌, ◌≤◌};
 ghost use Rattle.soft.specs.Column.{symbols, costs_from};
 ghost use Rattle.book64.specs.captures.CaptureOpening.{open_capture_of};
 ghost use Rattle.book64.specs.Here.{open_of};
-ghost use Rattle.session.specs.Calls.{session_in};
 ghost use Rattle.stream.specs.Changes.{delivered, withdrawn, change_by, numbered_change, change_of, StandsFor, Leaves};
 
 use crate::bytes;
 use crate::bytes::{lent, write, write_byte};
 use columns::costs::SYMBOLS;
-use refusals::{Refusal, number_of};
+use refusals::number_of;
 use runs::Kind;
-use session::Session;
+use session::{Opened, Session};
 
 fn write_number(number: usize) {
     write(&((number % 65536) as u16).to_be_bytes());
 }
 
 // Writes the number of an opening's answer; a refused one leaves a new session of rate 39.
-fn told(answer: Result<Session, Refusal>) -> Session
-    ensures { result ≡ session_in answer }
+fn told(opened: Opened) -> Session
+    ensures { result ≡ opened.session }
 {
-    match answer {
-        Ok(session) => {
-            write_byte(0);
-            session
-        }
-        Err(refusal) => {
-            write_byte(u8::from(refusal));
-            session::fresh()
-        }
-    }
+    write_byte(number_of(opened.answer));
+    opened.session
 }
 
 fn open(rate: usize, doubtful: &[u8]) -> Session

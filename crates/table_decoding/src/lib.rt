@@ -11,7 +11,7 @@ ghost use Rattle.book64.specs.Here.{report_length, decode_of, table_of};
 ghost use Rattle.refusals.specs.Numbers.{number_of};
 
 use checking::checks;
-use columns::costs::{COSTS, costs_from};
+use columns::costs::{COSTS, fill};
 use decoding::decode;
 use doubt::{MOST_DOUBT, doubtful_by};
 use refusals::Refusal;
@@ -20,7 +20,9 @@ use summary::summary_of;
 // The two bytes of a cost for each symbol of each place.
 pub const TABLE_BYTES: usize = 2048;
 
-// Decoding by the doubtful places picked from the columns, whatever they were made from. Rate, doubt and sizes are checked.
+// Decoding by the doubtful places picked from the columns, whatever they were made from. Rate, doubt and sizes are checked. Inlined, so that the
+// summary lies in its caller's part of the stack.
+#[inline(always)]
 pub fn decode_costs(
     rate: usize,
     costs: &[u16],
@@ -60,6 +62,7 @@ pub fn decode_table(
     if MOST_DOUBT < doubt {
         return Err(Refusal::WrongDoubt);
     }
-    let costs: [u16; COSTS] = costs_from(table);
+    let mut costs = [0; COSTS];
+    fill(table, &mut costs);
     decode_costs(rate, &costs, doubt, message, report)
 }

@@ -8,7 +8,7 @@ ghost use Rattle.code.specs.Encoding.{known_rate};
 ghost use Rattle.soft.specs.Hard.{hard_cost};
 ghost use Rattle.superframe.specs.Superframe.{words, frame_length, word_in, hard_columns, head_of, taken_of};
 ghost use Rattle.refusals.specs.Numbers.{number_of};
-ghost use Rattle.taking_apart.specs.Taking.{TakesNear, TakesWord, TakesWords, taken_by};
+ghost use Rattle.taking_apart.specs.Taking.{TakesNear, TakesWord, TakesWords, status_in, taken_with, taken_by};
 
 use columns::costs::{COSTS, PLACES, SYMBOLS};
 use decoding::decode;
@@ -21,6 +21,13 @@ use superframe::{
     FRAME_BYTES, HEAD_BYTES, LENGTH_HIGH, LENGTH_HIGH_AT, LENGTH_LOW, LENGTH_LOW_AT, RATE_AT,
     VERSION, VERSION_AT, WORDS, Word,
 };
+
+// What taking apart answers, and which words have no codeword near, word v as 2^v; no word is named where it refuses.
+#[derive(Clone, Copy)]
+pub struct Taken {
+    pub answer: Result<(), Refusal>,
+    pub status: u8,
+}
 
 // The symbols of one word.
 fn word_in(frame: &[u8], v: usize) -> Word
@@ -41,15 +48,13 @@ fn hard_cost(received: u8, symbol: usize) -> u16
     u16::from(received as usize != symbol)
 }
 
-// The columns of a word, one after the other.
-fn hard_costs(word: Word) -> [u16; COSTS]
-    ensures { (length result ≡ places * symbols) × (column_of symbols result ≡ hard_columns word) }
+// The columns of a word, one after the other, into a table that the caller holds, so that no second one lies on its stack.
+fn hard_costs(word: Word, out: &mut [u16; COSTS])
+    ensures { (length out.new ≡ places * symbols) × (column_of symbols out.new ≡ hard_columns word) }
 {
-    let mut out = [0u16; COSTS];
     for i in 0..COSTS {
         out[i] = hard_cost(word[i / SYMBOLS], i % SYMBOLS);
     }
-    out
 }
 
 // The message of the codeword within T of a word into its part, without doubt; or 'none near', and the part as it was.
@@ -57,7 +62,8 @@ fn take_near(rate: usize, word: Word, part: &mut [u8]) -> Result<(), Refusal>
     requires { (known_rate rate ≡ true) × (length part.old ≡ rate) }
     ensures { TakesNear rate word part.old (number_of result) part.new }
 {
-    let costs = hard_costs(word);
+    let mut costs = [0; COSTS];
+    hard_costs(word, &mut costs);
     let summary = summary_of(&costs);
     let mut report = [0u8; 14];
     decode(rate, &costs, [0; MOST_DOUBT], 0, part, &mut report, summary)
@@ -121,9 +127,9 @@ fn check_head(frame: &[u8]) -> Result<(), Refusal>
     Ok(())
 }
 
-// The eight messages of a superframe into the caller's buffer, and the status. A word with none near leaves its part as it was, and is named there.
-pub fn take_apart(frame: &[u8], messages: &mut [u8]) -> Result<u8, Refusal>
-    ensures { taken_by result messages.new ≡ taken_of frame.now messages.old }
+// The status, or why there is none.
+fn status_of(frame: &[u8], messages: &mut [u8]) -> Result<u8, Refusal>
+    ensures { taken_with result messages.new ≡ taken_of frame.now messages.old }
 {
     check_head(frame)?;
     let rate = frame[RATE_AT] as usize;
@@ -137,4 +143,27 @@ pub fn take_apart(frame: &[u8], messages: &mut [u8]) -> Result<u8, Refusal>
         return Err(Refusal::NoSymbol);
     }
     Ok(take_words(rate, frame, messages))
+}
+
+// A status beside its answer; 0 beside a refusal.
+pub fn told(answer: Result<u8, Refusal>) -> Taken
+    ensures { (number_of result.answer ≡ number_of answer) × (result.status ≡ status_in answer) }
+{
+    match answer {
+        Ok(status) => Taken {
+            answer: Ok(()),
+            status,
+        },
+        Err(refusal) => Taken {
+            answer: Err(refusal),
+            status: 0,
+        },
+    }
+}
+
+// The eight messages of a superframe into the caller's buffer, and the status. A word with none near leaves its part as it was, and is named there.
+pub fn take_apart(frame: &[u8], messages: &mut [u8]) -> Taken
+    ensures { taken_by result messages.new ≡ taken_of frame.now messages.old }
+{
+    told(status_of(frame, messages))
 }

@@ -1,1 +1,2 @@
-mod Printed
+pub mod Decimal
+pub mod Put

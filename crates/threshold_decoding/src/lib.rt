@@ -8,7 +8,7 @@ ghost use Rattle.book64.specs.Here.{table_below_of};
 ghost use Rattle.refusals.specs.Numbers.{number_of};
 
 use checking::checks;
-use columns::costs::{COSTS, costs_from};
+use columns::costs::{COSTS, fill};
 use decoding::decode;
 use doubt::MOST_DOUBT;
 use refusals::Refusal;
@@ -33,7 +33,8 @@ pub fn decode_table_below(
     if MOST_DOUBT < most {
         return Err(Refusal::WrongDoubt);
     }
-    let costs: [u16; COSTS] = costs_from(table);
+    let mut costs = [0; COSTS];
+    fill(table, &mut costs);
     let summary = summary_of(&costs);
     let picked = doubt::doubtful_below_by(summary, threshold, most);
     let doubtful = picked.places;

@@ -4,4 +4,4 @@ use Rattle.captures.proofs.sort_capture.Goals as goal
 
 pub returns : goal.returns
 unfolding sort_capture_of
-returns c = c.write_opened.ensures.answers _ c.open_capture.ensures
+returns c = c.write_opened.ensures.answers _ c.try_open_capture.ensures

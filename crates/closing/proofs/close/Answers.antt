@@ -36,16 +36,16 @@ slice_bounds-doubtful-end c =
     let l : length c.args.session.doubtful ≡ most_doubt = search rules in
     omega arith
 
-pub slice_bounds-open-end : goal.slice_bounds-open-end
-slice_bounds-open-end c =
+pub slice_bounds-try_open-end : goal.slice_bounds-try_open-end
+slice_bounds-try_open-end c =
     let s : Session = c.args.session in
     let l : length s.doubtful ≡ most_doubt = search rules in
     sym (length-take-le s.doubt s.doubtful (omega arith))
 
-pub returns-in_err-open : goal.returns-in_err-open
-returns-in_err-open c =
+pub returns-in_err-try_open : goal.returns-in_err-try_open
+returns-in_err-try_open c =
     let s : Session = c.args.session in
-    let e : started (Err c.in_err-open.field-0.0) ≡ opened_of s.rate (take s.doubt s.doubtful) = c.in_err-open.ensures in
+    let e : started (Err c.in_err-try_open.field-0.0) ≡ opened_of s.rate (take s.doubt s.doubtful) = c.in_err-try_open.ensures in
     closing-by-hand _ _ _ _
     (λ good. never-accepted _ (fit_opened modem64 _ _ (ap (λ (o : Ending). o.refusal) e ∙ (opens _ _).number) good.rate_known good.list_fit))
 
@@ -66,7 +66,7 @@ decode-requires c =
     let table_room : length c.args.session.costs ≡ 1024 =
     search rules in
     let s : Session = c.args.session in
-    let e : started (Ok c.in_ok-open.field-0) ≡ opened_of s.rate (take s.doubt s.doubtful) = c.in_ok-open.ensures in
+    let e : started (Ok c.in_ok-try_open.field-0) ≡ opened_of s.rate (take s.doubt s.doubtful) = c.in_ok-try_open.ensures in
     let f = opened-fit modem64 s.rate (take s.doubt s.doubtful) (ap (λ (o : Ending). o.refusal) e ∙ (opens _ _).number) refl in (
       record {
         askable = askable-fit modem64 s.rate s.costs s.doubtful s.doubt f.0 f.1 (table_room) c.if-doubt-gt-MOST_DOUBT.false;

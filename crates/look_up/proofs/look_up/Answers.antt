@@ -10,9 +10,9 @@ returns-then-place-ge-PLACES c = sym (look-up-above _ _ c.if-place-ge-PLACES.tru
 
 pub returns-then-is_err : goal.returns-then-is_err
 returns-then-is_err c =
-    sym (look-up-refused _ _ (declined-number _ _ c.open_capture.ensures (sym c.is_err.ensures.value ∙ c.if-is_err.true)))
+    sym (look-up-refused _ _ (declined-number _ _ c.try_open_capture.ensures (sym c.is_err.ensures.value ∙ c.if-is_err.true)))
 
 pub column_in-requires : goal.column_in-requires
 column_in-requires c =
     let passed = sym c.is_err.ensures.value ∙ c.if-is_err.false in
-    (omega arith, accepted-number _ _ c.open_capture.ensures passed, there _ _ _ (omega arith) c.open_capture.ensures passed)
+    (omega arith, accepted-number _ _ c.try_open_capture.ensures passed, there _ _ _ (omega arith) c.try_open_capture.ensures passed)

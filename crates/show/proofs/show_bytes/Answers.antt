@@ -1,6 +1,6 @@
--- What the lines tell, of bytes.
+-- `show_bytes` meets its contract: the lines of the capture, of bytes.
 use Rattle.show.specs.Shown.{shown-numbers}
 use Rattle.show.proofs.show_bytes.Goals as goal
 
-pub returns-clause-lines : goal.returns-clause-lines
-returns-clause-lines c = shown-numbers _ c.bytes.ensures
+pub returns : goal.returns
+returns c = (c.show_capture.ensures, shown-numbers _ c.bytes.ensures)

@@ -27,10 +27,10 @@ returns-then-doubt-gt-MOST_DOUBT c =
 pub decode_costs-requires : goal.decode_costs-requires
 decode_costs-requires c =
     let k = passed modem64 _ _ _ _ _ c.in_ok-checks.ensures (omega arith) in
-    (k.rated, ap length c.costs_from-costs.ensures ∙ costs-length _ _, c.if-doubt-gt-MOST_DOUBT.false, k.long, k.whole_report)
+    (k.rated, ap length c.fill.ensures ∙ costs-length _ _, c.if-doubt-gt-MOST_DOUBT.false, k.long, k.whole_report)
 
 pub returns : goal.returns
 returns c =
     let k = passed modem64 _ _ _ _ _ c.in_ok-checks.ensures (omega arith) in
-    table-answers modem64 _ _ c.if-doubt-gt-MOST_DOUBT.false c.costs_from-costs.ensures (in-front _ c.if-doubt-gt-MOST_DOUBT.false _) _ k.rated _ _ k.whole
+    table-answers modem64 _ _ c.if-doubt-gt-MOST_DOUBT.false c.fill.ensures (in-front _ c.if-doubt-gt-MOST_DOUBT.false _) _ k.rated _ _ k.whole
     k.long k.whole_report (decoded-front _ c.if-doubt-gt-MOST_DOUBT.false _ _ _ _ c.decode_costs.ensures)

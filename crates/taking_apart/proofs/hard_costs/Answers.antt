@@ -14,4 +14,4 @@ pub loop-i-preserved : goal.loop-i-preserved
 loop-i-preserved c = filled-turn 0 c.loop-i.invariant _ (search rules) c.hard_cost.ensures
 
 pub returns : goal.returns
-returns c = hard-columns _ _ (search rules) (filled-end 0 c.loop-i.invariant (places * symbols) refl c.loop-i-test.false)
+returns c = hard-columns _ _ (search rules) (filled-end 0 c.loop-i.invariant (places * symbols) (search rules) c.loop-i-test.false)

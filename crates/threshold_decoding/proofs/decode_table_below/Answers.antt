@@ -34,7 +34,7 @@ decode-requires c =
     let k = passed modem64 _ _ _ _ _ c.in_ok-checks.ensures (omega arith) in (
       record {
         askable =
-            below-askable modem64 _ _ _ (omega arith) c.costs_from-costs.ensures
+            below-askable modem64 _ _ _ (omega arith) c.fill.ensures
             (picked-in (c.doubtful_below_by-picked.ensures _ c.summary_of-summary.ensures)) _ k.rated;
         message_long = k.long;
         report_long = k.whole_report;
@@ -46,6 +46,6 @@ pub returns : goal.returns
 returns c =
     let k = passed modem64 _ _ _ _ _ c.in_ok-checks.ensures (omega arith) in
     below-answers modem64 _ _ _ (omega arith)
-    c.costs_from-costs.ensures
+    c.fill.ensures
     (picked-in (c.doubtful_below_by-picked.ensures _ c.summary_of-summary.ensures)) _ k.rated (omega arith) _ _ k.whole k.long
     k.whole_report c.decode.ensures
