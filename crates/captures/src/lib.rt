@@ -30,6 +30,7 @@ pub fn decode_capture(capture: &[u8], message: &mut [u8], report: &mut [u8]) -> 
 }
 
 // Writes the session of an accepted opening; a refused one leaves the buffer, and its refusal is handed on.
+#[tactic(auto, using(crate::proofs::Cases::refused_on))]
 fn write_opened(given: Result<Session, Refusal>, out: &mut [u8]) -> Result<(), Refusal>
     ensures { WritesOpened (started given) out.old (number_of result) out.new }
 {

@@ -11,6 +11,7 @@ use refusals::Refusal;
 use totals::report::REPORT_BYTES;
 
 // By the lengths of what is given, beside the one wanted, of the message and of the report.
+#[tactic(auto, using(crate::proofs::Cases::unknown_first))]
 pub fn checks(
     rate: usize,
     given: usize,

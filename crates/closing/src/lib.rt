@@ -13,6 +13,7 @@ use summary::summary_of;
 use totals::report::REPORT_BYTES;
 
 // A session record that was built by hand, with a rate or a doubtful list that no opening accepts, is refused: no contract says by which number.
+#[tactic(auto, using(crate::proofs::Cases::message_unfit, crate::proofs::Cases::report_unfit))]
 pub fn close(session: Session, message: &mut [u8], report: &mut [u8]) -> Result<(), Refusal>
     ensures { Closing session message.old report.old (number_of result) message.new report.new }
 {

@@ -9,7 +9,7 @@ ghost use Rattle.summary.specs.Summary.{SummaryOf};
 ghost use Rattle.book.specs.tables.Table.{closed};
 ghost use Rattle.book64.specs.Here.{decode_of};
 ghost use Rattle.decoding.specs.Decoding.{Decodable, unanswered_of};
-ghost use Rattle.refusals.specs.Numbers.{number_in, number_of};
+ghost use Rattle.refusals.specs.Numbers.{number_of};
 
 use answer::Answer;
 use candidate::rate::Rate;
@@ -20,14 +20,14 @@ use lists::copy;
 use refusals::Refusal;
 use summary::Summary;
 
-// Why nothing was found: more places are blank than leave a T, or no codeword is near.
-fn unanswered(rate: Rate, counts: [u8; PLACES]) -> Refusal
-    ensures { (columns : ℕ → List ℕ) → counts ≡ flags_of places columns → number_in result ≡ unanswered_of rate.k columns }
+// What is answered where nothing was found: more places are blank than leave a T, or no codeword is near.
+fn unanswered(rate: Rate, counts: [u8; PLACES]) -> Result<(), Refusal>
+    ensures { (columns : ℕ → List ℕ) → counts ≡ flags_of places columns → number_of result ≡ unanswered_of rate.k columns }
 {
     if blanks(counts) <= rate.blank_limit() {
-        return Refusal::NoneNear;
+        return Err(Refusal::NoneNear);
     }
-    Refusal::TooBlank
+    Err(Refusal::TooBlank)
 }
 
 // 'Too many blank' or 'none near', the buffers as they were; or the answer's message and its report. With too many blank the search finds
@@ -48,7 +48,7 @@ pub fn decode(
     let of_rate = Rate { k: rate };
     let found = chase::nearest_by(rate, costs, doubtful, doubt, summary);
     let Answer::Near { total, margin } = found.answer else {
-        return Err(unanswered(of_rate, summary.counts));
+        return unanswered(of_rate, summary.counts);
     };
     copy(&found.message, message);
     let word = found.codeword;

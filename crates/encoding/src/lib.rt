@@ -130,6 +130,7 @@ fn encode_into(message: &[u8], part: &mut [u8])
 }
 
 // Encode: the codeword of the message into the 64 bytes of the frame from start on.
+#[tactic(auto, using(crate::proofs::Cases::unknown_first))]
 pub fn encode(rate: usize, message: &[u8], frame: &mut [u8], start: usize) -> Result<(), Refusal>
     ensures { outcome (number_of result) frame.new ≡ encode_call rate message.now frame.old start }
 {

@@ -1,4 +1,4 @@
--- The refusals' numbers (document 01, 'Refusals, by who can cause them'), each under the name that the code's constant has.
+-- The refusals' numbers (document 01, 'Refusals, by who can cause them'), each under the name of the code's variant.
 --
 --   accepted         0: no refusal
 --   unknown_rate      1: the rate is not one of 6 to 52

@@ -39,6 +39,7 @@ pub fn open_capture(bytes: &[u8]) -> Opened
     opening::open_capture(bytes)
 }
 
+#[tactic(auto, using(crate::proofs::Steps::steps))]
 fn make_delivery(session: &mut Session, place: usize, column: [u16; SYMBOLS]) -> Result<(), Refusal>
     ensures { Step session.old (deliver place column) (answer_with (number_of result) [] []) session.new }
 {
@@ -64,6 +65,7 @@ fn make_closing(session: &Session, message: &mut [u8], report: &mut [u8]) -> Res
     closing::close(*session, message, report)
 }
 
+#[tactic(auto, using(crate::proofs::Steps::steps))]
 fn make_withdrawal(session: &mut Session, place: usize) -> Result<(), Refusal>
     ensures { Step session.old (withdraw place) (answer_with (number_of result) [] []) session.new }
 {

@@ -1,4 +1,4 @@
-// A session by value: opening one, delivering one place and its column of sixteen costs, and withdrawing one place.
+// A session, which is a value: opening one, and delivering into it one place and its column of sixteen costs, or withdrawing one place.
 // It holds the columns by place, and nothing of the order of arrival: sessions from openings that hold the same are equal.
 // It knows of no codeword and no interpolant; what a session stands for is its book (specs/View.antt).
 #![tactic(auto)]
@@ -74,6 +74,7 @@ pub fn fresh() -> Session
 }
 
 // For who goes on with an accepted opening alone; `open` hands a session back in any case.
+#[tactic(auto, using(crate::proofs::Cases::unknown_first))]
 pub fn try_open(rate: usize, doubtful: &[u8]) -> Result<Session, Refusal>
     ensures { started result ≡ opened_of rate doubtful.now }
 {

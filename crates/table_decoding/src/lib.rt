@@ -49,6 +49,7 @@ pub fn decode_costs(
     )
 }
 
+#[tactic(auto, using(crate::proofs::Cases::doubt_too_large))]
 pub fn decode_table(
     rate: usize,
     table: &[u8],

@@ -72,6 +72,7 @@ fn write_head(rate: u8, list: [u8; MOST_DOUBT], count: usize, out: &mut [u8])
 }
 
 // The first test keeps a session record that was built by hand from running past the list.
+#[tactic(auto, using(crate::proofs::Cases::list_too_long, crate::proofs::Cases::buffer_unfit))]
 pub fn write_capture(session: Session, out: &mut [u8]) -> Result<(), Refusal>
     ensures { Writing session out.old (number_of result) out.new }
 {

@@ -1,12 +1,13 @@
 -- `decode_capture` meets its contract: of a refused opening the refusal is handed on, of an accepted one what closing answers.
-use Rattle.std.specs.Prelude.{Ok, Err}
+use Rattle.std.specs.Prelude.{Err}
 use borrow.Author.Rules.{rules}
-use mathlib.Core.Path.{◌≡◌, refl, ap, ◌∙◌}
+use mathlib.Core.Path.{◌≡◌, ap, ◌∙◌}
 use Rattle.refusals.specs.Numbers.{number_in, number_of, never-accepted}
 use Rattle.book.specs.tables.Table.{closed}
 use Rattle.session.specs.Calls.{started}
 use Rattle.captures.specs.Calls.{decode_capture_of}
-use Rattle.captures.proofs.Answered.{closed-refused, closed_on}
+use Rattle.captures.proofs.Answered.{closed-refused}
+use Rattle.captures.proofs.Cases.{decoded_on}
 use Rattle.captures.proofs.decode_capture.Goals as goal
 
 pub returns-in_err-opened : goal.returns-in_err-opened
@@ -18,6 +19,4 @@ returns-in_err-opened c =
     ∙ closed-refused _ (started (Err c.in_err-opened.field-0.0)) c.in_err-opened.ensures _ _ (never-accepted _)
 
 pub returns : goal.returns
-unfolding decode_capture_of
-returns c =
-    closed_on _ (started (Ok c.in_ok-opened.opened)) c.in_ok-opened.ensures _ _ _ _ _ refl c.close.ensures
+returns c = decoded_on _ c.in_ok-opened.opened _ _ _ _ _ c.in_ok-opened.ensures (search rules)

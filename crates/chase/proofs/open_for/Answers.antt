@@ -10,7 +10,7 @@ use Rattle.chase.specs.Call.{scope64, Asked, well_formed}
 use Rattle.chase.proofs.open_for.Goals as goal
 
 pub returns-then-not-well_formed-clause-unasked : goal.returns-then-not-well_formed-clause-unasked
-returns-then-not-well_formed-clause-unasked c = unasked-form scope64 _ _ _ _ (sym c.well_formed-2.ensures ∙ c.if-not-well_formed.true)
+returns-then-not-well_formed-clause-unasked c = unasked-form scope64 _ _ _ _ (grind arith)
 
 pub returns-then-blank_limit-blanks-clause-unasked : goal.returns-then-blank_limit-blanks-clause-unasked
 returns-then-blank_limit-blanks-clause-unasked c =
@@ -20,7 +20,7 @@ returns-then-blank_limit-blanks-clause-unasked c =
 pub returns-clause-asked : goal.returns-clause-asked
 returns-clause-asked c =
     let same = c.in_ok-rate.ensures.value in
-    let formed : well_formed c.args.rate c.args.costs.now c.args.doubtful c.args.doubt ≡ true = sym c.well_formed-2.ensures ∙ c.if-not-well_formed.false in
+    let formed : well_formed c.args.rate c.args.costs.now c.args.doubtful c.args.doubt ≡ true = grind arith in
     let number = blank-number m16 _ _ c.requires _ c.blanks-blanks.ensures in
     let limit = c.blank_limit.ensures ∙ ap blank_limit same in
     let may-ask : Asked c.args.rate c.args.costs.now c.args.doubtful c.args.doubt =

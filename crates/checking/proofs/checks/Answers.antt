@@ -4,11 +4,8 @@ use mathlib.Core.Path.{◌≡◌, sym, ◌∙◌}
 use mathlib.Core.Logic.{inl, inr}
 use Rattle.code.specs.Encoding.{known_rate}
 use Rattle.book64.specs.Modem64.{modem64}
-use Rattle.book.proofs.tables.Table.{checks-rate, checks-size, checks-fit}
+use Rattle.book.proofs.tables.Table.{checks-size, checks-fit}
 use Rattle.checking.proofs.checks.Goals as goal
-
-pub returns-then-not-known_rate : goal.returns-then-not-known_rate
-returns-then-not-known_rate c = sym (checks-rate modem64 _ _ _ _ _ (sym c.known_rate.ensures ∙ c.if-not-known_rate.true))
 
 pub returns-then-given-wanted : goal.returns-then-given-wanted
 returns-then-given-wanted c =

@@ -1,7 +1,7 @@
 -- `close` meets its contract: each return is a case of closing, and the tests on the way say which.
 use Rattle.std.specs.Prelude.{Ok, Err}
+use mathlib.Core.Bool.{true}
 use mathlib.Core.Path.{◌≡◌, refl, sym, ap, ◌∙◌}
-use mathlib.Core.Logic.{inl, inr}
 use native.Mathlib.Omega.{arith}
 use lib.ListN.{length, take}
 use lib.Seq.{length-take-le}
@@ -9,24 +9,18 @@ use Rattle.soft.specs.Doubt.{most_doubt}
 use Rattle.book64.specs.Modem64.{modem64}
 use Rattle.refusals.specs.Numbers.{never-accepted}
 use Rattle.session.specs.declared.Session.{Session}
+use Rattle.session.specs.View.{all_taken}
 use Rattle.session.specs.Calls.{Ending, started, opened_of}
-use Rattle.session.specs.AnsweringLaws.{closing-by-hand, closing-wrong-size, closing-early, closing-decoded}
+use Rattle.session.specs.AnsweringLaws.{closing-by-hand, closing-early, closing-decoded}
 use Rattle.session.specs.Laws.{opens}
 use Rattle.answering.specs.Asked.{askable-fit}
 use Rattle.answering.specs.Opened.{fit_opened, opened-fit}
 use borrow.Author.Rules.{rules}
 use Rattle.closing.proofs.close.Goals as goal
 
-pub returns-then-message-rate : goal.returns-then-message-rate
-returns-then-message-rate c = closing-wrong-size _ _ _ (inl c.if-message-rate.true)
-
-pub returns-then-report-ne-REPORT_BYTES : goal.returns-then-report-ne-REPORT_BYTES
-returns-then-report-ne-REPORT_BYTES c = closing-wrong-size _ _ _ (inr c.if-report-ne-REPORT_BYTES.true)
-
 pub returns-then-not-all_taken : goal.returns-then-not-all_taken
 returns-then-not-all_taken c =
-    closing-early c.args.session _ _ c.if-message-rate.false c.if-report-ne-REPORT_BYTES.false
-    (sym c.all_taken.ensures ∙ c.if-not-all_taken.true)
+    closing-early c.args.session _ _ c.if-message-rate.false c.if-report-ne-REPORT_BYTES.false cc
 
 pub returns-then-doubt-gt-MOST_DOUBT : goal.returns-then-doubt-gt-MOST_DOUBT
 returns-then-doubt-gt-MOST_DOUBT c = closing-by-hand _ _ _ _ (λ good. omega (arith, good.doubt_fits, c.if-doubt-gt-MOST_DOUBT.true))
@@ -78,4 +72,5 @@ decode-requires c =
 
 pub returns : goal.returns
 returns c =
-    closing-decoded _ _ _ c.if-message-rate.false c.if-report-ne-REPORT_BYTES.false (sym c.all_taken.ensures ∙ c.if-not-all_taken.false) c.decode.ensures
+    let taken : all_taken c.args.session.taken ≡ true = cc in
+    closing-decoded _ _ _ c.if-message-rate.false c.if-report-ne-REPORT_BYTES.false taken c.decode.ensures

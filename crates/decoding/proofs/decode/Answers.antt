@@ -1,5 +1,5 @@
 -- `decode` meets its contract: what the search found is the answer, and the report is that of its codeword.
-use mathlib.Core.Path.{◌≡◌, sym, ◌∙◌}
+use mathlib.Core.Path.{◌≡◌, refl, sym, ◌∙◌}
 use native.Mathlib.Omega.{arith}
 use lib.ListN.{length}
 use Rattle.soft.specs.Column.{places}
@@ -39,7 +39,8 @@ pub mark-mark-requires : goal.mark-mark-requires
 mark-mark-requires c =
     let near = nearest-call _ _ _ _ _ c.nearest_by-found.ensures in
     let summed = c.requires.1 in
-    (markable modem64 _ _ _ (near.encoded _ (total-near c.in-Near.is)) (c.changed_places-flags.ensures _ summed.best summed.counts) c.least_distance.ensures, summed)
+    let m = markable modem64 _ _ _ (near.encoded _ (total-near c.in-Near.is)) (c.changed_places-flags.ensures _ summed.best summed.counts) refl in
+    (record { wide = m.wide; symbol = m.symbol; changed = m.changed; few = omega arith }, summed)
 
 pub overflow_cast-found : goal.overflow_cast-found
 overflow_cast-found c =
@@ -55,5 +56,5 @@ returns c =
     let near = nearest-call _ _ _ _ _ c.nearest_by-found.ensures in
     let answer = c.in-Near.is in
     decoded-near given.0.askable near _ _ answer given.0.message_long (found-room) (known-bounds _ given.0.askable.known).1
-    c.copy.ensures (near.encoded _ (total-near answer)) c.pinned-pinned.ensures (c.changed_places-flags.ensures _ given.1.best given.1.counts) c.changed-changed.ensures c.least_distance.ensures c.mark-mark.ensures c.report-bytes.ensures
+    c.copy.ensures (near.encoded _ (total-near answer)) c.pinned-pinned.ensures (c.changed_places-flags.ensures _ given.1.best given.1.counts) c.changed-changed.ensures (search rules) c.mark-mark.ensures c.report-bytes.ensures
     (given.0.report_long ∙ sym (report-room)) c.copy-2.ensures

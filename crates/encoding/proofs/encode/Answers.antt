@@ -6,12 +6,9 @@ use native.Mathlib.Omega.{arith}
 use lib.ListN.{length-take, length-drop}
 use Rattle.family.specs.Member.{m16}
 use Rattle.family.specs.Evaluation.{encode-over}
-use Rattle.family.specs.Answers.{encode-rate, encode-message, encode-frame, encode-symbol, encode-done}
+use Rattle.family.specs.Answers.{encode-message, encode-frame, encode-symbol, encode-done}
 use Rattle.code.specs.Rates.{longest, known_small}
 use Rattle.encoding.proofs.encode.Goals as goal
-
-pub returns-then-not-known_rate : goal.returns-then-not-known_rate
-returns-then-not-known_rate c = encode-rate m16 known_rate _ _ _ _ (sym c.known_rate.ensures ∙ c.if-not-known_rate.true)
 
 pub returns-then-message-rate : goal.returns-then-message-rate
 returns-then-message-rate c =

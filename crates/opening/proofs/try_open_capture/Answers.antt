@@ -59,7 +59,7 @@ returns-in_err-opened c =
     let bytes : List ℕ = c.args.bytes.now in
     let n : c.from_be_bytes-length.result ≡ length_in bytes = omega (arith, c.from_be_bytes-length.ensures) in
     let list : List ℕ = take (5 + doubt_in bytes - 5) (drop 5 bytes) in
-    let e : started (Err c.in_err-opened.field-0.0) ≡ opened_of (rate_in bytes) list = c.in_err-opened.ensures in
+    let e : started (Err c.in_err-opened.field-0.0) ≡ opened_of (rate_in bytes) list = grind arith in
     let same : c.from_residual.result ≡ Err c.in_err-opened.field-0.0 = search rules in
     let number = ap (λ (o : Ending). o.refusal) e in
     opening-as (ap started same ∙ e)
@@ -73,7 +73,7 @@ returns-then-version-suited c =
     let bytes : List ℕ = c.args.bytes.now in
     let n : c.from_be_bytes-length.result ≡ length_in bytes = omega (arith, c.from_be_bytes-length.ensures) in
     let list : List ℕ = take (5 + doubt_in bytes - 5) (drop 5 bytes) in
-    let e : started (Ok c.in_ok-opened.opened) ≡ opened_of (rate_in bytes) list = c.in_ok-opened.ensures in
+    let e : started (Ok c.in_ok-opened.opened) ≡ opened_of (rate_in bytes) list = grind arith in
     (opening-misfit bytes c.if-bytes-lt-LEAST_BYTES.false c.if-bytes-gt-MOST_BYTES.false (sym c.is_version.ensures ∙ c.if-not-is_version.false) (told-total n c.if-length-bytes.false) (sym n ∙ c.if-length-doubt.false)
     list refl (sym (ap (λ (o : Ending). o.refusal) e)) (λ q. c.if-version-suited.true (q ∙ sym c.version_of-suited.ensures)))
 
@@ -84,7 +84,7 @@ deliver_records-requires c =
     let list : List ℕ = take (5 + doubt_in bytes - 5) (drop 5 bytes) in
     let total : length_in bytes + 3 ≡ length bytes = told-total n c.if-length-bytes.false in
     let body : length_in bytes ≡ body_length (doubt_in bytes) = sym n ∙ c.if-length-doubt.false in
-    let e : started (Ok c.in_ok-opened.opened) ≡ opened_of (rate_in bytes) list = c.in_ok-opened.ensures in (
+    let e : started (Ok c.in_ok-opened.opened) ≡ opened_of (rate_in bytes) list = grind arith in (
       subst (λ (o : Ending). Good o.session) (sym e) (opens (rate_in bytes) list).good,
       rest-length (5 + doubt_in bytes) (record_length * places) bytes (omega arith),
     )
@@ -94,7 +94,7 @@ returns c =
     let bytes : List ℕ = c.args.bytes.now in
     let n : c.from_be_bytes-length.result ≡ length_in bytes = omega (arith, c.from_be_bytes-length.ensures) in
     let list : List ℕ = take (5 + doubt_in bytes - 5) (drop 5 bytes) in
-    let e : started (Ok c.in_ok-opened.opened) ≡ opened_of (rate_in bytes) list = c.in_ok-opened.ensures in
+    let e : started (Ok c.in_ok-opened.opened) ≡ opened_of (rate_in bytes) list = grind arith in
     let rest : List ℕ = take (length bytes - (5 + doubt_in bytes)) (drop (5 + doubt_in bytes) bytes) in
     let made : Ending = started c.deliver_records.result in
     delivering bytes c.if-bytes-lt-LEAST_BYTES.false c.if-bytes-gt-MOST_BYTES.false (sym c.is_version.ensures ∙ c.if-not-is_version.false) (told-total n c.if-length-bytes.false) (sym n ∙ c.if-length-doubt.false)

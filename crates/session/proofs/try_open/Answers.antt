@@ -6,13 +6,8 @@ use Rattle.session.specs.declared.Session.{Session}
 use Rattle.book64.specs.Modem64.{modem64}
 use Rattle.calls.specs.Scan.{long-unfit, short-fit}
 use Rattle.session.specs.Calls.{refused_with}
-use Rattle.session.specs.Laws.{opened-rate, opened-list, opened-new}
+use Rattle.session.specs.Laws.{opened-list, opened-new}
 use Rattle.session.proofs.try_open.Goals as goal
-
-pub returns-then-not-known_rate : goal.returns-then-not-known_rate
-unfolding refused_with
-returns-then-not-known_rate c =
-    sym (opened-rate _ _ (sym c.known_rate.ensures ∙ c.if-not-known_rate.true))
 
 pub returns-then-doubtful-gt-MOST_DOUBT : goal.returns-then-doubtful-gt-MOST_DOUBT
 unfolding refused_with

@@ -1,26 +1,21 @@
 -- `writing::write_capture` meets its contract: each refusal is a case of writing; else the head and the records make up the capture.
 use borrow.Author.Rules.{rules}
+use mathlib.Core.Bool.{true}
 use mathlib.Core.Path.{◌≡◌, sym, ap, ap₂, ◌∙◌}
 use mathlib.Core.List.{List, ◌++◌}
 use Prim.Native.Nat.{ℕ, ◌+◌}
 use native.Mathlib.Omega.{arith}
 use lib.ListN.{length, drop, length-append, length-drop}
 use lib.Seq.{length-take-le}
+use Rattle.session.specs.View.{all_taken}
 use Rattle.capture.specs.Rest.{rest-length}
 use Rattle.writing.proofs.Parts.{both-parts}
-use Rattle.writing.proofs.Written.{writing-long, writing-size, writing-missing, writing-accepted}
+use Rattle.writing.proofs.Written.{writing-missing, writing-accepted}
 use Rattle.writing.proofs.write_capture.Goals as goal
-
-pub returns-then-doubt-gt-MOST_DOUBT : goal.returns-then-doubt-gt-MOST_DOUBT
-returns-then-doubt-gt-MOST_DOUBT c = writing-long _ _ c.if-doubt-gt-MOST_DOUBT.true
-
-pub returns-then-out-doubt : goal.returns-then-out-doubt
-returns-then-out-doubt c = writing-size _ _ c.if-out-doubt.true
 
 pub returns-then-not-all_taken : goal.returns-then-not-all_taken
 returns-then-not-all_taken c =
-    writing-missing c.args.session _ c.if-out-doubt.false
-    (sym c.all_taken.ensures ∙ c.if-not-all_taken.true)
+    writing-missing c.args.session _ c.if-out-doubt.false cc
 
 pub slice_bounds-write_head-end-2 : goal.slice_bounds-write_head-end-2
 slice_bounds-write_head-end-2 c =
@@ -60,6 +55,6 @@ returns c =
     (length-append head (drop start out) ∙ omega (arith, length-drop start out)) in
     let whole = both-parts out head rest start n (omega arith) in
     let long : length (head ++ rest) ≡ length out = length-append head rest ∙ omega arith in
-    writing-accepted a.session out sized _ (ap length whole ∙ long)
-    (sym c.all_taken.ensures ∙ c.if-not-all_taken.false)
+    let taken : all_taken a.session.taken ≡ true = cc in
+    writing-accepted a.session out sized _ (ap length whole ∙ long) taken
     (whole ∙ ap₂ (λ (x y : List ℕ). x ++ y) c.write_head.ensures c.write_records.ensures)
