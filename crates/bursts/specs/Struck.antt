@@ -5,10 +5,11 @@
 --                          refuses, 2 if the burst does not lie within the 512 symbols, status 0 and the buffer as it was; else what taking apart answers
 --   struck-size, struck-before, struck-inside, struck-after   the frame that was struck: its length, and its bytes before the burst, in it and behind it
 --   struck-altered         so it is altered in a window of as many symbols as the burst has
+--   through-refused-status   a call that is refused has status 0, whatever is known of it
 --   through-back           at every rate all eight messages come back and no word is named, where the burst has at most 8T symbols, each from 0 to 15
 --   Relied messages start burst out r after   document 02: 'A user at rate 39 may rely on this: if at most 48 consecutive symbols are altered, still each 0
 --                          to 15, all eight messages come back', with the 312 symbols of eight messages; no word is named
-use Rattle.std.specs.Prelude.{true, cond, ◌≡◌, List, ◌++◌, ◌⊎◌, ℕ, ◌+◌, ◌-◌, ◌*◌, ◌<◌, ◌≤◌, eqb, leb, take, replicate}
+use Rattle.std.specs.Prelude.{Bool, true, false, cond, ◌≡◌, ◌≢◌, List, ◌++◌, ◌⊎◌, ℕ, ◌+◌, ◌-◌, ◌*◌, ◌<◌, ◌≤◌, eqb, leb, take, replicate}
 use Rattle.std.proofs.Common.{sym, ◌∙◌, subst, inl, inr, arith, get_or-drop, length-take-le, le-leb}
 use Rattle.std.proofs.Math.Path.{ap}
 use Rattle.std.proofs.Math.Decide.{dec_lt, dec_le}
@@ -23,6 +24,7 @@ use Rattle.soft.specs.Column.{symbols}
 use Rattle.family.specs.Calls.{Answered, placed}
 use Rattle.near.specs.Here.{reach_of}
 use Rattle.superframe.specs.Superframe.{words, head_length, symbol_count, frame_length, built_of, build_of, symbol_in, Taken, taken, taken_of}
+use Rattle.superframe.specs.Laws.{refused-status}
 use Rattle.superframe.specs.Built.{Sent, build-sent, built-long, built-below}
 use Rattle.superframe.specs.Burst.{Altered, burst}
 use Rattle.taking_apart.specs.declared.Taken as Declared
@@ -109,6 +111,21 @@ struck-altered k messages start burst small fits =
         let e : head_length + s ≡ head_length + start + j = omega arith in
         subst (λ x. x < symbols) (sym (ap (λ n. get_or (struck_by start burst sent) n 0) e ∙ struck-inside start burst sent room j (omega arith)))
         (all_below-at symbols burst (true-T (all_below symbols burst) small) j (omega arith))
+
+-- ---- where a call is refused
+
+through-status : (built within : Bool) (frame out : List ℕ) (number : ℕ) {n s : ℕ} {after : List ℕ} → n ≢ accepted
+    → taken n s after ≡ cond built (cond within (taken_of frame out) (taken wrong_size 0 out)) (taken number 0 out) → s ≡ 0
+through-status true true frame out number other e = refused-status frame out other e
+through-status true false frame out number other e = ap (λ (t : Taken). t.status) e
+through-status false within frame out number other e = ap (λ (t : Taken). t.status) e
+
+pub through-refused-status : (k : ℕ) (messages : List ℕ) (start : ℕ) (burst out : List ℕ) {n s : ℕ} {after : List ℕ} → n ≢ accepted
+    → taken n s after ≡ through_of k messages start burst out → s ≡ 0
+unfolding through_of through_by
+through-refused-status k messages start burst out other e =
+    let built : Answered = build_of k messages (replicate frame_length 0) in
+    through-status (eqb built.number accepted) (leb (start + length burst) symbol_count) (struck_by start burst built.buffer) out built.number other e
 
 -- ---- what comes back
 

@@ -5,14 +5,81 @@ use candidate::rate::Rate;
 use numbers::chance::chance;
 use numbers::sums::{bits_within, never_another, sure_doubt, whole_reach};
 use output::Bytewise;
-use std::fmt::{self, Write};
+use std::fmt::{self, Display, Write};
+use std::io;
+
+// Where a page goes, part by part, each with the end of its last line.
+trait Parts {
+    fn write_fmt<D: Display + Drop>(&mut self, part: D) -> fmt::Result;
+}
+
+impl Parts for Bytewise {
+    fn write_fmt<D: Display + Drop>(&mut self, part: D) -> fmt::Result {
+        fmt::Write::write_fmt(self, part)
+    }
+}
+
+// A handle, and what it answered last.
+#[derive(Drop)]
+struct Handed<'a, R> {
+    rt: &'a R,
+    answer: io::Result<()>,
+}
+
+impl<R: Print> Parts for Handed<'_, R> {
+    fn write_fmt<D: Display + Drop>(&mut self, part: D) -> fmt::Result {
+        self.answer = self.rt.println(Unended(part));
+        match &self.answer {
+            Ok(()) => Ok(()),
+            Err(_) => Err(fmt::Error),
+        }
+    }
+}
+
+// A part without the end of its last line, which `println` adds.
+#[derive(Drop)]
+struct Unended<D>(D);
+
+impl<D: Display> Display for Unended<D> {
+    fn fmt<W: fmt::Write>(&self, f: &mut fmt::Formatter<W>) -> fmt::Result {
+        let mut held = Held {
+            to: f,
+            ended: false,
+        };
+        write!(held, "{}", self.0)
+    }
+}
+
+// Text on its way, but for a line's end, which waits for what is behind it.
+#[derive(Drop)]
+struct Held<'a, W> {
+    to: &'a mut W,
+    ended: bool,
+}
+
+impl<W: fmt::Write> fmt::Write for Held<'_, W> {
+    fn write_str(&mut self, s: &str) -> fmt::Result {
+        if self.ended {
+            if s.is_empty() {
+                return Ok(());
+            }
+            self.to.write_str("\n")?;
+        }
+        let rest = s.strip_suffix('\n').unwrap_or(s);
+        self.ended = rest.len() < s.len();
+        if self.ended && rest.is_empty() {
+            return Ok(());
+        }
+        self.to.write_str(rest)
+    }
+}
 
 // The ending of a plural, unless there is one alone.
 fn plural(number: usize) -> &'static str {
     if number == 1 { "" } else { "s" }
 }
 
-fn print_head(out: &mut Bytewise, rate: Rate) -> fmt::Result {
+fn print_head(out: &mut impl Parts, rate: Rate) -> fmt::Result {
     let k = rate.k;
     let bits = 4 * k;
     writeln!(
@@ -30,7 +97,7 @@ fn print_head(out: &mut Bytewise, rate: Rate) -> fmt::Result {
 }
 
 // Without doubt; at the two largest rates T is 0.
-fn print_hard(out: &mut Bytewise, rate: Rate) -> fmt::Result {
+fn print_hard(out: &mut impl Parts, rate: Rate) -> fmt::Result {
     let reach = whole_reach(rate);
     if reach == 0 {
         return writeln!(
@@ -45,7 +112,7 @@ fn print_hard(out: &mut Bytewise, rate: Rate) -> fmt::Result {
     )
 }
 
-fn print_doubtful(out: &mut Bytewise, rate: Rate) -> fmt::Result {
+fn print_doubtful(out: &mut impl Parts, rate: Rate) -> fmt::Result {
     let reach = whole_reach(rate);
     let doubt = sure_doubt(rate, 0);
     let never = never_another(rate, 0);
@@ -66,7 +133,7 @@ fn print_doubtful(out: &mut Bytewise, rate: Rate) -> fmt::Result {
     )
 }
 
-fn print_faded(out: &mut Bytewise, rate: Rate) -> fmt::Result {
+fn print_faded(out: &mut impl Parts, rate: Rate) -> fmt::Result {
     let limit = rate.blank_limit();
     if limit == 0 {
         return writeln!(
@@ -83,7 +150,7 @@ fn print_faded(out: &mut Bytewise, rate: Rate) -> fmt::Result {
     )
 }
 
-fn print_together(out: &mut Bytewise) -> fmt::Result {
+fn print_together(out: &mut impl Parts) -> fmt::Result {
     writeln!(
         out,
         "- Blank, wrong and doubtful places together: so many wrong settled places are repaired, with so many\n\
@@ -95,7 +162,7 @@ fn print_together(out: &mut Bytewise) -> fmt::Result {
 }
 
 // A line for each number of blank places.
-fn print_by_blanks(out: &mut Bytewise, rate: Rate) -> fmt::Result {
+fn print_by_blanks(out: &mut impl Parts, rate: Rate) -> fmt::Result {
     for blanks in 0..=rate.blank_limit() {
         let reach = rate.reach(blanks);
         let doubt = sure_doubt(rate, blanks);
@@ -105,7 +172,7 @@ fn print_by_blanks(out: &mut Bytewise, rate: Rate) -> fmt::Result {
     Ok(())
 }
 
-fn print_refused(out: &mut Bytewise, rate: Rate) -> fmt::Result {
+fn print_refused(out: &mut impl Parts, rate: Rate) -> fmt::Result {
     let beyond = whole_reach(rate) + 1;
     let never = never_another(rate, 0);
     let limit = rate.blank_limit();
@@ -128,7 +195,7 @@ fn print_refused(out: &mut Bytewise, rate: Rate) -> fmt::Result {
 }
 
 // It is known exactly at two rates.
-fn print_distance(out: &mut Bytewise, rate: Rate) -> fmt::Result {
+fn print_distance(out: &mut impl Parts, rate: Rate) -> fmt::Result {
     let distance = rate.least_distance();
     writeln!(
         out,
@@ -145,7 +212,7 @@ fn print_distance(out: &mut Bytewise, rate: Rate) -> fmt::Result {
     }
 }
 
-fn print_no_bursts(out: &mut Bytewise) -> fmt::Result {
+fn print_no_bursts(out: &mut impl Parts) -> fmt::Result {
     writeln!(
         out,
         "- At this rate no wrong symbol is repaired without doubt, so that no burst is either.\n\
@@ -153,7 +220,7 @@ fn print_no_bursts(out: &mut Bytewise) -> fmt::Result {
     )
 }
 
-fn print_bursts(out: &mut Bytewise, rate: Rate) -> fmt::Result {
+fn print_bursts(out: &mut impl Parts, rate: Rate) -> fmt::Result {
     let reach = whole_reach(rate);
     let s = plural(reach);
     let bits = bits_within(reach);
@@ -171,7 +238,7 @@ fn print_bursts(out: &mut Bytewise, rate: Rate) -> fmt::Result {
     )
 }
 
-fn print_burst(out: &mut Bytewise, rate: Rate) -> fmt::Result {
+fn print_burst(out: &mut impl Parts, rate: Rate) -> fmt::Result {
     writeln!(out, "\n## Bursts, and bits\n")?;
     if whole_reach(rate) == 0 {
         return print_no_bursts(out);
@@ -179,7 +246,7 @@ fn print_burst(out: &mut Bytewise, rate: Rate) -> fmt::Result {
     print_bursts(out, rate)
 }
 
-fn print_mark(out: &mut Bytewise, rate: Rate) -> fmt::Result {
+fn print_mark(out: &mut impl Parts, rate: Rate) -> fmt::Result {
     let k = rate.k;
     writeln!(
         out,
@@ -194,7 +261,7 @@ fn print_mark(out: &mut Bytewise, rate: Rate) -> fmt::Result {
 }
 
 // The share of words that are taken for a codeword.
-fn print_share(out: &mut Bytewise, rate: Rate) -> fmt::Result {
+fn print_share(out: &mut impl Parts, rate: Rate) -> fmt::Result {
     let power = chance(rate);
     let reach = whole_reach(rate);
     if reach == 0 {
@@ -212,7 +279,7 @@ fn print_share(out: &mut Bytewise, rate: Rate) -> fmt::Result {
     )
 }
 
-fn print_by_chance(out: &mut Bytewise, rate: Rate) -> fmt::Result {
+fn print_by_chance(out: &mut impl Parts, rate: Rate) -> fmt::Result {
     writeln!(out, "\n## By chance\n")?;
     print_share(out, rate)?;
     writeln!(
@@ -222,7 +289,7 @@ fn print_by_chance(out: &mut Bytewise, rate: Rate) -> fmt::Result {
     )
 }
 
-fn print_assumed(out: &mut Bytewise) -> fmt::Result {
+fn print_assumed(out: &mut impl Parts) -> fmt::Result {
     writeln!(
         out,
         "\n## What is assumed\n\n\
@@ -234,7 +301,7 @@ fn print_assumed(out: &mut Bytewise) -> fmt::Result {
     )
 }
 
-fn print_repaired(out: &mut Bytewise, rate: Rate) -> fmt::Result {
+fn print_repaired(out: &mut impl Parts, rate: Rate) -> fmt::Result {
     writeln!(out, "## Always repaired\n")?;
     print_hard(out, rate)?;
     print_doubtful(out, rate)?;
@@ -243,7 +310,7 @@ fn print_repaired(out: &mut Bytewise, rate: Rate) -> fmt::Result {
     print_by_blanks(out, rate)
 }
 
-fn print_all(out: &mut Bytewise, rate: Rate) -> fmt::Result {
+fn print_all(out: &mut impl Parts, rate: Rate) -> fmt::Result {
     print_head(out, rate)?;
     print_repaired(out, rate)?;
     print_refused(out, rate)?;
@@ -254,6 +321,125 @@ fn print_all(out: &mut Bytewise, rate: Rate) -> fmt::Result {
     print_assumed(out)
 }
 
-pub fn print_page(rate: Rate) {
+// To standard output, a byte at a time; what cannot be written is passed over.
+pub fn write_page(rate: Rate) {
     let _ = print_all(&mut Bytewise, rate);
+}
+
+// By a handle, one or more lines at a time, up to the first that it refuses; the answer is why.
+pub fn print_page(rt: &impl Print, rate: Rate) -> io::Result<()> {
+    let mut out = Handed { rt, answer: Ok(()) };
+    let _ = print_all(&mut out, rate);
+    out.answer
+}
+
+#[cfg(test)]
+mod tests {
+    use super::*;
+    use std::alloc::Global;
+    use std::cell::Cell;
+    use std::io::ErrorKind;
+    use std::test::Fail;
+
+    // A number for a text that others hardly have.
+    fn sum(behind: u64, text: &str) -> u64 {
+        let mut out = behind;
+        for byte in text.bytes() {
+            out = out.wrapping_mul(31).wrapping_add(byte as u64);
+        }
+        out
+    }
+
+    // A page's parts, and their text.
+    #[derive(Drop)]
+    struct Summed {
+        alloc: Global,
+        parts: usize,
+        sum: u64,
+    }
+
+    impl Parts for Summed {
+        fn write_fmt<D: Display + Drop>(&mut self, part: D) -> fmt::Result {
+            let Ok(text) = part.to_string(self.alloc) else {
+                return Err(fmt::Error);
+            };
+            self.parts = self.parts.saturating_add(1);
+            self.sum = sum(self.sum, text.as_str());
+            Ok(())
+        }
+    }
+
+    // A handle that takes so many texts, each with a line's end behind it and of at most 1,024 bytes.
+    #[derive(Drop)]
+    struct Lines {
+        alloc: Global,
+        left: Cell<usize>,
+        sum: Cell<u64>,
+    }
+
+    impl Print for Lines {
+        fn print<D: Display + Drop>(&self, _value: D) -> io::Result<()> {
+            Err(io::Error::from(ErrorKind::Unsupported))
+        }
+
+        fn println<D: Display + Drop>(&self, value: D) -> io::Result<()> {
+            let text = value.to_string(self.alloc)?;
+            let left = self.left.get();
+            if left == 0 || 1024 < text.len() {
+                return Err(io::Error::from(ErrorKind::StorageFull));
+            }
+            self.left.set(left - 1);
+            self.sum.set(sum(sum(self.sum.get(), text.as_str()), "\n"));
+            Ok(())
+        }
+
+        fn write_all(&self, _bytes: &[u8]) -> io::Result<()> {
+            Err(io::Error::from(ErrorKind::Unsupported))
+        }
+    }
+
+    #[test]
+    fn the_last_line_end_is_left_out(rt: HostRuntime) -> Result<(), Fail> {
+        for (first, second, want) in [
+            ("", "", ""),
+            ("a", "", "a"),
+            ("a\n", "", "a"),
+            ("", "\n", ""),
+            ("\n", "\n", "\n"),
+            ("a\n\n", "", "a\n"),
+            ("a\n", "\n", "a\n"),
+            ("a\n", "b", "a\nb"),
+            ("a\n", "b\n", "a\nb"),
+        ] {
+            let text = Unended(format_args!("{first}{}{second}", "")).to_string(rt.alloc())?;
+            assert_eq!(rt; text.as_str(), want, "{first}|{second}");
+        }
+        Ok(())
+    }
+
+    #[test]
+    fn a_page_reaches_its_handle(rt: HostRuntime) {
+        for k in [6, 39, 49, 51, 52] {
+            let Some(rate) = Rate::new(k) else { continue };
+            let mut page = Summed {
+                alloc: rt.alloc(),
+                parts: 0,
+                sum: 0,
+            };
+            assert!(rt; print_all(&mut page, rate).is_ok(), "rate {k}");
+            let enough = Lines {
+                alloc: rt.alloc(),
+                left: Cell::new(page.parts),
+                sum: Cell::new(0),
+            };
+            assert!(rt; print_page(&enough, rate).is_ok(), "rate {k}");
+            assert_eq!(rt; enough.sum.get(), page.sum, "rate {k}");
+            let full = Lines {
+                alloc: rt.alloc(),
+                left: Cell::new(page.parts.saturating_sub(1)),
+                sum: Cell::new(0),
+            };
+            assert!(rt; print_page(&full, rate).is_err(), "rate {k}");
+        }
+    }
 }

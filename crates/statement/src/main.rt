@@ -43,7 +43,7 @@ fn print_answer(line: &str) {
         return;
     }
     match rate_in(line) {
-        Some(rate) => page::print_page(rate),
+        Some(rate) => page::write_page(rate),
         None => {
             let _ = writeln!(
                 Output,

@@ -9,6 +9,7 @@
 --   messages-long, messages-part   the parts, one after the other: their length, and part v is what decoding word v leaves
 --   Passed frame messages rate   what the checks ask; taken-passed: where they pass, the answer is the status and the parts
 --   Refused, passed-or-refused   they pass at the rate that the frame names, or the call is refused: status 0, and the buffer as it was
+--   refused-status         so a call that is refused has status 0, whatever is known of it
 --   word-none-near         'a word with none near leaves its part untouched and is named'
 --   word-given             another one is not named, and its part is its message
 --   word-within            so where a codeword is within T of the word
@@ -261,3 +262,12 @@ passed-or-refused frame messages = go (ℕ_discrete (head_of frame) 0)
     go : Dec (head_of frame ≡ 0) → Passed frame messages rate ⊎ Refused messages (taken_of frame messages)
     go (no n) = inr (refused (head_of frame) n (apart-head frame messages refl n))
     go (yes z) = past (headed frame z) (known_rate rate) refl (ℕ_discrete (length messages) (rate * 8)) (all_below 16 (drop 4 frame)) refl
+
+pub refused-status : (frame messages : List ℕ) {n s : ℕ} {after : List ℕ} → n ≢ accepted → taken n s after ≡ taken_of frame messages → s ≡ 0
+refused-status frame messages {n} {s} {after} other e = ⊎_elim passed refused (passed-or-refused frame messages)
+  where
+    passed : Passed frame messages (get_or frame 3 0) → s ≡ 0
+    passed P = absurd (other (ap (λ (t : Taken). t.number) (e ∙ taken-passed frame messages (get_or frame 3 0) P)))
+
+    refused : Refused messages (taken_of frame messages) → s ≡ 0
+    refused R = ap (λ (t : Taken). t.status) (e ∙ R.answers)

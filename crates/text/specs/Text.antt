@@ -5,11 +5,12 @@
 --   hex_of s              a symbol as a lower-case hexadecimal digit
 --   number_line n end     a number and the byte that ends it
 --   margin_line report    the margin, or a dash where the report's byte 8 says that there is none, and the end of the line
+--   margin_shown margin   the same of a margin that may be absent
 --   heading_of rate d report   the line `rate d total tests pinned changed margin`, with its last five from the report's bytes
 --   margin_text margin, heading-shows   so they are the numbers that the report shows, and a dash stands exactly where it shows no margin
 --   message_line m        the message from symbol 0 on, a digit each
 --   refused_line n        the line `refused N`
-use Rattle.std.specs.Prelude.{cond, ◌≡◌, List, [], ◌∷◌, ◌++◌, map, ℕ, zero, suc, ◌/◌, ◌%◌, ltb, eqb}
+use Rattle.std.specs.Prelude.{cond, ◌≡◌, List, [], ◌∷◌, ◌++◌, map, ℕ, zero, suc, ◌/◌, ◌%◌, ltb, eqb, Option as Maybe, None, Some}
 use Rattle.std.proofs.Common.{sym, ap, ◌∙◌}
 use Rattle.std.proofs.Math.Option.{Option, none, some}
 use Rattle.io.specs.Digits.{hex_digit_ascii}
@@ -41,6 +42,10 @@ number_line n end = decimal_of n ++ (end ∷ [])
 
 unfoldable pub margin_line : List ℕ → List ℕ
 margin_line report = cond (eqb (runner_in report) 1) (number_line (margin_in report) newline) (dash ∷ newline ∷ [])
+
+unfoldable pub margin_shown : Maybe ℕ → List ℕ
+margin_shown None = dash ∷ newline ∷ []
+margin_shown (Some d) = number_line d newline
 
 unfoldable pub heading_of : ℕ → ℕ → List ℕ → List ℕ
 heading_of rate d report =

@@ -1,13 +1,14 @@
 // What `show` prints, as text in a lent buffer: each function puts some behind the first `at` bytes and answers where the text then ends.
-// It knows of no session: a report is its bytes.
+// For other writers the same as values that print themselves. It knows of no session: a report is its bytes.
 #![tactic(auto)]
 
-ghost use Rattle.std.specs.Prelude.{◌≡◌, map, ◌++◌, ◌+◌, ◌*◌, ◌≤◌, ◌<◌, length};
+ghost use Rattle.std.specs.Prelude.{◌≡◌, map, ◌++◌, ◌+◌, ◌*◌, ◌≤◌, ◌<◌, length, Some};
 ghost use Rattle.book.specs.closing.Report.{total_in, tests_in};
 ghost use Rattle.book64.specs.Here.{margin_in};
-ghost use Rattle.text.specs.Text.{space, decimal_of, hex_of, number_line, margin_line, heading_of, message_line, refused_line};
+ghost use Rattle.text.specs.Text.{space, decimal_of, hex_of, number_line, margin_line, margin_shown, heading_of, message_line, refused_line};
 ghost use Rattle.text.specs.Appended.{Appended};
 
+use std::fmt;
 use totals::report::REPORT_BYTES;
 
 fn put_bytes(bytes: &[u8], out: &mut [u8], at: usize) -> usize
@@ -152,4 +153,139 @@ pub fn put_refused(number: u8, out: &mut [u8]) -> usize
 {
     let at = put_bytes(b"refused ", out, 0);
     put_number(number as u64, b'\n', out, at)
+}
+
+fn margin_of(report: [u8; REPORT_BYTES]) -> Option<u64>
+    ensures { margin_shown result ≡ margin_line report }
+{
+    if report[8] != 1 {
+        return None;
+    }
+    Some(margin_in(report))
+}
+
+// The margin, or a dash where there is none, and the end of the line.
+#[derive(Clone, Copy)]
+struct Margin(Option<u64>);
+
+impl fmt::Display for Margin {
+    ghost output = { λ m. Some (margin_shown m.0) };
+
+    fn fmt<W: fmt::Write>(&self, f: &mut fmt::Formatter<W>) -> fmt::Result {
+        match self.0 {
+            Some(margin) => writeln!(f, "{margin}"),
+            None => writeln!(f, "-"),
+        }
+    }
+}
+
+// Symbols, a digit for each.
+#[derive(Clone, Copy)]
+struct Symbols<'a>(&'a [u8]);
+
+impl fmt::Display for Symbols<'_> {
+    ghost output = { λ s. Some (map hex_of s.0.now) };
+
+    fn fmt<W: fmt::Write>(&self, f: &mut fmt::Formatter<W>) -> fmt::Result {
+        for symbol in self.0 {
+            write!(f, "{:x}", symbol % 16)?;
+        }
+        Ok(())
+    }
+}
+
+// The line `rate d total tests pinned changed margin`; the last five are read from the report.
+#[derive(Clone, Copy)]
+struct Heading {
+    rate: u8,
+    doubt: usize,
+    report: [u8; REPORT_BYTES],
+}
+
+impl fmt::Display for Heading {
+    ghost output = { λ h. Some (heading_of h.rate h.doubt h.report) };
+
+    fn fmt<W: fmt::Write>(&self, f: &mut fmt::Formatter<W>) -> fmt::Result {
+        let Heading {
+            rate,
+            doubt,
+            report,
+        } = *self;
+        let total = total_in(report);
+        let tests = tests_in(report);
+        let pinned = byte(report[6]);
+        let changed = byte(report[7]);
+        let margin = Margin(margin_of(report));
+        write!(
+            f,
+            "{rate} {doubt} {total} {tests} {pinned} {changed} {margin}"
+        )
+    }
+}
+
+// Both lines of an accepted closing: the heading, and the message.
+#[derive(Clone, Copy)]
+pub struct Answer<'a> {
+    pub rate: u8,
+    pub doubt: usize,
+    pub report: [u8; REPORT_BYTES],
+    pub message: &'a [u8],
+}
+
+impl fmt::Display for Answer<'_> {
+    ghost output = { λ a. Some (heading_of a.rate a.doubt a.report ++ message_line a.message.now) };
+
+    fn fmt<W: fmt::Write>(&self, f: &mut fmt::Formatter<W>) -> fmt::Result {
+        let heading = Heading {
+            rate: self.rate,
+            doubt: self.doubt,
+            report: self.report,
+        };
+        let message = Symbols(self.message);
+        writeln!(f, "{heading}{message}")
+    }
+}
+
+// The line of a refusal.
+#[derive(Clone, Copy)]
+pub struct Refused(pub u8);
+
+impl fmt::Display for Refused {
+    ghost output = { λ r. Some (refused_line r.0) };
+
+    fn fmt<W: fmt::Write>(&self, f: &mut fmt::Formatter<W>) -> fmt::Result {
+        let Refused(number) = *self;
+        writeln!(f, "refused {number}")
+    }
+}
+
+#[cfg(test)]
+mod tests {
+    use super::*;
+    use std::test::Fail;
+
+    #[test]
+    fn lines_print_themselves(rt: HostRuntime) -> Result<(), Fail> {
+        let with_margin = Answer {
+            rate: 39,
+            doubt: 12,
+            report: [0, 1, 0, 44, 1, 7, 2, 64, 1, 0, 0, 0, 40, 1],
+            message: &[0, 9, 10, 15],
+        };
+        assert_eq!(rt;
+            with_margin.to_string(rt.alloc())?.as_str(),
+            "39 12 65580 263 2 64 40\n09af\n"
+        );
+        let long = Answer {
+            rate: 6,
+            doubt: 0,
+            report: [0; REPORT_BYTES],
+            message: &[5; 65],
+        };
+        let lines =
+            "6 0 0 0 0 0 -\n55555555555555555555555555555555555555555555555555555555555555555\n";
+        assert_eq!(rt; long.to_string(rt.alloc())?.as_str(), lines);
+        assert_eq!(rt; Refused(12).to_string(rt.alloc())?.as_str(), "refused 12\n");
+        Ok(())
+    }
 }
