@@ -5,7 +5,7 @@
 --                          refuses, 2 if the burst does not lie within the 512 symbols, status 0 and the buffer as it was; else what taking apart answers
 --   struck-size, struck-before, struck-inside, struck-after   the frame that was struck: its length, and its bytes before the burst, in it and behind it
 --   struck-altered         so it is altered in a window of as many symbols as the burst has
---   through-refused-status   a call that is refused has status 0, whatever is known of it
+--   through-refused-status   where the number is not 0, the status is 0
 --   through-back           at every rate all eight messages come back and no word is named, where the burst has at most 8T symbols, each from 0 to 15
 --   Relied messages start burst out r after   document 02: 'A user at rate 39 may rely on this: if at most 48 consecutive symbols are altered, still each 0
 --                          to 15, all eight messages come back', with the 312 symbols of eight messages; no word is named

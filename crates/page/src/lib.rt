@@ -1,78 +1,16 @@
 // One page for a rate. A theorem is named by crate, file and name, as in docs/CLAIMS.md; tests/statement looks each of them up.
 #![tactic(auto)]
 
+mod handed;
+#[cfg(test)]
+mod tests;
+
 use candidate::rate::Rate;
+use handed::{Handed, Parts};
 use numbers::chance::chance;
 use numbers::sums::{bits_within, never_another, sure_doubt, whole_reach};
 use output::Bytewise;
-use std::fmt::{self, Display, Write};
-use std::io;
-
-// Where a page goes, part by part, each with the end of its last line.
-trait Parts {
-    fn write_fmt<D: Display + Drop>(&mut self, part: D) -> fmt::Result;
-}
-
-impl Parts for Bytewise {
-    fn write_fmt<D: Display + Drop>(&mut self, part: D) -> fmt::Result {
-        fmt::Write::write_fmt(self, part)
-    }
-}
-
-// A handle, and what it answered last.
-#[derive(Drop)]
-struct Handed<'a, R> {
-    rt: &'a R,
-    answer: io::Result<()>,
-}
-
-impl<R: Print> Parts for Handed<'_, R> {
-    fn write_fmt<D: Display + Drop>(&mut self, part: D) -> fmt::Result {
-        self.answer = self.rt.println(Unended(part));
-        match &self.answer {
-            Ok(()) => Ok(()),
-            Err(_) => Err(fmt::Error),
-        }
-    }
-}
-
-// A part without the end of its last line, which `println` adds.
-#[derive(Drop)]
-struct Unended<D>(D);
-
-impl<D: Display> Display for Unended<D> {
-    fn fmt<W: fmt::Write>(&self, f: &mut fmt::Formatter<W>) -> fmt::Result {
-        let mut held = Held {
-            to: f,
-            ended: false,
-        };
-        write!(held, "{}", self.0)
-    }
-}
-
-// Text on its way, but for a line's end, which waits for what is behind it.
-#[derive(Drop)]
-struct Held<'a, W> {
-    to: &'a mut W,
-    ended: bool,
-}
-
-impl<W: fmt::Write> fmt::Write for Held<'_, W> {
-    fn write_str(&mut self, s: &str) -> fmt::Result {
-        if self.ended {
-            if s.is_empty() {
-                return Ok(());
-            }
-            self.to.write_str("\n")?;
-        }
-        let rest = s.strip_suffix('\n').unwrap_or(s);
-        self.ended = rest.len() < s.len();
-        if self.ended && rest.is_empty() {
-            return Ok(());
-        }
-        self.to.write_str(rest)
-    }
-}
+use std::{fmt, io};
 
 // The ending of a plural, unless there is one alone.
 fn plural(number: usize) -> &'static str {
@@ -331,115 +269,4 @@ pub fn print_page(rt: &impl Print, rate: Rate) -> io::Result<()> {
     let mut out = Handed { rt, answer: Ok(()) };
     let _ = print_all(&mut out, rate);
     out.answer
-}
-
-#[cfg(test)]
-mod tests {
-    use super::*;
-    use std::alloc::Global;
-    use std::cell::Cell;
-    use std::io::ErrorKind;
-    use std::test::Fail;
-
-    // A number for a text that others hardly have.
-    fn sum(behind: u64, text: &str) -> u64 {
-        let mut out = behind;
-        for byte in text.bytes() {
-            out = out.wrapping_mul(31).wrapping_add(byte as u64);
-        }
-        out
-    }
-
-    // A page's parts, and their text.
-    #[derive(Drop)]
-    struct Summed {
-        alloc: Global,
-        parts: usize,
-        sum: u64,
-    }
-
-    impl Parts for Summed {
-        fn write_fmt<D: Display + Drop>(&mut self, part: D) -> fmt::Result {
-            let Ok(text) = part.to_string(self.alloc) else {
-                return Err(fmt::Error);
-            };
-            self.parts = self.parts.saturating_add(1);
-            self.sum = sum(self.sum, text.as_str());
-            Ok(())
-        }
-    }
-
-    // A handle that takes so many texts, each with a line's end behind it and of at most 1,024 bytes.
-    #[derive(Drop)]
-    struct Lines {
-        alloc: Global,
-        left: Cell<usize>,
-        sum: Cell<u64>,
-    }
-
-    impl Print for Lines {
-        fn print<D: Display + Drop>(&self, _value: D) -> io::Result<()> {
-            Err(io::Error::from(ErrorKind::Unsupported))
-        }
-
-        fn println<D: Display + Drop>(&self, value: D) -> io::Result<()> {
-            let text = value.to_string(self.alloc)?;
-            let left = self.left.get();
-            if left == 0 || 1024 < text.len() {
-                return Err(io::Error::from(ErrorKind::StorageFull));
-            }
-            self.left.set(left - 1);
-            self.sum.set(sum(sum(self.sum.get(), text.as_str()), "\n"));
-            Ok(())
-        }
-
-        fn write_all(&self, _bytes: &[u8]) -> io::Result<()> {
-            Err(io::Error::from(ErrorKind::Unsupported))
-        }
-    }
-
-    #[test]
-    fn the_last_line_end_is_left_out(rt: HostRuntime) -> Result<(), Fail> {
-        for (first, second, want) in [
-            ("", "", ""),
-            ("a", "", "a"),
-            ("a\n", "", "a"),
-            ("", "\n", ""),
-            ("\n", "\n", "\n"),
-            ("a\n\n", "", "a\n"),
-            ("a\n", "\n", "a\n"),
-            ("a\n", "b", "a\nb"),
-            ("a\n", "b\n", "a\nb"),
-        ] {
-            let text = Unended(format_args!("{first}{}{second}", "")).to_string(rt.alloc())?;
-            assert_eq!(rt; text.as_str(), want, "{first}|{second}");
-        }
-        Ok(())
-    }
-
-    #[test]
-    fn a_page_reaches_its_handle(rt: HostRuntime) {
-        for k in [6, 39, 49, 51, 52] {
-            let Some(rate) = Rate::new(k) else { continue };
-            let mut page = Summed {
-                alloc: rt.alloc(),
-                parts: 0,
-                sum: 0,
-            };
-            assert!(rt; print_all(&mut page, rate).is_ok(), "rate {k}");
-            let enough = Lines {
-                alloc: rt.alloc(),
-                left: Cell::new(page.parts),
-                sum: Cell::new(0),
-            };
-            assert!(rt; print_page(&enough, rate).is_ok(), "rate {k}");
-            assert_eq!(rt; enough.sum.get(), page.sum, "rate {k}");
-            let full = Lines {
-                alloc: rt.alloc(),
-                left: Cell::new(page.parts.saturating_sub(1)),
-                sum: Cell::new(0),
-            };
-            assert!(rt; print_page(&full, rate).is_err(), "rate {k}");
-        }
-    }
 }

@@ -9,7 +9,7 @@
 --   messages-long, messages-part   the parts, one after the other: their length, and part v is what decoding word v leaves
 --   Passed frame messages rate   what the checks ask; taken-passed: where they pass, the answer is the status and the parts
 --   Refused, passed-or-refused   they pass at the rate that the frame names, or the call is refused: status 0, and the buffer as it was
---   refused-status         so a call that is refused has status 0, whatever is known of it
+--   refused-status         so where the number is not 0, the status is 0
 --   word-none-near         'a word with none near leaves its part untouched and is named'
 --   word-given             another one is not named, and its part is its message
 --   word-within            so where a codeword is within T of the word

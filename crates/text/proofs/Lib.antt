@@ -1,3 +1,4 @@
 pub mod Decimal
 pub mod Put
+mod Marked
 mod Printed
